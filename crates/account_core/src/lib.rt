@@ -1,13 +1,18 @@
-// A library with one function.
+//! The account of one thread: its history of entries, the rows that they make, and what it answers.
+//!
+//! Contracts see an account as its facts and the list of its entries. Everything else that it keeps
+//! is the replay of that list.
 #![tactic(auto)]
 
-ghost use Rattle.std.specs.Prelude.{◌≡◌};
-ghost use Rattle.account_core.specs.Echo.{echo_of};
+mod account;
+mod decide;
+mod entries;
+mod facts;
+mod ids;
+mod rows;
 
-// The `ensures` clause is the contract: what `echo` returns is `echo_of` of its argument, a definition
-// in `specs/Echo.antt`, which a caller's clause can cite too.
-pub fn echo(x: usize) -> usize
-    ensures { result ≡ echo_of x }
-{
-    x
-}
+pub use account::Account;
+pub use decide::Decision;
+pub use entries::{Entry, What};
+pub use facts::RealmFacts;
+pub use rows::KeyRow;

@@ -1,13 +1,18 @@
-// A library with one function.
+//! AES-256, the block cipher of FIPS 197 with a key of 32 bytes, on one block of 16 bytes.
+//! Section numbers are those of the standard's edition of 2023.
+//!
+//! No call takes memory and none is refused. The time that a call takes, which may depend on the
+//! key and on the block, is no part of any claim.
 #![tactic(auto)]
 
-ghost use Rattle.std.specs.Prelude.{◌≡◌};
-ghost use Rattle.aes_block.specs.Echo.{echo_of};
+mod field;
+mod key;
+mod laws;
+mod sbox;
+mod schedule;
+mod state;
+#[cfg(test)]
+mod tests;
 
-// The `ensures` clause is the contract: what `echo` returns is `echo_of` of its argument, a definition
-// in `specs/Echo.antt`, which a caller's clause can cite too.
-pub fn echo(x: usize) -> usize
-    ensures { result ≡ echo_of x }
-{
-    x
-}
+pub use key::AesKey;
+pub use laws::inverse_is_pinned;

@@ -1,13 +1,31 @@
-// A library with one function.
+//! What the server reads, writes and asks the time of: traits of the outside, the forms of them in
+//! memory that tests use, and the real ones.
 #![tactic(auto)]
 
-ghost use Rattle.std.specs.Prelude.{◌≡◌};
-ghost use Rattle.kms_io.specs.Echo.{echo_of};
+mod clock;
+mod door;
+mod ear;
+mod files;
+mod gate;
+mod link;
+mod memory_clock;
+mod memory_door;
+mod memory_ear;
+mod memory_files;
+mod memory_link;
+mod standard;
+mod system;
 
-// The `ensures` clause is the contract: what `echo` returns is `echo_of` of its argument, a definition
-// in `specs/Echo.antt`, which a caller's clause can cite too.
-pub fn echo(x: usize) -> usize
-    ensures { result ≡ echo_of x }
-{
-    x
-}
+pub use clock::Clock;
+pub use door::{Door, Opened};
+pub use ear::{Ear, Next};
+pub use files::{FileAnswer, Files};
+pub use gate::{Gate, NoGate, Point};
+pub use link::{Link, Put, Took};
+pub use memory_clock::{MemoryClock, StepClock};
+pub use memory_door::MemoryDoor;
+pub use memory_ear::MemoryEar;
+pub use memory_files::MemoryFiles;
+pub use memory_link::MemoryLink;
+pub use standard::StdLink;
+pub use system::SystemClock;

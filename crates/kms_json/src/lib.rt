@@ -1,13 +1,18 @@
-// A library with one function.
+//! What requests ask and what replies say: the AWS KMS API's JSON 1.1 bodies, read and written.
+//!
+//! A body is stated as a JSON value (`serde_json`'s), and never as bytes put together by hand.
 #![tactic(auto)]
 
-ghost use Rattle.std.specs.Prelude.{◌≡◌};
-ghost use Rattle.kms_json.specs.Echo.{echo_of};
+mod asks;
+mod bodies;
+mod fields;
+mod metadata;
+mod objects;
+mod operations;
+mod replies;
+mod writing;
 
-// The `ensures` clause is the contract: what `echo` returns is `echo_of` of its argument, a definition
-// in `specs/Echo.antt`, which a caller's clause can cite too.
-pub fn echo(x: usize) -> usize
-    ensures { result ≡ echo_of x }
-{
-    x
-}
+pub use asks::{Ask, AskBody, JsonFault};
+pub use bodies::read_ask;
+pub use replies::{KeyMetadata, Limit, Missing, Refusal, Reply};
+pub use writing::write_reply;

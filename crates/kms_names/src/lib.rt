@@ -1,13 +1,17 @@
-// A library with one function.
+//! The names of a key management service: accounts, principals, keys, grants and aliases.
 #![tactic(auto)]
 
-ghost use Rattle.std.specs.Prelude.{◌≡◌};
-ghost use Rattle.kms_names.specs.Echo.{echo_of};
+mod accounts;
+mod faults;
+mod keys;
+mod parts;
+mod principals;
+mod regions;
+mod texts;
 
-// The `ensures` clause is the contract: what `echo` returns is `echo_of` of its argument, a definition
-// in `specs/Echo.antt`, which a caller's clause can cite too.
-pub fn echo(x: usize) -> usize
-    ensures { result ≡ echo_of x }
-{
-    x
-}
+pub use accounts::AccountNumber;
+pub use faults::{NameFault, NoMemory};
+pub use keys::{KeyId, key_text, key_text_into, read_key_id};
+pub use principals::{Principal, read_principal};
+pub use regions::is_region;
+pub use texts::{Bytes, Text, TextList};

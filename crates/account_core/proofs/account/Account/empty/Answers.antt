@@ -1,0 +1,11 @@
+use Rattle.std.proofs.Common.{ap, ◌∙◌, sym}
+use Rattle.account_core.specs.History.{replay, latest_of}
+use Rattle.account_core.proofs.Histories.{lawful_nothing}
+use Rattle.account_core.proofs.account.Account.empty.Goals as goal
+
+pub invariant_of-result : goal.invariant_of-result
+invariant_of-result c = record {
+  keys = c.new-2.ensures.items ∙ ap (λ entries. (replay entries).keys) (sym c.new.ensures.items);
+  latest = ap latest_of (sym c.new.ensures.items);
+  lawful = lawful_nothing c.args.facts c.new.result.items c.new.ensures.items;
+}

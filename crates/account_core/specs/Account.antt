@@ -1,0 +1,9 @@
+-- An account as contracts see it.
+use Rattle.std.specs.Prelude.{List}
+use Rattle.account_core.specs.declared.facts.RealmFacts.{RealmFacts}
+use Rattle.account_core.specs.declared.entries.Entry.{Entry}
+
+-- what is constant, and the entries in order
+pub record Account : Type 0 where
+  pub facts : RealmFacts
+  pub entries : List Entry

@@ -1,0 +1,170 @@
+// The account.
+ghost use Rattle.std.specs.Prelude.{◌≡◌, ◌++◌, ◌∷◌, [], length, true, false, IfOk};
+ghost use Rattle.account_core.specs.History.{keys_after};
+
+use crate::decide::{describe, lacking_entries, make_key, no_more_keys};
+use crate::rows::named_row;
+use crate::{Decision, Entry, KeyRow, RealmFacts, What};
+use kms_json::{Ask, AskBody, Reply};
+use kms_names::NoMemory;
+use std::alloc::Global;
+use std::marker::Model;
+
+/// The account of one thread. Contracts see its facts and the list of its entries; the rows that it
+/// keeps beside them are the list's replay.
+#[derive(Drop)]
+pub struct Account {
+    facts: RealmFacts,
+    entries: Vec<Entry>,
+    keys: Vec<KeyRow>,
+    latest: u64,
+}
+
+impl Model for Account {
+    ghost use Rattle.std.specs.Prelude.{◌≡◌};
+    ghost use Rattle.account_core.specs.Account as account;
+    ghost use Rattle.account_core.specs.History.{replay, latest_of};
+    ghost use Rattle.account_core.specs.Decide.{IsLawful};
+
+    ghost Value = { account.Account };
+
+    ghost view = { λ a. record { facts = a.facts; entries = a.entries.items } };
+
+    ghost invariant = { λ a. record {
+      keys : a.keys.items ≡ (replay a.entries.items).keys;
+      latest : a.latest ≡ latest_of a.entries.items;
+      lawful : IsLawful a.facts a.entries.items;
+    } };
+}
+
+// The entries with one more.
+fn with_entry(alloc: Global, entries: &[Entry], entry: &Entry) -> Result<Vec<Entry>, NoMemory>
+    ensures { IfOk result (λ all. all.items ≡ entries.now ++ entry.now ∷ []) }
+{
+    let mut all = Vec::new(alloc);
+    for i in 0..entries.len() {
+        all.push(entries[i].copy()?)?;
+    }
+    all.push(entry.copy()?)?;
+    Ok(all)
+}
+
+// The rows of keys after an entry at this place.
+fn keys_with(
+    alloc: Global,
+    keys: &[KeyRow],
+    place: u64,
+    entry: &Entry,
+) -> Result<Vec<KeyRow>, NoMemory>
+    ensures { IfOk result (λ all. all.items ≡ keys_after place entry.now.time entry.now.what keys.now) }
+{
+    let mut all = Vec::from_slice(alloc, keys)?;
+    match entry.what {
+        What::CreateKey { key } => all.push(KeyRow {
+            key,
+            born: place,
+            made: entry.time,
+        })?,
+    }
+    Ok(all)
+}
+
+impl Account {
+    ghost use Rattle.std.specs.Prelude.{◌≡◌, ◌++◌, ◌∷◌, [], length, true, false, IfOk};
+    ghost use Rattle.kms_json.specs.Asks.{changes_account};
+    ghost use Rattle.account_core.specs.History.{latest_of, housekeeping_of};
+    ghost use Rattle.account_core.specs.Decide.{decide, decision_of, no_places, IsNext, IsLawful};
+
+    /// The account of these facts with no entries.
+    pub fn empty(alloc: Global, facts: RealmFacts) -> Result<Account, NoMemory>
+        ensures { IfOk result (λ a. a ≡ record { facts = facts; entries = [] }) }
+    {
+        Ok(Account {
+            facts,
+            entries: Vec::new(alloc),
+            keys: Vec::new(alloc),
+            latest: 0,
+        })
+    }
+
+    /// What is constant for the run.
+    pub fn facts(&self) -> &RealmFacts
+        ensures { result.now ≡ self.now.facts }
+    {
+        &self.facts
+    }
+
+    /// The number of entries. Each of them is one that a proper request appended to those before it.
+    pub fn entries(&self) -> u64
+        ensures number { result ≡ length self.now.entries }
+        ensures lawful { IsLawful self.now.facts self.now.entries }
+    {
+        self.entries.len() as u64
+    }
+
+    /// The time of the last entry, in seconds since 1970, and 0 where there is none.
+    pub fn latest(&self) -> u64
+        ensures { result ≡ latest_of self.now.entries }
+    {
+        self.latest
+    }
+
+    /// The answer to a request that doesn't change the account.
+    pub fn decide_read(&self, alloc: Global, ask: &Ask) -> Result<Reply, NoMemory>
+        requires { changes_account ask.now.body ≡ false }
+        ensures { IfOk result (λ reply. reply ≡ (decide self.now.facts self.now.entries ask.now no_places).reply) }
+    {
+        if let Some(refusal) = lacking_entries(self.entries.len() as u64, ask.after) {
+            return Ok(Reply::Refused(refusal));
+        }
+        match &ask.body {
+            AskBody::CreateKey => unreachable!(),
+            AskBody::DescribeKey { key_id } => {
+                let row = named_row(&self.keys, key_id.as_str());
+                describe(alloc, &self.facts, row)
+            }
+        }
+    }
+
+    /// The answer to a request that changes the account, with the entry that it appends, if any.
+    pub fn decide_change(&self, alloc: Global, ask: &Ask) -> Result<Decision, NoMemory>
+        requires { changes_account ask.now.body ≡ true }
+        ensures { IfOk result (λ decision. decision ≡ decision_of self.now.facts self.now.entries ask.now) }
+    {
+        let place = self.entries.len() as u64;
+        if let Some(refusal) = lacking_entries(place, ask.after) {
+            return Ok(Decision::Refused(Reply::Refused(refusal)));
+        }
+        match &ask.body {
+            AskBody::CreateKey => {
+                if let Some(refusal) = no_more_keys(self.keys.len()) {
+                    return Ok(Decision::Refused(Reply::Refused(refusal)));
+                }
+                make_key(alloc, &self.facts, place, ask.moment.max(self.latest))
+            }
+            AskBody::DescribeKey { .. } => unreachable!(),
+        }
+    }
+
+    /// The account with one more entry, which a request appends. This one stays as it is.
+    pub fn apply(&self, alloc: Global, entry: &Entry) -> Result<Account, NoMemory>
+        requires { IsNext self.now.facts self.now.entries entry.now }
+        ensures { IfOk result (λ a. a ≡ record { facts = self.now.facts; entries = self.now.entries ++ entry.now ∷ [] }) }
+    {
+        let place = self.entries.len() as u64;
+        Ok(Account {
+            facts: self.facts.copy()?,
+            entries: with_entry(alloc, &self.entries, entry)?,
+            keys: keys_with(alloc, &self.keys, place, entry)?,
+            latest: entry.time,
+        })
+    }
+
+    /// The entry that housekeeping appends at the clock's answer, if any. It takes no memory.
+    pub fn housekeeping(&self, moment: u64) -> Option<Entry>
+        ensures { result ≡ housekeeping_of self.now.entries moment }
+    {
+        let _ = moment;
+        None
+    }
+}

@@ -1,0 +1,31 @@
+// What is constant for a run.
+use kms_names::{AccountNumber, NoMemory, Text};
+
+/// What is constant for a run of the service.
+#[derive(Debug, Drop)]
+pub struct RealmFacts {
+    /// The account of the service.
+    pub account: AccountNumber,
+    /// The region of the service.
+    pub region: Text,
+    /// The root secret, from which ids and key material are derived.
+    pub root: [u8; 32],
+    /// The boot number, of which each is used once with a root secret.
+    pub boot: u32,
+}
+
+impl RealmFacts {
+    ghost use Rattle.std.specs.Prelude.{◌≡◌, IfOk};
+
+    /// A copy that equals its source.
+    pub fn copy(&self) -> Result<RealmFacts, NoMemory>
+        ensures { IfOk result (λ facts. facts ≡ self.now) }
+    {
+        Ok(RealmFacts {
+            account: self.account,
+            region: self.region.copy()?,
+            root: self.root,
+            boot: self.boot,
+        })
+    }
+}

@@ -1,0 +1,41 @@
+// Ids of what the history makes.
+ghost use Rattle.std.specs.Prelude.{◌≡◌, ◌+◌, ◌≤◌, ◌++◌, length, take};
+ghost use Rattle.account_core.specs.Ids.{be48, key_id_at};
+
+use crate::RealmFacts;
+use kms_names::KeyId;
+use mac_sha::Mac;
+
+// The six low bytes of a place, the greatest first.
+fn place_bytes(place: u64) -> [u8; 6]
+    ensures { result ≡ be48 place }
+{
+    let all = place.to_be_bytes();
+    let mut low = [0; 6];
+    low.copy_from_slice(&all[2..]);
+    low
+}
+
+// Writes a part behind the first bytes of a text.
+fn write_at(text: &mut [u8], at: usize, part: &[u8])
+    requires { at + length part.now ≤ length text.old }
+    ensures { take (at + length part.now) text.new ≡ take at text.old ++ part.now }
+{
+    text[at..at + part.len()].copy_from_slice(part);
+}
+
+/// The id of the key that the entry at this place makes. It takes no memory.
+pub fn key_id(facts: &RealmFacts, place: u64) -> KeyId
+    ensures { result ≡ key_id_at facts.now place }
+{
+    let place = place_bytes(place);
+    let mut mac = Mac::new(&facts.root);
+    mac.add(b"key");
+    mac.add(&facts.boot.to_be_bytes());
+    mac.add(&place);
+    let digest = mac.end();
+    let mut id = [0; 16];
+    write_at(&mut id, 0, &digest[..10]);
+    write_at(&mut id, 10, &place);
+    KeyId::new(id)
+}

@@ -1,0 +1,47 @@
+// Rows that the entries make.
+ghost use Rattle.std.specs.Prelude.{◌≡◌, find};
+ghost use Rattle.std.specs.Option.{option_map};
+ghost use Rattle.std.specs.Str.{bytes_eq};
+ghost use Rattle.account_core.specs.History.{key_named};
+
+use kms_names::{KeyId, read_key_id};
+
+/// A key of the account.
+#[derive(Clone, Copy, Debug, PartialEq, Eq)]
+pub struct KeyRow {
+    /// The key's id.
+    pub key: KeyId,
+    /// The place of the entry that made it, counted from 0.
+    pub born: u64,
+    /// When it was made, in seconds since 1970.
+    pub made: u64,
+}
+
+fn same_key(key: &KeyId, other: &KeyId) -> bool
+    ensures { result ≡ bytes_eq key.now other.now }
+{
+    key.as_bytes().as_slice() == other.as_bytes().as_slice()
+}
+
+// The first row of a key.
+fn row_of<'a>(rows: &'a [KeyRow], key: &KeyId) -> Option<&'a KeyRow>
+    ensures { option_map (λ row. row.now) result ≡ find (λ row. bytes_eq row.key key.now) rows.now }
+{
+    for row in rows {
+        if same_key(&row.key, key) {
+            return Some(row);
+        }
+    }
+    None
+}
+
+/// The row of the key that a reference names: the first of this hyphenated id. It takes no memory,
+/// and its time grows with the number of keys.
+pub fn named_row<'a>(rows: &'a [KeyRow], reference: &str) -> Option<&'a KeyRow>
+    ensures { option_map (λ row. row.now) result ≡ key_named rows.now reference.now }
+{
+    match read_key_id(reference) {
+        Some(key) => row_of(rows, &key),
+        None => None,
+    }
+}

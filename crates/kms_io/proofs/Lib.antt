@@ -1,0 +1,4 @@
+mod Pieces
+mod Clocks
+mod NewLinks
+mod NewEars

@@ -1,0 +1,24 @@
+// Points of a change at which a test may hold it up.
+
+/// A point that a change passes.
+#[derive(Clone, Copy, Debug, PartialEq, Eq)]
+pub enum Point {
+    /// The desk's lock is held, and nothing of the change is published yet.
+    AtDesk,
+    /// The reply was written.
+    AfterReply,
+}
+
+/// What is called at each point. It answers nothing and changes nothing that a contract speaks of.
+pub trait Gate {
+    /// Called at the point.
+    fn at(&self, point: Point);
+}
+
+/// A gate that is always open.
+#[derive(Clone, Copy, Drop)]
+pub struct NoGate;
+
+impl Gate for NoGate {
+    fn at(&self, _point: Point) {}
+}

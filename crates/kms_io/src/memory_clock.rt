@@ -1,0 +1,97 @@
+// Clocks that answer from memory.
+ghost use Rattle.std.specs.Prelude.{IsTrue, ◌≡◌, ◌+◌, ◌<◌, ◌^◌, Some, None, nat_lt, if◌then◌else◌};
+ghost use Rattle.kms_io.specs.Wire.{TellsMore};
+ghost use Rattle.kms_io.specs.Clock.{listed, stepped, first_of, are_times};
+
+use crate::Clock;
+
+// The last second before the year 10000.
+const LAST: u64 = 253_402_300_799;
+
+/// A clock that gives the answers of a list, and then the last one again and again. With an empty
+/// list it answers 0. It tells its answers for 2^64 - 2 calls.
+#[derive(Drop)]
+pub struct MemoryClock {
+    answers: Vec<u64>,
+    calls: u64,
+    ghost times: { IsTrue (are_times answers.items) },
+}
+
+impl MemoryClock {
+    ghost use Rattle.std.specs.Prelude.{IsTrue, ◌≡◌, [], Some};
+    ghost use Rattle.kms_io.specs.Clock.{are_times};
+    ghost use Rattle.kms_io.specs.MemoryClock.{answers_so_far};
+
+    /// The clock of these answers, each before the year 10000. It takes no memory.
+    pub fn new(answers: Vec<u64>) -> MemoryClock
+        requires { IsTrue (are_times answers.items) }
+        ensures { answers_so_far result ≡ Some [] }
+    {
+        MemoryClock { answers, calls: 0 }
+    }
+}
+
+impl Clock for MemoryClock {
+    ghost use Rattle.kms_io.specs.MemoryClock.{answers_so_far};
+
+    ghost told = { answers_so_far };
+
+    fn now(&mut self) -> u64 {
+        let call = self.calls;
+        self.calls = call.saturating_add(1);
+        answer_at(&self.answers, call)
+    }
+}
+
+// The answer to this call.
+fn answer_at(answers: &[u64], call: u64) -> u64
+    requires { IsTrue (are_times answers.now) }
+    ensures bound { result < 253402300800 }
+    ensures value { result ≡ listed answers.now call }
+{
+    let Some(last) = answers.len().checked_sub(1) else {
+        return 0;
+    };
+    answers[last.min(call as usize)]
+}
+
+/// A clock that adds one second a call, from a first answer on, and stays at the last second of
+/// the year 9999. It tells its answers for 2^64 - 2 calls.
+#[derive(Drop)]
+pub struct StepClock {
+    first: u64,
+    calls: u64,
+    ghost time: { first < 253402300800 },
+}
+
+impl StepClock {
+    ghost use Rattle.std.specs.Prelude.{◌≡◌, ◌<◌, [], Some};
+    ghost use Rattle.kms_io.specs.StepClock.{steps_so_far};
+
+    /// The clock that answers `first` at its first call.
+    pub fn new(first: u64) -> StepClock
+        requires { first < 253402300800 }
+        ensures { steps_so_far result ≡ Some [] }
+    {
+        StepClock { first, calls: 0 }
+    }
+}
+
+impl Clock for StepClock {
+    ghost use Rattle.kms_io.specs.StepClock.{steps_so_far};
+
+    ghost told = { steps_so_far };
+
+    fn now(&mut self) -> u64 {
+        let call = self.calls;
+        self.calls = call.saturating_add(1);
+        step_at(self.first, call)
+    }
+}
+
+fn step_at(first: u64, call: u64) -> u64
+    ensures bound { result < 253402300800 }
+    ensures value { result ≡ stepped first call }
+{
+    first.saturating_add(call).min(LAST)
+}

@@ -1,0 +1,114 @@
+// A link over bytes in memory, which can be made to fail and to give pieces of any size.
+ghost use Rattle.std.specs.Prelude.{◌≡◌, ◌+◌, ◌<◌, ◌≤◌, [], Some, length, take, drop};
+ghost use Rattle.kms_io.specs.Wire.{Wire};
+
+use crate::{Link, Put, Took};
+use std::alloc::Global;
+
+#[derive(Drop)]
+pub struct MemoryLink {
+    input: Vec<u8>,
+    at: usize,
+    pieces: Vec<usize>,
+    failing_reads: Vec<u64>,
+    failing_writes: Vec<u64>,
+    reads: u64,
+    writes: u64,
+    output: Vec<u8>,
+    read_faults: u64,
+    write_faults: u64,
+    ghost in_range: { at ≤ length input.items },
+}
+
+impl MemoryLink {
+    ghost use Rattle.kms_io.specs.MemoryLink.{wire_of};
+
+    pub fn new(
+        alloc: Global,
+        input: Vec<u8>,
+        pieces: Vec<usize>,
+        failing_reads: Vec<u64>,
+        failing_writes: Vec<u64>,
+    ) -> MemoryLink
+        ensures { wire_of result ≡ record {
+          taken = Some [];
+          written = Some [];
+          left = Some input.items;
+          read_faults = 0;
+          write_faults = 0;
+        } }
+    {
+        MemoryLink {
+            input,
+            at: 0,
+            pieces,
+            failing_reads,
+            failing_writes,
+            reads: 0,
+            writes: 0,
+            output: Vec::new(alloc),
+            read_faults: 0,
+            write_faults: 0,
+        }
+    }
+
+    pub fn written(&self) -> &[u8]
+        ensures { (wire_of self.now).written ≡ Some result.now }
+    {
+        &self.output
+    }
+}
+
+impl Link for MemoryLink {
+    ghost use Rattle.kms_io.specs.MemoryLink.{wire_of};
+
+    ghost shows = { wire_of };
+
+    fn read_some(&mut self, room: &mut [u8]) -> Took {
+        let call = self.reads;
+        self.reads = call.saturating_add(1);
+        if self.failing_reads.contains(&call) {
+            self.read_faults = self.read_faults.saturating_add(1);
+            return Took::Failed;
+        }
+        let rest = self.input.len() - self.at;
+        if rest == 0 {
+            return Took::End;
+        }
+        let count = piece_at(&self.pieces, call, room.len().min(rest));
+        give(&self.input, self.at, room, count);
+        self.at += count;
+        Took::Got(count)
+    }
+
+    fn write_some(&mut self, piece: &[u8]) -> Put {
+        let call = self.writes;
+        self.writes = call.saturating_add(1);
+        if self.failing_writes.contains(&call) || self.output.extend_from_slice(piece).is_err() {
+            self.write_faults = self.write_faults.saturating_add(1);
+            return Put::Failed;
+        }
+        Put::Wrote(piece.len())
+    }
+}
+
+// Puts the next bytes of the input at the front of the room.
+fn give(input: &[u8], at: usize, room: &mut [u8], count: usize)
+    requires input { at + count ≤ length input.now }
+    requires room { count ≤ length room.old }
+    ensures { take count room.new ≡ take count (drop at input.now) }
+{
+    room[..count].copy_from_slice(&input[at..at + count]);
+}
+
+// How many bytes this read gives. No piece, or one of 0 bytes, stands for all that fits.
+fn piece_at(pieces: &[usize], call: u64, most: usize) -> usize
+    requires { 0 < most }
+    ensures some { 0 < result }
+    ensures fits { result ≤ most }
+{
+    match pieces.get(call as usize) {
+        None | Some(0) => most,
+        Some(piece) => most.min(*piece),
+    }
+}

@@ -1,0 +1,98 @@
+// A key's description.
+ghost use Rattle.std.specs.Prelude.{◌≡◌, ◌++◌, codes, IfOk, string_bytes};
+ghost use Rattle.serde_json.specs.View.{view};
+ghost use Rattle.kms_json.specs.Replies.{described_as, metadata};
+
+use crate::objects::{Item, Member, object_of};
+use crate::replies::KeyMetadata;
+use kms_names::{NoMemory, key_text};
+use serde_json::Value;
+use std::alloc::Global;
+
+// The ARN of a key whose id has this text.
+fn arn_text(alloc: Global, region: &str, account: &str, id: &str) -> Result<String, NoMemory>
+    ensures { IfOk result (λ arn. string_bytes arn ≡ codes "arn:aws:kms:" ++ (region.now ++ (codes ":" ++ (account.now ++ (codes ":key/" ++ id.now))))) }
+{
+    Ok(format!(in alloc; "arn:aws:kms:{region}:{account}:key/{id}")?)
+}
+
+// The members of a key's description.
+fn described<'a>(
+    alloc: Global,
+    account: &'a str,
+    arn: &'a str,
+    created: u64,
+    id: &'a str,
+) -> Result<Value, NoMemory>
+    ensures { IfOk result (λ v. view v ≡ described_as account.now arn.now created id.now) }
+{
+    let members = [
+        Member {
+            name: "AWSAccountId",
+            item: Item::Text(account),
+        },
+        Member {
+            name: "Arn",
+            item: Item::Text(arn),
+        },
+        Member {
+            name: "CreationDate",
+            item: Item::Number(created),
+        },
+        Member {
+            name: "CustomerMasterKeySpec",
+            item: Item::Text("SYMMETRIC_DEFAULT"),
+        },
+        Member {
+            name: "Description",
+            item: Item::Text(""),
+        },
+        Member {
+            name: "Enabled",
+            item: Item::Flag(true),
+        },
+        Member {
+            name: "EncryptionAlgorithms",
+            item: Item::OneText("SYMMETRIC_DEFAULT"),
+        },
+        Member {
+            name: "KeyId",
+            item: Item::Text(id),
+        },
+        Member {
+            name: "KeyManager",
+            item: Item::Text("CUSTOMER"),
+        },
+        Member {
+            name: "KeySpec",
+            item: Item::Text("SYMMETRIC_DEFAULT"),
+        },
+        Member {
+            name: "KeyState",
+            item: Item::Text("Enabled"),
+        },
+        Member {
+            name: "KeyUsage",
+            item: Item::Text("ENCRYPT_DECRYPT"),
+        },
+        Member {
+            name: "MultiRegion",
+            item: Item::Flag(false),
+        },
+        Member {
+            name: "Origin",
+            item: Item::Text("AWS_KMS"),
+        },
+    ];
+    object_of(alloc, &members)
+}
+
+/// The JSON value of a key's description.
+pub fn metadata_value(alloc: Global, key: &KeyMetadata) -> Result<Value, NoMemory>
+    ensures { IfOk result (λ v. view v ≡ metadata key.now) }
+{
+    let id = key_text(alloc, &key.key)?;
+    let account = key.account.as_str();
+    let arn = arn_text(alloc, key.region.as_str(), account, id.as_str())?;
+    described(alloc, account, arn.as_str(), key.created, id.as_str())
+}

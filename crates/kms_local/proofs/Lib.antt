@@ -1,0 +1,9 @@
+mod PartLemmas
+mod ScanLemmas
+mod Requests
+mod Wires
+mod Messages
+mod Runs
+mod ReplyLemmas
+mod PassLemmas
+mod OneCut

@@ -1,0 +1,8 @@
+use Rattle.kms_local.proofs.ReplyLemmas.{gives_changed, gives_read}
+use Rattle.kms_local.proofs.session.answer_ask.Goals as goal
+
+pub returns-then-changes-clause-answer : goal.returns-then-changes-clause-answer
+returns-then-changes-clause-answer g c = gives_changed c.args.pass.now c.change.new.self c.args.ask.now c.in_ok-answered.answered c.if-changes.ensures c.in_ok-answered.ensures.answer
+
+pub returns-in-Ok-clause-answer : goal.returns-in-Ok-clause-answer
+returns-in-Ok-clause-answer g c = gives_read c.args.pass.now c.read.new.self c.args.ask.now c.in-Ok.answered c.if-changes.ensures c.in-Ok.ensures.answer

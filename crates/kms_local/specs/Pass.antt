@@ -1,0 +1,59 @@
+-- What a pass holds, and how a request changes it.
+use Rattle.std.specs.Prelude.{◌≡◌, ℕ, zero, suc, List, [], ◌∷◌, ◌++◌, length, map, Option, Some, None, Bool, true, false}
+use Rattle.kms_json.specs.declared.asks.Ask.{Ask}
+use Rattle.kms_json.specs.declared.replies.Reply.{Reply}
+use Rattle.account_core.specs.declared.facts.RealmFacts.{RealmFacts}
+use Rattle.account_core.specs.declared.entries.Entry.{Entry}
+use Rattle.account_core.specs.History.{housekeeping_of}
+use Rattle.account_core.specs.Decide.{Places, no_places, decide}
+
+-- its number, the history that it has seen with the number of the pass that made each entry, the places of its own
+-- entries, and what it has used of its random stream and its initialization vectors
+pub record Pass : Type 0 where
+  pub facts : RealmFacts
+  pub number : ℕ
+  pub history : List (Entry × ℕ)
+  pub own : List ℕ
+  pub places : Places
+
+abbrev pub entries_of : List (Entry × ℕ) → List Entry
+entries_of history = map (λ made. made.0) history
+
+-- the entries of a list, made by the pass of this number
+abbrev pub made_by : ℕ → List Entry → List (Entry × ℕ)
+made_by number entries = map (λ entry. (entry, number)) entries
+
+-- the first n places
+abbrev pub first_places : ℕ → List ℕ
+first_places zero = []
+first_places (suc n) = first_places n ++ n ∷ []
+
+-- the pass has made one more entry
+abbrev pub making : Pass → Entry → Pass
+making s entry = record { facts = s.facts; number = s.number; history = s.history ++ (entry, s.number) ∷ []; own = s.own ++ length s.history ∷ []; places = s.places }
+
+abbrev pub making_any : Pass → Option Entry → Pass
+making_any s None = s
+making_any s (Some entry) = making s entry
+
+-- what a pass comes to hold of the changes of others: nothing, as long as a service has one pass
+abbrev pub Meets : Pass → Pass → Type 0
+Meets s u = u ≡ s
+
+-- a request that doesn't change the account is answered at what the pass then holds
+pub record Reads (s : Pass) (x : Ask) (reply : Reply) (t : Pass) : Type 0 where
+  pub seen : Meets s t
+  pub answer : reply ≡ (decide t.facts (entries_of t.history) x s.places).reply
+
+-- housekeeping comes first, then the decision, whose entry is the last of the history
+pub record Changes (s : Pass) (x : Ask) (reply : Reply) (t : Pass) : Type 0 where
+  pub met : Pass
+  pub seen : Meets s met
+  pub kept : Pass
+  pub house : kept ≡ making_any met (housekeeping_of (entries_of met.history) x.moment)
+  pub made : t ≡ making_any kept (decide kept.facts (entries_of kept.history) x kept.places).entry
+  pub answer : reply ≡ (decide kept.facts (entries_of kept.history) x kept.places).reply
+
+-- the one pass of a service, which made every entry
+abbrev pub one_pass : RealmFacts → List Entry → Pass
+one_pass facts entries = record { facts = facts; number = 1; history = made_by 1 entries; own = first_places (length entries); places = no_places }

@@ -1,0 +1,3 @@
+pub mod AsciiFacts
+pub mod PartsFacts
+pub mod PrincipalFacts
