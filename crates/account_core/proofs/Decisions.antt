@@ -1,5 +1,5 @@
 -- A decision from what the account keeps.
-use Rattle.std.proofs.Common.{◌≡◌, ℕ, List, length, max, Option, Some, None, Result, Ok, Err, IfOk, refl, sym, ap, ap₂, ◌∙◌}
+use Rattle.std.proofs.Common.{◌≡◌, ℕ, List, length, Option, Some, None, Result, Ok, Err, IfOk, refl, sym, ap, ap₂, ◌∙◌}
 use Rattle.kms_json.specs.declared.asks.Ask.{Ask}
 use Rattle.kms_json.specs.declared.asks.AskBody.{AskBody}
 use Rattle.kms_json.specs.declared.asks.AskBody.TheVariants as ask
@@ -12,8 +12,8 @@ use Rattle.account_core.specs.declared.decide.Decision.TheVariants as decision
 use Rattle.account_core.specs.declared.facts.RealmFacts.{RealmFacts}
 use Rattle.account_core.specs.declared.entries.Entry.{Entry}
 use Rattle.account_core.specs.declared.rows.KeyRow.{KeyRow}
-use Rattle.account_core.specs.History.{replay, latest_of, moment_of, key_named}
-use Rattle.account_core.specs.Decide.{Places, Decided, refuses, unless_refused, lacking, keys_full, makes_key, describes, decide_body, decide, decision_by, decision_of, no_places}
+use Rattle.account_core.specs.History.{replay, moment_of, key_named}
+use Rattle.account_core.specs.Decide.{Places, refuses, unless_refused, lacking, keys_full, makes_key, describes, decide_body, decide, decision_by, decision_of, no_places}
 
 module _ (facts : RealmFacts) (history : List Entry) (x : Ask) (places : Places) where
   -- the history is too short

@@ -21,7 +21,7 @@ use Rattle.account_core.specs.declared.rows.KeyRow.{KeyRow}
 use Rattle.account_core.specs.declared.decide.Decision.{Decision}
 use Rattle.account_core.specs.declared.decide.Decision.TheVariants as decision
 use Rattle.account_core.specs.Ids.{key_id_at}
-use Rattle.account_core.specs.History.{replay, moment_of, key_named, housekeeping_of}
+use Rattle.account_core.specs.History.{replay, moment_of, key_named}
 
 -- how many words of its random stream and how many initialization vectors a pass has used
 pub record Places : Type 0 where

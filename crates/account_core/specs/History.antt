@@ -1,5 +1,5 @@
 -- The history of an account and the rows that its replay makes.
-use Rattle.std.specs.Prelude.{ℕ, ◌+◌, List, [], ◌∷◌, ◌++◌, max, fold, find, Option, Some, None, option_and_then}
+use Rattle.std.specs.Prelude.{ℕ, ◌+◌, List, [], ◌∷◌, ◌++◌, max, fold, find, Option, None, option_and_then}
 use Rattle.std.specs.Str.{bytes_eq}
 use Rattle.uuid.specs.Text.{parsed_hyphenated}
 use Rattle.account_core.specs.declared.entries.Entry.{Entry}

@@ -24,7 +24,7 @@ pub enum Decision {
 // How many keys an account holds at most.
 const KEYS: usize = 10_000;
 
-// The refusal of a request that asks for more entries than there are.
+/// The refusal of a request that asks for more entries than there are.
 pub fn lacking_entries(entries: u64, after: Option<u64>) -> Option<Refusal>
     ensures { result ≡ lacking entries after }
 {
@@ -34,7 +34,7 @@ pub fn lacking_entries(entries: u64, after: Option<u64>) -> Option<Refusal>
     }
 }
 
-// The refusal of a further key.
+/// The refusal of a further key, where so many keys are there.
 pub fn no_more_keys(keys: usize) -> Option<Refusal>
     ensures { result ≡ keys_full keys }
 {

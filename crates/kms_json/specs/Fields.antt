@@ -1,5 +1,5 @@
 -- The fields of a request's body.
-use Rattle.std.specs.Prelude.{ℕ, List, [], ◌∷◌, length, nat_le, ◌&&◌, Bool, true, false, not, Option, Some, None, find, option_map}
+use Rattle.std.specs.Prelude.{ℕ, List, [], length, nat_le, ◌&&◌, Bool, true, false, not, Option, Some, None, find, option_map}
 use Rattle.std.specs.List.{list_any}
 use Rattle.serde_json.specs.Data.{Data, null, boolean, number, string, array, object}
 use Rattle.serde_json.specs.Find.{get}

@@ -7,3 +7,4 @@ mod Runs
 mod ReplyLemmas
 mod PassLemmas
 mod OneCut
+mod OneEnd

@@ -71,6 +71,9 @@ some_after_operation = let rest = some_after_second in (before_length ++ rest.0,
 pub some_after_first : (text : List ℕ) × AfterFirst text
 some_after_first = let line = some_line Letter in let rest = some_after_operation in (line.0 ++ rest.0, record { first = line.0; second = rest.0; is = refl; begins = line.1; ends = rest.1 })
 
+pub some_request : (text : List ℕ) × IsRequest text
+some_request = let rest = some_after_first in (before_operation ++ rest.0, record { first = before_operation; second = rest.0; is = refl; begins = refl; ends = rest.1 })
+
 pub begins_with_none : (bytes : List ℕ) → HasNoFront IsRequest bytes → BeginsWithNone bytes
 begins_with_none bytes h = λ m text rest is e. h text rest (request_of is) e
 

@@ -1,7 +1,7 @@
 -- How a run goes on.
-use Rattle.std.proofs.Common.{◌≡◌, ◌+◌, ◌≤◌, ℕ, List, [], ◌∷◌, ◌++◌, length, Bool, true, false, refl, sym, ap, ◌∙◌, append_assoc, length-append, subst, take, drop, arith}
+use Rattle.std.proofs.Common.{◌≡◌, ◌+◌, ℕ, List, [], ◌∷◌, ◌++◌, Bool, true, false, refl, sym, ap, ◌∙◌, append_assoc, length-append, subst, drop, arith}
 use Rattle.std.proofs.lemmas.List.{take-append-drop}
-use Rattle.kms_io.specs.Wire.{Wire, with_more, with_first, TellsMore, RoseBy}
+use Rattle.kms_io.specs.Wire.{Wire, with_more, with_first, TellsMore}
 use Rattle.kms_io.specs.Link.{Sends}
 use Rattle.kms_local.specs.declared.message.Cut.{Cut}
 use Rattle.kms_local.specs.declared.message.HttpFault.{HttpFault}

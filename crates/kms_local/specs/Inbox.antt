@@ -1,5 +1,5 @@
 -- How bytes come into the buffer.
-use Rattle.std.specs.Prelude.{◌≡◌, ◌<◌, ℕ, List, [], ◌++◌, length}
+use Rattle.std.specs.Prelude.{◌≡◌, ◌<◌, ℕ, List, ◌++◌, length}
 use Rattle.kms_io.specs.Wire.{Wire, RoseBy}
 use Rattle.kms_io.specs.Link.{Takes, IsAtEnd}
 use Rattle.kms_io.specs.declared.link.Took.{Took}

@@ -10,3 +10,4 @@ pub mod Replying
 pub mod Words
 pub mod Settings
 pub mod Program
+pub mod Laws

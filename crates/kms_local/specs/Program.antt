@@ -11,7 +11,7 @@ use Rattle.kms_local.specs.declared.settings.RunOption.TheVariants.{Account, Reg
 use Rattle.kms_local.specs.declared.session.SessionEnd.{SessionEnd}
 use Rattle.kms_local.specs.declared.session.SessionEnd.TheVariants.{Ended, Closed, CutOff, ReadFault, WriteFault, NoMemory}
 use Rattle.kms_local.specs.Pass.{Pass, one_pass}
-use Rattle.kms_local.specs.Session.{Outside, outside, SendsShort, EndsBy}
+use Rattle.kms_local.specs.Session.{outside, SendsShort, EndsBy}
 use Rattle.kms_local.specs.Words.{Command, command_of}
 use Rattle.kms_local.specs.Settings.{IsSettings, IsRefusedAt}
 

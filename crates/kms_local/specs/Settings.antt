@@ -1,5 +1,5 @@
 -- What the values of the options of `run` stand for, and which of them is refused.
-use Rattle.std.specs.Prelude.{◌≡◌, ◌≢◌, ℕ, List, length, Ok}
+use Rattle.std.specs.Prelude.{◌≡◌, ℕ, List, length, Ok}
 use Rattle.std.specs.List.{AllPass}
 use Rattle.hex.specs.Hex.{decode_of, is_hex_digit}
 use Rattle.kms_names.specs.Account.{IsAccountNumber}

@@ -9,6 +9,7 @@ use std::marker::Model;
 
 const ROOM: usize = 320;
 
+/// The head of a reply, in a fixed room. Contracts see the list of its bytes.
 #[derive(Drop)]
 pub struct Head {
     text: [u8; 320],
@@ -89,7 +90,9 @@ fn close(closes: bool) -> &'static [u8]
     }
 }
 
-/// The head of a reply.
+/// The head of a reply (RFC 9112, section 2.1): the status line, and the lines Content-Type,
+/// Content-Length, Date (RFC 9110, section 6.6.1), x-kms-front, and Connection where the reply closes.
+/// The date is in seconds since 1970 and before the year 10000. It takes no memory.
 pub fn write_head(status: u16, size: usize, second: u64, front: u64, closes: bool) -> Head
     requires { second < 253402300800 }
     ensures { IsHead status size second front closes result }

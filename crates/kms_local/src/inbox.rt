@@ -6,9 +6,10 @@ use kms_io::{Link, Took};
 use std::alloc::{AllocError, Global};
 use std::marker::Model;
 
-/// The length of the longest message.
+/// How many bytes the buffer holds: more than the longest message has.
 pub const ROOM: usize = 147_456;
 
+/// The bytes that have come from a connection and aren't answered, in order. Contracts see their list.
 #[derive(Drop)]
 pub struct Inbox {
     bytes: Vec<u8>,
@@ -24,6 +25,7 @@ impl Model for Inbox {
 }
 
 impl Inbox {
+    /// The empty buffer. It reserves all its memory.
     pub fn new(alloc: Global) -> Result<Inbox, AllocError>
         ensures { IfOk result (λ b. b ≡ []) }
     {
@@ -31,6 +33,7 @@ impl Inbox {
         Ok(Inbox { bytes, filled: 0 })
     }
 
+    /// The bytes.
     pub fn bytes(&self) -> &[u8]
         ensures value { result.now ≡ self.now }
         ensures fits { length self.now ≤ 147456 }
@@ -38,13 +41,14 @@ impl Inbox {
         &self.bytes[..self.filled]
     }
 
+    /// Whether there are none.
     pub fn is_empty(&self) -> bool
         ensures { MatchBool result (self.now ≡ []) (0 < length self.now) }
     {
         self.filled == 0
     }
 
-    /// Reads once.
+    /// Reads once from the link, to the end of the bytes.
     pub fn fill<L: Link>(&mut self, link: &mut L) -> Took
         requires { length self.old < 147456 }
         ensures { Fills (L.shows link.old) self.old result (L.shows link.new) self.new }
@@ -52,6 +56,7 @@ impl Inbox {
         read_into(link, &mut self.bytes, &mut self.filled)
     }
 
+    /// Lets so many bytes at the front go.
     pub fn drop_front(&mut self, count: usize)
         requires { count ≤ length self.old }
         ensures { self.new ≡ drop count self.old }

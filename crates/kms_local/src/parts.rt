@@ -3,18 +3,23 @@ ghost use Rattle.std.specs.Prelude.{◌≡◌, ◌<◌, ◌≤◌, length, take,
 ghost use Rattle.std.specs.List.{list_all};
 ghost use Rattle.kms_local.specs.Parts.{Scans, IsText, HasSize, IsLine, is_in, limit_of, value_of, IsSmall};
 
-/// What bytes begin with.
+/// What bytes begin with, where a text of some kind is looked for.
 #[derive(Clone, Copy, Debug, PartialEq, Eq)]
 pub enum Scan {
+    /// A text of the kind, of so many bytes.
     Whole(usize),
+    /// No text of the kind, but more bytes would make one.
     Short,
+    /// No text of the kind, however the bytes go on.
     Differs,
 }
 
 /// What a run is made of.
 #[derive(Clone, Copy, Debug, PartialEq, Eq)]
 pub enum Class {
+    /// ASCII letters, 1 to 64 of them: the name of an operation.
     Letter,
+    /// ASCII digits, 1 to 6 of them and of a value of at most 131,072: the length of a body in bytes.
     Digit,
 }
 
@@ -65,7 +70,7 @@ pub fn scan_size(bytes: &[u8], size: usize) -> Scan
     }
 }
 
-// How many bytes at the front are of the class.
+/// How many bytes at the front are of the class.
 pub fn run_len(bytes: &[u8], class: Class) -> usize
     ensures fits { result ≤ length bytes.now }
     ensures all { list_all (is_in class) (take result bytes.now) ≡ true }

@@ -1,4 +1,4 @@
-use Rattle.std.proofs.Common.{◌≡◌, ◌++◌, ◌∷◌, ◌+◌, ℕ, List, take, codes, ap, sym, ◌∙◌}
+use Rattle.std.proofs.Common.{◌++◌, ◌∷◌, ◌+◌, ℕ, List, take, codes, ap, sym, ◌∙◌}
 use Rattle.std.proofs.Math.Seq.{take-append-add}
 use Rattle.kms_local.specs.declared.parts.Class.TheVariants.{Letter}
 use Rattle.kms_local.proofs.Requests.{line_found, first_line, service_line, after_operation}

@@ -1,4 +1,4 @@
-use Rattle.std.proofs.Common.{List, ℕ, subst}
+use Rattle.std.proofs.Common.{subst}
 use Rattle.kms_io.specs.Link.{Sends}
 use Rattle.kms_local.specs.Session.{SendsShort}
 use Rattle.kms_local.proofs.ReplyLemmas.{head_short, body_sent}

@@ -1,4 +1,4 @@
-use Rattle.std.proofs.Common.{ℕ, List, subst, true, ◌∙◌, refl, ap₂}
+use Rattle.std.proofs.Common.{ℕ, List, subst, true, refl, ap₂}
 use Rattle.std.specs.Bool.{MatchBool}
 use Rattle.kms_local.specs.Answers.{Answer, fault_answer}
 use Rattle.kms_local.specs.Run.{answered, early}

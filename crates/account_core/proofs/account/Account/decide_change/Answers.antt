@@ -1,7 +1,6 @@
-use Rattle.std.proofs.Common.{◌≡◌, Some, None, IfOk, max, ap, sym, ◌∙◌, subst, length, ℕ}
+use Rattle.std.proofs.Common.{◌≡◌, IfOk, max, ap, sym, ◌∙◌, subst, length, ℕ}
 use Rattle.kms_json.specs.declared.replies.Reply.TheVariants as reply
 use Rattle.account_core.specs.Account.{Account}
-use Rattle.account_core.specs.declared.decide.Decision.{Decision}
 use Rattle.account_core.specs.declared.decide.Decision.TheVariants as decision
 use Rattle.account_core.specs.Decide.{decision_of, decision_by, lacking, keys_full, no_places}
 use Rattle.account_core.proofs.Decisions.{refused_first, refused_is, full_decision, made_decision, ok_where}

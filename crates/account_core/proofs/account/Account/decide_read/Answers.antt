@@ -1,5 +1,4 @@
-use Rattle.std.proofs.Common.{◌≡◌, Some, None, IfOk, ap, sym, ◌∙◌, subst, length, ℕ}
-use Rattle.kms_json.specs.declared.replies.Reply.{Reply}
+use Rattle.std.proofs.Common.{◌≡◌, IfOk, ap, sym, ◌∙◌, subst, length, ℕ}
 use Rattle.kms_json.specs.declared.replies.Reply.TheVariants as reply
 use Rattle.account_core.specs.Account.{Account}
 use Rattle.account_core.specs.Decide.{decide, lacking, no_places}

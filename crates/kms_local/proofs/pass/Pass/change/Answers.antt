@@ -1,8 +1,8 @@
-use Rattle.std.proofs.Common.{◌≡◌, ap, sym, ◌∙◌, subst, length, List, ℕ, ◌++◌, ◌∷◌, [], ◌⊎◌, inl, inr}
+use Rattle.std.proofs.Common.{◌≡◌, sym, ◌∙◌, subst, length}
 use Rattle.kms_json.specs.declared.replies.Reply.{Reply}
 use Rattle.account_core.specs.Account.{Account}
 use Rattle.kms_local.specs.Answers.{answer_in, answer_of}
-use Rattle.kms_local.specs.Pass.{Pass, Changes, one_pass, made_by}
+use Rattle.kms_local.specs.Pass.{Pass, Changes, one_pass}
 use Rattle.kms_local.proofs.PassLemmas.{changes_made, changes_either, length-made_by}
 use Rattle.kms_local.proofs.pass.Pass.change.Goals as goal
 

@@ -1,4 +1,4 @@
-use Rattle.std.proofs.Common.{◌≡◌, ap, sym, ◌∙◌, subst, length, List, ℕ}
+use Rattle.std.proofs.Common.{◌≡◌, sym, ◌∙◌, subst, length}
 use Rattle.kms_json.specs.declared.replies.Reply.{Reply}
 use Rattle.kms_local.specs.Answers.{answer_in, answer_of}
 use Rattle.kms_local.specs.Pass.{Pass, Reads}
