@@ -1,13 +1,16 @@
-// A library with one function.
+//! AES-256-GCM, the authenticated encryption of SP 800-38D over the cipher of FIPS 197 with a key of
+//! 32 bytes, an IV of 12 bytes and a tag of 16 bytes.
+//!
+//! No call takes memory and none is refused. One key and one IV may seal one text only: who calls
+//! `seal` keeps the IVs of a key apart. The time that a call takes is no part of any claim.
 #![tactic(auto)]
 
-ghost use Rattle.std.specs.Prelude.{◌≡◌};
-ghost use Rattle.gcm_seal.specs.Echo.{echo_of};
+mod counter;
+mod gcm;
+mod hash;
+mod laws;
+#[cfg(test)]
+mod tests;
 
-// The `ensures` clause is the contract: what `echo` returns is `echo_of` of its argument, a definition
-// in `specs/Echo.antt`, which a caller's clause can cite too.
-pub fn echo(x: usize) -> usize
-    ensures { result ≡ echo_of x }
-{
-    x
-}
+pub use gcm::{open, seal};
+pub use laws::{blocks_make_the_text, open_undoes_seal};

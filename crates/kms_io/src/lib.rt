@@ -15,6 +15,8 @@ mod memory_files;
 mod memory_link;
 mod standard;
 mod system;
+#[cfg(test)]
+mod tests;
 
 pub use clock::Clock;
 pub use door::{Door, Opened};

@@ -18,25 +18,32 @@ pub struct MemoryClock {
 }
 
 impl MemoryClock {
-    ghost use Rattle.std.specs.Prelude.{IsTrue, ◌≡◌, [], Some};
-    ghost use Rattle.kms_io.specs.Clock.{are_times};
-    ghost use Rattle.kms_io.specs.MemoryClock.{answers_so_far};
+    ghost use Rattle.std.specs.Prelude.{IsTrue, ◌≡◌, [], Some, ℕ};
+    ghost use Rattle.kms_io.specs.Clock.{are_times, listed};
+    ghost use Rattle.kms_io.specs.MemoryClock.{answers_so_far, answer_after};
 
     /// The clock of these answers, each before the year 10000. It takes no memory.
     pub fn new(answers: Vec<u64>) -> MemoryClock
         requires { IsTrue (are_times answers.items) }
-        ensures { answers_so_far result ≡ Some [] }
+        ensures told { answers_so_far result ≡ Some [] }
+        ensures answers { (k : ℕ) → answer_after result k ≡ listed answers.items k }
     {
         MemoryClock { answers, calls: 0 }
     }
 }
 
 impl Clock for MemoryClock {
-    ghost use Rattle.kms_io.specs.MemoryClock.{answers_so_far};
+    ghost use Rattle.std.specs.Prelude.{ℕ, ◌∷◌, []};
+    ghost use Rattle.kms_io.specs.MemoryClock.{answers_so_far, answer_after};
 
     ghost told = { answers_so_far };
 
-    fn now(&mut self) -> u64 {
+    fn now(&mut self) -> u64
+        ensures bound { result < 253402300800 }
+        ensures told { TellsMore (answers_so_far self.old) (result ∷ []) (answers_so_far self.new) }
+        ensures value { result ≡ answer_after self.old 0 }
+        ensures next { (k : ℕ) → answer_after self.new k ≡ answer_after self.old (k + 1) }
+    {
         let call = self.calls;
         self.calls = call.saturating_add(1);
         answer_at(&self.answers, call)
@@ -66,23 +73,30 @@ pub struct StepClock {
 
 impl StepClock {
     ghost use Rattle.std.specs.Prelude.{◌≡◌, ◌<◌, [], Some};
-    ghost use Rattle.kms_io.specs.StepClock.{steps_so_far};
+    ghost use Rattle.kms_io.specs.StepClock.{steps_so_far, next_step};
 
     /// The clock that answers `first` at its first call.
     pub fn new(first: u64) -> StepClock
         requires { first < 253402300800 }
-        ensures { steps_so_far result ≡ Some [] }
+        ensures told { steps_so_far result ≡ Some [] }
+        ensures next { next_step result ≡ first }
     {
         StepClock { first, calls: 0 }
     }
 }
 
 impl Clock for StepClock {
-    ghost use Rattle.kms_io.specs.StepClock.{steps_so_far};
+    ghost use Rattle.std.specs.Prelude.{◌∷◌, [], min};
+    ghost use Rattle.kms_io.specs.StepClock.{steps_so_far, next_step};
 
     ghost told = { steps_so_far };
 
-    fn now(&mut self) -> u64 {
+    fn now(&mut self) -> u64
+        ensures bound { result < 253402300800 }
+        ensures told { TellsMore (steps_so_far self.old) (result ∷ []) (steps_so_far self.new) }
+        ensures value { result ≡ next_step self.old }
+        ensures next { next_step self.new ≡ min (next_step self.old + 1) 253402300799 }
+    {
         let call = self.calls;
         self.calls = call.saturating_add(1);
         step_at(self.first, call)

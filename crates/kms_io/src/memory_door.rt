@@ -26,17 +26,19 @@ impl MemoryDoor {
     ghost use Rattle.std.specs.Prelude.{IsTrue, ◌≡◌, [], Some, IfSome, option_map, slice_get};
     ghost use Rattle.kms_io.specs.NewEars.{are_new_ears};
     ghost use Rattle.kms_io.specs.MemoryEar.{listening_of};
-    ghost use Rattle.kms_io.specs.MemoryDoor.{doorway_of};
+    ghost use Rattle.kms_io.specs.MemoryDoor.{doorway_of, waiting_at, openings_of};
 
     /// The door of these ears, each as its `new` made it, with the numbers of the openings that
     /// fail. It takes no memory.
     pub fn new(alloc: Global, ears: Vec<MemoryEar>, failing: Vec<u64>) -> MemoryDoor
         requires { IsTrue (are_new_ears ears.items) }
-        ensures { doorway_of result ≡ record {
+        ensures doorway { doorway_of result ≡ record {
           faults = 0;
           asked = Some [];
           given_back = Some [];
         } }
+        ensures waiting { waiting_at result ≡ ears.items }
+        ensures calls { openings_of result ≡ record { made = 0; failing = failing.items } }
     {
         MemoryDoor {
             alloc,
@@ -59,15 +61,20 @@ impl MemoryDoor {
 
 impl Door for MemoryDoor {
     ghost use Rattle.std.specs.Prelude.{map};
-    ghost use Rattle.kms_io.specs.Door.{Closes};
+    ghost use Rattle.kms_io.specs.Calls.{one_more};
+    ghost use Rattle.kms_io.specs.Door.{Opens, Closes};
     ghost use Rattle.kms_io.specs.MemoryEar.{listening_of};
-    ghost use Rattle.kms_io.specs.MemoryDoor.{doorway_of};
+    ghost use Rattle.kms_io.specs.MemoryDoor.{doorway_of, waiting_at, openings_of, GivesEars};
 
     type Listener = MemoryEar;
 
     ghost shows = { doorway_of };
 
-    fn open(&mut self, address: &str, n: u16, ears: &mut Vec<MemoryEar>) -> Opened {
+    fn open(&mut self, address: &str, n: u16, ears: &mut Vec<MemoryEar>) -> Opened
+        ensures opens { Opens listening_of (doorway_of self.old) address.now n ears.old.items result (doorway_of self.new) ears.new.items }
+        ensures gives { GivesEars (openings_of self.old) (waiting_at self.old) n ears.old.items result (waiting_at self.new) ears.new.items }
+        ensures calls { openings_of self.new ≡ one_more (openings_of self.old) }
+    {
         let call = self.calls;
         self.calls = call.saturating_add(1);
         let Ok(request) = request_of(self.alloc, &mut self.asked, address, n) else {
@@ -89,7 +96,9 @@ impl Door for MemoryDoor {
     }
 
     fn close(&mut self, ears: Vec<MemoryEar>)
-        ensures { Closes (doorway_of self.old) (map listening_of ears.items) (doorway_of self.new) }
+        ensures closes { Closes (doorway_of self.old) (map listening_of ears.items) (doorway_of self.new) }
+        ensures waiting { waiting_at self.new ≡ waiting_at self.old }
+        ensures calls { openings_of self.new ≡ openings_of self.old }
     {
         self.back = ears;
     }

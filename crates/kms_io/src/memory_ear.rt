@@ -29,17 +29,19 @@ impl MemoryEar {
     ghost use Rattle.std.specs.Prelude.{IsTrue, ◌≡◌, [], Some, false, option_map, slice_get, IfSome};
     ghost use Rattle.kms_io.specs.NewLinks.{are_new_links};
     ghost use Rattle.kms_io.specs.MemoryLink.{wire_of};
-    ghost use Rattle.kms_io.specs.MemoryEar.{listening_of};
+    ghost use Rattle.kms_io.specs.MemoryEar.{listening_of, waiting_in, calls_of};
 
     /// The ear of these connections, each as its `new` made it, with the numbers of the calls that
     /// fail. It takes no memory.
     pub fn new(alloc: Global, conns: Vec<MemoryLink>, failing: Vec<u64>) -> MemoryEar
         requires { IsTrue (are_new_links conns.items) }
-        ensures { listening_of result ≡ record {
+        ensures listening { listening_of result ≡ record {
           faults = 0;
           is_out = false;
           given_back = Some [];
         } }
+        ensures waiting { waiting_in result ≡ conns.items }
+        ensures calls { calls_of result ≡ record { made = 0; failing = failing.items } }
     {
         MemoryEar {
             alloc,
@@ -61,13 +63,22 @@ impl MemoryEar {
 }
 
 impl Ear for MemoryEar {
-    ghost use Rattle.kms_io.specs.MemoryEar.{listening_of};
+    ghost use Rattle.std.specs.Prelude.{◌≡◌, true, false};
+    ghost use Rattle.kms_io.specs.Calls.{one_more};
+    ghost use Rattle.kms_io.specs.Ear.{Hears, TakesBack};
+    ghost use Rattle.kms_io.specs.MemoryLink.{wire_of};
+    ghost use Rattle.kms_io.specs.MemoryEar.{listening_of, waiting_in, calls_of, GivesFirst};
 
     type Conn = MemoryLink;
 
     ghost shows = { listening_of };
 
-    fn next(&mut self) -> Next<MemoryLink> {
+    fn next(&mut self) -> Next<MemoryLink>
+        requires { (listening_of self.old).is_out ≡ false }
+        ensures hears { Hears wire_of (listening_of self.old) result (listening_of self.new) }
+        ensures gives { GivesFirst (calls_of self.old) (waiting_in self.old) result (waiting_in self.new) }
+        ensures calls { calls_of self.new ≡ one_more (calls_of self.old) }
+    {
         let call = self.calls;
         self.calls = call.saturating_add(1);
         if self.failing.contains(&call) || self.given >= self.conns.len() {
@@ -79,7 +90,12 @@ impl Ear for MemoryEar {
         Next::Conn(conn)
     }
 
-    fn done(&mut self, conn: MemoryLink) {
+    fn done(&mut self, conn: MemoryLink)
+        requires { (listening_of self.old).is_out ≡ true }
+        ensures takes { TakesBack (listening_of self.old) (wire_of conn) (listening_of self.new) }
+        ensures waiting { waiting_in self.new ≡ waiting_in self.old }
+        ensures calls { calls_of self.new ≡ calls_of self.old }
+    {
         self.conns[self.back] = conn;
         self.back += 1;
     }

@@ -23,16 +23,17 @@ pub struct MemoryFiles {
 impl MemoryFiles {
     ghost use Rattle.std.specs.Prelude.{◌≡◌, [], Some};
     ghost use Rattle.kms_io.specs.FileList.{content_among};
-    ghost use Rattle.kms_io.specs.MemoryFiles.{shelf_of};
+    ghost use Rattle.kms_io.specs.MemoryFiles.{shelf_of, calls_of};
 
     /// The files of these names and contents, of which the first of a name counts, with the numbers
     /// of the calls that fail. It takes no memory.
     pub fn new(alloc: Global, files: Vec<(String, Vec<u8>)>, failing: Vec<u64>) -> MemoryFiles
-        ensures { shelf_of result ≡ record {
+        ensures shelf { shelf_of result ≡ record {
           faults = 0;
           asked = Some [];
           content = content_among files.items;
         } }
+        ensures calls { calls_of result ≡ record { made = 0; failing = failing.items } }
     {
         MemoryFiles {
             alloc,
@@ -46,13 +47,16 @@ impl MemoryFiles {
 }
 
 impl MemoryFiles {
-    ghost use Rattle.std.specs.Prelude.{List, ℕ};
+    ghost use Rattle.std.specs.Prelude.{List, ℕ, ◌⊎◌, true};
+    ghost use Rattle.kms_io.specs.Calls.{Calls, is_failing};
     ghost use Rattle.kms_io.specs.Files.{ReadsFile};
-    ghost use Rattle.kms_io.specs.MemoryFiles.{shelf_of};
+    ghost use Rattle.kms_io.specs.MemoryFiles.{shelf_of, calls_of, FailsAsTold};
 
     // A call for the name that fails.
     fn fail(&mut self, name: &str) -> FileAnswer
-        ensures { (room : List ℕ) → ReadsFile (shelf_of self.old) name.now room result (shelf_of self.new) room }
+        ensures reads { (room : List ℕ) → ReadsFile (shelf_of self.old) name.now room result (shelf_of self.new) room }
+        ensures fails { (calls : Calls) → (is_failing calls ≡ true) ⊎ ((shelf_of self.old).content name.now ≡ None) → FailsAsTold calls (shelf_of self.old) name.now result (shelf_of self.new) }
+        ensures calls { calls_of self.new ≡ calls_of self.old }
     {
         if note(self.alloc, &mut self.asked, name).is_err() {
             return FileAnswer::NoMemory;
@@ -63,11 +67,17 @@ impl MemoryFiles {
 }
 
 impl Files for MemoryFiles {
-    ghost use Rattle.kms_io.specs.MemoryFiles.{shelf_of};
+    ghost use Rattle.kms_io.specs.Calls.{one_more};
+    ghost use Rattle.kms_io.specs.Files.{ReadsFile};
+    ghost use Rattle.kms_io.specs.MemoryFiles.{shelf_of, calls_of, FailsAsTold};
 
     ghost shows = { shelf_of };
 
-    fn read_whole(&mut self, name: &str, room: &mut Vec<u8>) -> FileAnswer {
+    fn read_whole(&mut self, name: &str, room: &mut Vec<u8>) -> FileAnswer
+        ensures reads { ReadsFile (shelf_of self.old) name.now room.old.items result (shelf_of self.new) room.new.items }
+        ensures fails { FailsAsTold (calls_of self.old) (shelf_of self.old) name.now result (shelf_of self.new) }
+        ensures calls { calls_of self.new ≡ one_more (calls_of self.old) }
+    {
         let call = self.calls;
         self.calls = call.saturating_add(1);
         if self.failing.contains(&call) {

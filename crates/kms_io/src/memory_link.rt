@@ -1,10 +1,14 @@
 // A link over bytes in memory, which can be made to fail and to give pieces of any size.
-ghost use Rattle.std.specs.Prelude.{◌≡◌, ◌+◌, ◌<◌, ◌≤◌, [], Some, length, take, drop};
+ghost use Rattle.std.specs.Prelude.{◌≡◌, ◌+◌, ◌<◌, ◌≤◌, [], Some, length, take, drop, slice_index};
+ghost use Rattle.kms_io.specs.Script.{piece_of};
 ghost use Rattle.kms_io.specs.Wire.{Wire};
 
 use crate::{Link, Put, Took};
 use std::alloc::Global;
 
+/// A connection over bytes in memory, which tells all its bytes. Its reads give the input in pieces,
+/// and its writes are kept. Calls are numbered from 0, reads and writes apart, and fail where their
+/// number stands in a list; a write fails too where there isn't memory enough to keep its bytes.
 #[derive(Drop)]
 pub struct MemoryLink {
     input: Vec<u8>,
@@ -21,8 +25,11 @@ pub struct MemoryLink {
 }
 
 impl MemoryLink {
-    ghost use Rattle.kms_io.specs.MemoryLink.{wire_of};
+    ghost use Rattle.kms_io.specs.MemoryLink.{wire_of, script_of};
 
+    /// The connection from which this input comes, with the most bytes that each read gives and the
+    /// numbers of the reads and of the writes that fail. A piece of 0 bytes, or one that the list
+    /// lacks, stands for all that fits. It takes no memory.
     pub fn new(
         alloc: Global,
         input: Vec<u8>,
@@ -30,12 +37,17 @@ impl MemoryLink {
         failing_reads: Vec<u64>,
         failing_writes: Vec<u64>,
     ) -> MemoryLink
-        ensures { wire_of result ≡ record {
+        ensures wire { wire_of result ≡ record {
           taken = Some [];
           written = Some [];
           left = Some input.items;
           read_faults = 0;
           write_faults = 0;
+        } }
+        ensures script { script_of result ≡ record {
+          reads = record { made = 0; failing = failing_reads.items };
+          writes = record { made = 0; failing = failing_writes.items };
+          pieces = pieces.items;
         } }
     {
         MemoryLink {
@@ -52,6 +64,7 @@ impl MemoryLink {
         }
     }
 
+    /// The bytes written so far.
     pub fn written(&self) -> &[u8]
         ensures { (wire_of self.now).written ≡ Some result.now }
     {
@@ -60,11 +73,19 @@ impl MemoryLink {
 }
 
 impl Link for MemoryLink {
-    ghost use Rattle.kms_io.specs.MemoryLink.{wire_of};
+    ghost use Rattle.kms_io.specs.Calls.{one_more};
+    ghost use Rattle.kms_io.specs.Link.{Reads, Writes};
+    ghost use Rattle.kms_io.specs.Script.{GivesPiece, TakesPiece};
+    ghost use Rattle.kms_io.specs.MemoryLink.{wire_of, left_of, script_of};
 
     ghost shows = { wire_of };
 
-    fn read_some(&mut self, room: &mut [u8]) -> Took {
+    fn read_some(&mut self, room: &mut [u8]) -> Took
+        requires { 0 < length room.old }
+        ensures reads { Reads (wire_of self.old) room.new result (wire_of self.new) }
+        ensures piece { GivesPiece (script_of self.old) room.old (left_of self.old) result }
+        ensures script { script_of self.new ≡ record (script_of self.old) { reads = one_more (script_of self.old).reads } }
+    {
         let call = self.reads;
         self.reads = call.saturating_add(1);
         if self.failing_reads.contains(&call) {
@@ -81,7 +102,12 @@ impl Link for MemoryLink {
         Took::Got(count)
     }
 
-    fn write_some(&mut self, piece: &[u8]) -> Put {
+    fn write_some(&mut self, piece: &[u8]) -> Put
+        requires { 0 < length piece.now }
+        ensures writes { Writes (wire_of self.old) piece.now result (wire_of self.new) }
+        ensures piece { TakesPiece (script_of self.old) piece.now result }
+        ensures script { script_of self.new ≡ record (script_of self.old) { writes = one_more (script_of self.old).writes } }
+    {
         let call = self.writes;
         self.writes = call.saturating_add(1);
         if self.failing_writes.contains(&call) || self.output.extend_from_slice(piece).is_err() {
@@ -106,6 +132,7 @@ fn piece_at(pieces: &[usize], call: u64, most: usize) -> usize
     requires { 0 < most }
     ensures some { 0 < result }
     ensures fits { result ≤ most }
+    ensures value { result ≡ piece_of (slice_index pieces.now call) most }
 {
     match pieces.get(call as usize) {
         None | Some(0) => most,

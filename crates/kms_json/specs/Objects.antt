@@ -14,4 +14,4 @@ item_data (OneText text) = array (item (string text.now) no_items)
 -- these members, put in one after another
 abbrev pub put_members : List Member → Members → Members
 put_members [] members = members
-put_members (one ∷ others) members = put_members others (put one.name.now (item_data one.item) members)
+put_members (one ∷ others) members = put_members others (put one.0.now (item_data one.1) members)

@@ -27,62 +27,20 @@ fn described<'a>(
     ensures { IfOk result (λ v. view v ≡ described_as account.now arn.now created id.now) }
 {
     let members = [
-        Member {
-            name: "AWSAccountId",
-            item: Item::Text(account),
-        },
-        Member {
-            name: "Arn",
-            item: Item::Text(arn),
-        },
-        Member {
-            name: "CreationDate",
-            item: Item::Number(created),
-        },
-        Member {
-            name: "CustomerMasterKeySpec",
-            item: Item::Text("SYMMETRIC_DEFAULT"),
-        },
-        Member {
-            name: "Description",
-            item: Item::Text(""),
-        },
-        Member {
-            name: "Enabled",
-            item: Item::Flag(true),
-        },
-        Member {
-            name: "EncryptionAlgorithms",
-            item: Item::OneText("SYMMETRIC_DEFAULT"),
-        },
-        Member {
-            name: "KeyId",
-            item: Item::Text(id),
-        },
-        Member {
-            name: "KeyManager",
-            item: Item::Text("CUSTOMER"),
-        },
-        Member {
-            name: "KeySpec",
-            item: Item::Text("SYMMETRIC_DEFAULT"),
-        },
-        Member {
-            name: "KeyState",
-            item: Item::Text("Enabled"),
-        },
-        Member {
-            name: "KeyUsage",
-            item: Item::Text("ENCRYPT_DECRYPT"),
-        },
-        Member {
-            name: "MultiRegion",
-            item: Item::Flag(false),
-        },
-        Member {
-            name: "Origin",
-            item: Item::Text("AWS_KMS"),
-        },
+        Member("AWSAccountId", Item::Text(account)),
+        Member("Arn", Item::Text(arn)),
+        Member("CreationDate", Item::Number(created)),
+        Member("CustomerMasterKeySpec", Item::Text("SYMMETRIC_DEFAULT")),
+        Member("Description", Item::Text("")),
+        Member("Enabled", Item::Flag(true)),
+        Member("EncryptionAlgorithms", Item::OneText("SYMMETRIC_DEFAULT")),
+        Member("KeyId", Item::Text(id)),
+        Member("KeyManager", Item::Text("CUSTOMER")),
+        Member("KeySpec", Item::Text("SYMMETRIC_DEFAULT")),
+        Member("KeyState", Item::Text("Enabled")),
+        Member("KeyUsage", Item::Text("ENCRYPT_DECRYPT")),
+        Member("MultiRegion", Item::Flag(false)),
+        Member("Origin", Item::Text("AWS_KMS")),
     ];
     object_of(alloc, &members)
 }

@@ -17,12 +17,9 @@ pub enum Item<'a> {
     OneText(&'a str),
 }
 
-/// A member of a reply.
+/// A member of a reply: its name, and what it holds.
 #[derive(Clone, Copy)]
-pub struct Member<'a> {
-    pub name: &'static str,
-    pub item: Item<'a>,
-}
+pub struct Member<'a>(pub &'static str, pub Item<'a>);
 
 fn item_value(alloc: Global, item: Item<'_>) -> Result<Value, NoMemory>
     ensures { IfOk result (λ v. view v ≡ item_data item.entry) }
@@ -42,8 +39,8 @@ pub fn object_of(alloc: Global, members: &[Member<'_>]) -> Result<Value, NoMemor
 {
     let mut map = Map::new(alloc);
     for member in members {
-        let value = item_value(alloc, member.item)?;
-        serde_json::put(&mut map, alloc, member.name, value)?;
+        let value = item_value(alloc, member.1)?;
+        serde_json::put(&mut map, alloc, member.0, value)?;
     }
     Ok(Value::Object(map))
 }

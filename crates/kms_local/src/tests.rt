@@ -160,7 +160,12 @@ fn a_read_or_a_write_that_fails_ends_the_session(rt: HostRuntime) -> Result<(), 
 }
 
 // The status and the body of the reply to one request of the operation.
-const REFUSALS: [(&str, &str, &str); 14] = [
+const REFUSALS: [(&str, &str, &str); 15] = [
+    (
+        "CreateKey",
+        TOO_DEEP,
+        "{\"__type\":\"SerializationException\",\"message\":\"The body is not the JSON that the operation takes.\"}",
+    ),
     (
         "Nothing",
         "{}",
@@ -240,6 +245,13 @@ fn request(alloc: Global, operation: &str, body: &str) -> Result<Vec<u8>, AllocE
     )?;
     text.as_bytes().to_vec(alloc)
 }
+
+// 128 levels of nesting, which are one too many, and 127.
+const TOO_DEEP: &str =
+    "{\"x\":[[[[[[[[[[[[[[[[[[[[[[[[[[[[[[[[[[[[[[[[[[[[[[[[[[[[[[[[[[[[[[[[[[[[[[[[[[[[[[[[[[[[[[[[[[[[[[[[[[[[[[[[[[[[[[[[[[[[[[[[[[[[[[[]]]]]]]]]]]]]]]]]]]]]]]]]]]]]]]]]]]]]]]]]]]]]]]]]]]]]]]]]]]]]]]]]]]]]]]]]]]]]]]]]]]]]]]]]]]]]]]]]]]]]]]]]]]]]]]]]]]]]]]]]]]]]]]}";
+
+const DEEP: &str =
+    "{\"x\":[[[[[[[[[[[[[[[[[[[[[[[[[[[[[[[[[[[[[[[[[[[[[[[[[[[[[[[[[[[[[[[[[[[[[[[[[[[[[[[[[[[[[[[[[[[[[[[[[[[[[[[[[[[[[[[[[[[[[[[[[[[[[[]]]]]]]]]]]]]]]]]]]]]]]]]]]]]]]]]]]]]]]]]]]]]]]]]]]]]]]]]]]]]]]]]]]]]]]]]]]]]]]]]]]]]]]]]]]]]]]]]]]]]]]]]]]]]]]]]]]]]]]]]]]]]]}";
 
 #[test]
 fn each_refusal_comes_in_its_place(rt: HostRuntime) -> Result<(), Fail> {

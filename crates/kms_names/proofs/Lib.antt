@@ -1,3 +1,12 @@
 pub mod AsciiFacts
+pub mod GlobFacts
+pub mod GlobLoop
+pub mod KeyTextFacts
+pub mod OperationFacts
 pub mod PartsFacts
 pub mod PrincipalFacts
+pub mod ReferenceFacts
+pub mod ReferenceLaws
+pub mod ReadingFacts
+pub mod PrincipalReading
+pub mod ReferenceReading

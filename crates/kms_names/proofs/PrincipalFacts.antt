@@ -1,6 +1,7 @@
 -- What a principal's text is made of.
-use Rattle.std.proofs.Common.{◌≡◌, ◌≢◌, ℕ, List, ◌∷◌, ◌++◌, refl, ◌∙◌, subst}
+use Rattle.std.proofs.Common.{sym, ◌≡◌, ◌≢◌, ℕ, List, ◌∷◌, ◌++◌, refl, ◌∙◌, subst, ap, get_or, arith}
 use Rattle.std.specs.Prelude.{codes}
+use Rattle.std.proofs.lemmas.List.{append_cancel_left}
 use Rattle.std.proofs.lemmas.List.Elements.{All-weaker}
 use Rattle.kms_names.specs.Account.{IsAccountNumber}
 use Rattle.kms_names.specs.Principal.{IsIamArn, IsPathAndName, IsPrincipal, principal_text}
@@ -60,3 +61,25 @@ pub none_at_place : (text a r : List ℕ) → IsIamArn text a r → IsNoResource
 none_at_place text a r at none p h e =
     let there = stands_at p h in
     resource_refused r none p h (same_place text a (account_of p) r (resource_of p) at (there.0, e ∙ there.1)).1
+
+-- `u` is not `r`
+other_front : (m n : List ℕ) → codes "user/" ++ m ≢ codes "role/" ++ n
+other_front m n e = let heads : get_or (codes "user/" ++ m) 0 0 ≡ get_or (codes "role/" ++ n) 0 0 = ap (λ t. get_or t 0 0) e in omega (arith, heads)
+
+by_parts : (p q : Principal) → account_of p ≡ account_of q → resource_of p ≡ resource_of q → p ≡ q
+by_parts (Root a) (Root b) same e = ap Root same
+by_parts (Root a) (User b n) same e = cc
+by_parts (Root a) (Role b n) same e = cc
+by_parts (User a m) (Root b) same e = cc
+by_parts (User a m) (User b n) same e = let names : m ≡ n = append_cancel_left (codes "user/") m n e in cc
+by_parts (User a m) (Role b n) same e = absurd (other_front m n e)
+by_parts (Role a m) (Root b) same e = cc
+by_parts (Role a m) (User b n) same e = absurd (other_front n m (sym e))
+by_parts (Role a m) (Role b n) same e = let names : m ≡ n = append_cancel_left (codes "role/") m n e in cc
+
+-- two principals have two texts
+pub one_principal : (p q : Principal) → IsPrincipal p → IsPrincipal q → principal_text p ≡ principal_text q → p ≡ q
+one_principal p q h k e =
+    let there = stands_at q k in
+    let same = same_place (principal_text p) (account_of p) (account_of q) (resource_of p) (resource_of q) (stands_at p h) (there.0, e ∙ there.1) in
+    by_parts p q same.0 same.1

@@ -1,4 +1,4 @@
-ghost use Rattle.std.specs.Prelude.{◌≡◌, ◌≢◌, ◌↔◌, ℕ, List, IsTrue, IfErr, IfOk, MatchOption, ◌⊎◌, ◌++◌};
+ghost use Rattle.std.specs.Prelude.{◌≡◌, ◌≢◌, ◌↔◌, ℕ, List, IsTrue, IfErr, IfOk, MatchOption, ◌⊎◌, ◌++◌, length};
 ghost use Rattle.kms_names.specs.Characters.{is_name_character};
 ghost use Rattle.kms_names.specs.Principal.{IsIamArn, IsPathAndName, IsPrincipal, principal_text};
 ghost use Rattle.kms_names.specs.declared.principals.Principal.{Principal};
@@ -10,7 +10,7 @@ use crate::texts::Text;
 use std::alloc::Global;
 
 /// Who calls, or is named by a policy or a grant. The text is the path and name.
-#[derive(Debug, Drop)]
+#[derive(Debug, PartialEq, Eq, PartialOrd, Ord, Drop)]
 pub enum Principal {
     Root(AccountNumber),
     User(AccountNumber, Text),
@@ -18,8 +18,6 @@ pub enum Principal {
 }
 
 impl Principal {
-    ghost use Rattle.std.specs.Prelude.{◌≡◌, IfOk};
-
     /// A copy that equals its source.
     pub fn copy(&self) -> Result<Principal, NoMemory>
         ensures { IfOk result (λ p. p ≡ self.now) }
@@ -28,6 +26,34 @@ impl Principal {
             Principal::Root(account) => Ok(Principal::Root(*account)),
             Principal::User(account, name) => Ok(Principal::User(*account, name.copy()?)),
             Principal::Role(account, name) => Ok(Principal::Role(*account, name.copy()?)),
+        }
+    }
+}
+
+/// The ARN of a principal.
+pub fn write_principal(alloc: Global, principal: &Principal) -> Result<Text, NoMemory>
+    ensures { IfOk result (λ t. t ≡ principal_text principal.now) }
+{
+    let text = match principal {
+        Principal::Root(account) => format!(in alloc; "arn:aws:iam::{}:root", account.as_str())?,
+        Principal::User(account, name) => {
+            format!(in alloc; "arn:aws:iam::{}:user/{}", account.as_str(), name.as_str())?
+        }
+        Principal::Role(account, name) => {
+            format!(in alloc; "arn:aws:iam::{}:role/{}", account.as_str(), name.as_str())?
+        }
+    };
+    Ok(Text::from_string(text))
+}
+
+/// The length of a principal's ARN in bytes; no memory is taken.
+pub fn principal_len(principal: &Principal) -> usize
+    ensures { result ≡ length (principal_text principal.now) }
+{
+    match principal {
+        Principal::Root(account) => "arn:aws:iam::".len() + account.as_str().len() + ":root".len(),
+        Principal::User(account, name) | Principal::Role(account, name) => {
+            "arn:aws:iam::".len() + account.as_str().len() + ":user/".len() + name.as_str().len()
         }
     }
 }

@@ -11,8 +11,8 @@ invariant_of-self-in-Ok-move_first c =
     let count = c.from-count.result in
     record { are_new = subst (λ rest. IsTrue (are_new_ears rest)) (sym c.in-Ok-move_first.ensures.rest) (new_rest ears count c.args.self.now.are_new) }
 
-pub returns-in-Ok-move_first : goal.returns-in-Ok-move_first
-returns-in-Ok-move_first c =
+pub returns-in-Ok-move_first-clause-opens : goal.returns-in-Ok-move_first-clause-opens
+returns-in-Ok-move_first-clause-opens c =
     let ears = c.args.self.now.ears.items in
     let count = c.from-count.result in
     let enough : count ≤ length ears = omega arith in (

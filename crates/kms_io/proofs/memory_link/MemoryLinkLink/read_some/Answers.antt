@@ -2,8 +2,8 @@ use Rattle.std.proofs.Common.{◌≡◌, Some, take, drop, ap, refl, arith, ◌�
 use Rattle.kms_io.proofs.Pieces.{taken_next, left_next}
 use Rattle.kms_io.proofs.memory_link.MemoryLinkLink.read_some.Goals as goal
 
-pub returns : goal.returns
-returns c =
+pub returns-clause-reads : goal.returns-clause-reads
+returns-clause-reads c =
     let all = c.args.self.now.input.items in
     let at = c.args.self.now.at in
     let n = c.piece_at-count.result in

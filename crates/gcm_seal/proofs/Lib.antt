@@ -1,0 +1,4 @@
+pub mod BlockFacts
+pub mod GctrFacts
+pub mod SealFacts
+pub mod TagFacts

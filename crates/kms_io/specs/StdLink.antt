@@ -1,0 +1,14 @@
+-- What a connection over a reader and a writer shows.
+use Rattle.std.specs.Prelude.{None}
+use Rattle.kms_io.specs.Wire.{Wire}
+use Rattle.kms_io.specs.declared.standard.StdLink.{StdLink}
+
+-- its counts of faults, and nothing of its bytes
+abbrev pub counts_of : {R W : Type 0} → StdLink R W → Wire
+counts_of link = record {
+  taken = None;
+  written = None;
+  left = None;
+  read_faults = link.read_faults;
+  write_faults = link.write_faults;
+}

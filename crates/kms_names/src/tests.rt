@@ -1,0 +1,3 @@
+mod globbing;
+mod naming;
+mod sharing;
