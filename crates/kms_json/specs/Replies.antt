@@ -1,6 +1,7 @@
 -- The status and the body of a reply (AWS KMS API Reference, response elements and errors).
 use Rattle.std.specs.Prelude.{ℕ, List, [], ◌++◌, codes, decimal, true, false}
 use Rattle.uuid.specs.Text.{hyphenated_text, lower}
+use Rattle.kms_names.specs.Reference.{key_arn_text}
 use Rattle.serde_json.specs.Data.{Data, Members, object, member, no_members, string, number, unsigned, boolean, array, item, no_items}
 use Rattle.kms_json.specs.declared.replies.Reply.{Reply}
 use Rattle.kms_json.specs.declared.replies.Reply.TheVariants.{Metadata, Refused}
@@ -29,10 +30,6 @@ status_of (Refused refusal) = refusal_status refusal
 abbrev pub with_text : List ℕ → List ℕ → Members → Members
 with_text name text more = member name (string text) more
 
--- the ARN of a key: partition, service, region, account and resource
-abbrev pub key_arn : List ℕ → List ℕ → List ℕ → List ℕ
-key_arn region account key = codes "arn:aws:kms:" ++ (region ++ (codes ":" ++ (account ++ (codes ":key/" ++ hyphenated_text lower key))))
-
 -- a key of this account, ARN, time of making and printed id, with its members in byte order of their names
 abbrev pub described_as : List ℕ → List ℕ → ℕ → List ℕ → Data
 described_as account arn created id = object
@@ -52,7 +49,7 @@ described_as account arn created id = object
     (with_text (codes "Origin") (codes "AWS_KMS") no_members))))))))))))))
 
 abbrev pub metadata : KeyMetadata → Data
-metadata key = described_as key.account (key_arn key.region key.account key.key) key.created (hyphenated_text lower key.key)
+metadata key = described_as key.account (key_arn_text key.account key.region key.key) key.created (hyphenated_text lower key.key)
 
 abbrev pub missing_word : Missing → List ℕ
 missing_word missing.Key = codes "key"

@@ -1,20 +1,13 @@
 // A key's description.
-ghost use Rattle.std.specs.Prelude.{◌≡◌, ◌++◌, codes, IfOk, string_bytes};
+ghost use Rattle.std.specs.Prelude.{◌≡◌, IfOk};
 ghost use Rattle.serde_json.specs.View.{view};
 ghost use Rattle.kms_json.specs.Replies.{described_as, metadata};
 
 use crate::objects::{Item, Member, object_of};
 use crate::replies::KeyMetadata;
-use kms_names::{NoMemory, key_text};
+use kms_names::{NoMemory, key_arn, key_text};
 use serde_json::Value;
 use std::alloc::Global;
-
-// The ARN of a key whose id has this text.
-fn arn_text(alloc: Global, region: &str, account: &str, id: &str) -> Result<String, NoMemory>
-    ensures { IfOk result (λ arn. string_bytes arn ≡ codes "arn:aws:kms:" ++ (region.now ++ (codes ":" ++ (account.now ++ (codes ":key/" ++ id.now))))) }
-{
-    Ok(format!(in alloc; "arn:aws:kms:{region}:{account}:key/{id}")?)
-}
 
 // The members of a key's description.
 fn described<'a>(
@@ -51,6 +44,6 @@ pub fn metadata_value(alloc: Global, key: &KeyMetadata) -> Result<Value, NoMemor
 {
     let id = key_text(alloc, &key.key)?;
     let account = key.account.as_str();
-    let arn = arn_text(alloc, key.region.as_str(), account, id.as_str())?;
+    let arn = key_arn(alloc, &key.account, key.region.as_str(), &key.key)?;
     described(alloc, account, arn.as_str(), key.created, id.as_str())
 }

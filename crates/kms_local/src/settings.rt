@@ -10,7 +10,7 @@ ghost use Rattle.kms_local.specs.Settings.{IsSettings, UnlessMemory};
 use crate::words::RunWords;
 use account_core::RealmFacts;
 use hex::FromHex;
-use kms_names::{AccountNumber, NoMemory, Principal, Text, is_region};
+use kms_names::{AccountNumber, NoMemory, Principal, Text, is_region, write_principal};
 use std::alloc::Global;
 
 /// An option of `run`.
@@ -59,8 +59,7 @@ fn read_root(text: &str) -> Option<[u8; 32]>
 fn is_root_of(alloc: Global, text: &str, account: &AccountNumber) -> Result<bool, NoMemory>
     ensures { IfOk result (λ is. IsTrue is ↔ (text.now ≡ principal_text (principal.Root account.now))) }
 {
-    let account = account.as_str();
-    let root = format!(in alloc; "arn:aws:iam::{account}:root")?;
+    let root = write_principal(alloc, &Principal::Root(*account))?;
     Ok(root.as_str() == text)
 }
 

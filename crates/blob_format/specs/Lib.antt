@@ -1,0 +1,3 @@
+pub mod Blob
+pub mod Laws
+pub mod Reading

@@ -1,0 +1,33 @@
+ghost use Rattle.std.specs.Prelude.{◌≡◌, ◌≤◌, length, IfOk};
+ghost use Rattle.blob_format.specs.Blob.{blob_text, IsBlobText};
+
+use crate::places::{FORMAT, OVERHEAD};
+use kms_names::{Bytes, KeyId, NoMemory};
+use std::alloc::Global;
+
+/// The blob of a key's id, a version of at least 1, an initialization vector, a ciphertext of 1 to
+/// 4,096 bytes and its tag.
+#[tactic(auto, unfolding(crate::specs::Blob::blob_text))]
+pub fn write_blob(
+    alloc: Global,
+    key: &KeyId,
+    version: u32,
+    iv: &[u8; 12],
+    text: &[u8],
+    tag: &[u8; 16],
+) -> Result<Bytes, NoMemory>
+    requires version { 1 ≤ version }
+    requires text_given { 1 ≤ length text.now }
+    requires text_fits { length text.now ≤ 4096 }
+    ensures written { IfOk result (λ bytes. bytes ≡ blob_text key.now version iv.now text.now tag.now) }
+    ensures form { IfOk result (λ bytes. IsBlobText bytes key.now version iv.now text.now tag.now) }
+{
+    let mut items = Vec::with_capacity(alloc, OVERHEAD + text.len())?;
+    items.push(FORMAT)?;
+    items.extend_from_slice(key.as_bytes())?;
+    items.extend_from_slice(&version.to_be_bytes())?;
+    items.extend_from_slice(iv)?;
+    items.extend_from_slice(text)?;
+    items.extend_from_slice(tag)?;
+    Ok(Bytes::new(items))
+}
