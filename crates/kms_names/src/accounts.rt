@@ -1,7 +1,8 @@
-ghost use Rattle.std.specs.Prelude.{◌≡◌, ◌↔◌, ℕ, List, IsTrue};
+ghost use Rattle.std.specs.Prelude.{◌≡◌, ◌↔◌, ℕ, List, IsTrue, IfOk};
 ghost use Rattle.std.specs.Option.{SomeIff};
 ghost use Rattle.kms_names.specs.Account.{IsAccountNumber};
 
+use crate::faults::NoMemory;
 use std::marker::Model;
 
 /// An account number: 12 decimal digits. Contracts see it as the list of their 12 bytes.
@@ -27,6 +28,13 @@ fn is_account_number(text: &str) -> bool
 }
 
 impl AccountNumber {
+    /// A copy that equals its source; no memory is taken.
+    pub fn copy(&self) -> Result<AccountNumber, NoMemory>
+        ensures { IfOk result (λ x. x ≡ self.now) }
+    {
+        Ok(*self)
+    }
+
     /// The number that a text is, where it is 12 decimal digits; no memory is taken.
     pub fn read(text: &str) -> Option<AccountNumber>
         ensures { SomeIff result (IsAccountNumber text.now) text.now }

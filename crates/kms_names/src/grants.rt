@@ -30,6 +30,13 @@ impl GrantId {
         GrantId { bytes }
     }
 
+    /// A copy that equals its source; no memory is taken.
+    pub fn copy(&self) -> Result<GrantId, NoMemory>
+        ensures { IfOk result (λ x. x ≡ self.now) }
+    {
+        Ok(*self)
+    }
+
     /// The 32 bytes.
     pub fn as_bytes(&self) -> &[u8; 32]
         ensures { result.now ≡ self.now }

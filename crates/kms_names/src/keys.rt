@@ -29,6 +29,13 @@ impl KeyId {
         KeyId { bytes }
     }
 
+    /// A copy that equals its source; no memory is taken.
+    pub fn copy(&self) -> Result<KeyId, NoMemory>
+        ensures { IfOk result (λ x. x ≡ self.now) }
+    {
+        Ok(*self)
+    }
+
     /// The 16 bytes.
     pub fn as_bytes(&self) -> &[u8; 16]
         ensures { result.now ≡ self.now }

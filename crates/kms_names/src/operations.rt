@@ -1,9 +1,10 @@
-ghost use Rattle.std.specs.Prelude.{◌≡◌, ◌≢◌, ◌↔◌, ◌||◌, [], true, false, not, IsTrue, MatchOption};
+ghost use Rattle.std.specs.Prelude.{◌≡◌, ◌≢◌, ◌↔◌, ◌||◌, [], true, false, not, IsTrue, IfOk, MatchOption};
 ghost use Rattle.std.specs.List.{list_all, list_any};
 ghost use Rattle.kms_names.specs.GrantOps.{all_grant_ops, action_of, grant_op_name, contains, members, IsSubset};
 ghost use Rattle.kms_names.specs.declared.operations.GrantOp.{GrantOp};
 
 use crate::actions::Action;
+use crate::faults::NoMemory;
 
 /// An operation that a grant may permit. The order is that in which they are printed.
 #[derive(Clone, Copy, Debug, PartialEq, Eq, PartialOrd, Ord)]
@@ -91,6 +92,13 @@ pub struct GrantOps {
 }
 
 impl GrantOps {
+    /// A copy that equals its source; no memory is taken.
+    pub fn copy(&self) -> Result<GrantOps, NoMemory>
+        ensures { IfOk result (λ x. x ≡ self.now) }
+    {
+        Ok(*self)
+    }
+
     /// The empty set.
     pub fn new() -> GrantOps
         ensures { members result ≡ [] }

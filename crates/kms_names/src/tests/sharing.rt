@@ -57,3 +57,15 @@ fn want_of_memory_is_answered(rt: HostRuntime) {
         Err(NoMemory) => {}
     }
 }
+
+#[test]
+fn ids_and_sets_are_copied(rt: HostRuntime) -> Result<(), Fail> {
+    let key = KeyId::new([7; 16]);
+    assert!(rt; key.copy()? == key);
+    let grant = GrantId::new([7; 32]);
+    assert!(rt; grant.copy()? == grant);
+    let account = AccountNumber::read("111122223333").ok_or("no account number")?;
+    assert!(rt; account.copy()? == account);
+    assert!(rt; GrantOps::new().copy()?.is_empty());
+    Ok(())
+}
