@@ -21,31 +21,10 @@ use Rattle.account_core.specs.declared.rows.KeyRow.{KeyRow}
 use Rattle.account_core.specs.declared.decide.Decision.{Decision}
 use Rattle.account_core.specs.declared.decide.Decision.TheVariants as decision
 use Rattle.account_core.specs.Ids.{key_id_at}
+use Rattle.account_core.specs.Places.{Places}
+use Rattle.account_core.specs.Steps.{Decided, refuses, appends, decided_by}
+use Rattle.account_core.specs.Reads.{description_of, read_outcome, after_read}
 use Rattle.account_core.specs.History.{replay, moment_of, key_named}
-
--- how many words of its random stream and how many initialization vectors a pass has used
-pub record Places : Type 0 where
-  pub words : ℕ
-  pub ivs : ℕ
-
--- the reply, the entry that the request appends, if any, and the places after it
-pub record Decided : Type 0 where
-  pub reply : Reply
-  pub entry : Option Entry
-  pub places : Places
-
-abbrev pub refuses : Refusal → Places → Decided
-refuses refusal places = record { reply = Refused refusal; entry = None; places = places }
-
-abbrev pub serves : Reply → Places → Decided
-serves reply places = record { reply = reply; entry = None; places = places }
-
-abbrev pub appends : Reply → Entry → Places → Decided
-appends reply entry places = record { reply = reply; entry = Some entry; places = places }
-
--- a key as replies describe it
-abbrev pub description_of : RealmFacts → List ℕ → ℕ → KeyMetadata
-description_of facts key made = record { account = facts.account; region = facts.region; key = key; created = made }
 
 -- the first refusal, or what comes after
 abbrev pub unless_refused : Option Refusal → Places → Decided → Decided
@@ -70,27 +49,22 @@ makes_key facts place moment places =
 abbrev pub decide_create_key : RealmFacts → List Entry → ℕ → Places → Decided
 decide_create_key facts history moment places = unless_refused (keys_full (length (replay history).keys)) places (makes_key facts (length history) moment places)
 
--- the key that was looked up, or that there is none
-abbrev pub describes : RealmFacts → Option KeyRow → Places → Decided
-describes facts None places = refuses (NotFound missing.Key) places
-describes facts (Some row) places = serves (Metadata (description_of facts row.key row.made)) places
-
--- DescribeKey: the key that the reference names
-abbrev pub decide_describe_key : RealmFacts → List Entry → List ℕ → Places → Decided
-decide_describe_key facts history reference places = describes facts (key_named (replay history).keys reference) places
+-- a request that doesn't change the account is answered from the rows of its keys
+abbrev pub decide_read : RealmFacts → List Entry → Principal → AskBody → Places → Decided
+decide_read facts history caller body places = decided_by (read_outcome facts (replay history).keys caller body places) places (after_read body places)
 
 -- an operation at a moment
-abbrev pub decide_body : RealmFacts → List Entry → ℕ → AskBody → Places → Decided
-decide_body facts history moment ask.CreateKey places = decide_create_key facts history moment places
-decide_body facts history moment (ask.DescribeKey key_id) places = decide_describe_key facts history key_id places
+abbrev pub decide_body : RealmFacts → List Entry → Ask → AskBody → Places → Decided
+decide_body facts history x ask.CreateKey places = decide_create_key facts history (moment_of history x.moment) places
+decide_body facts history x body places = decide_read facts history x.caller body places
 
 -- what the account answers to a request at this history, for a pass at these places
 unfoldable pub decide : RealmFacts → List Entry → Ask → Places → Decided
 decide facts history x places =
-    unless_refused (lacking (length history) x.after) places (decide_body facts history (moment_of history x.moment) x.body places)
+    unless_refused (lacking (length history) x.after) places (decide_body facts history x x.body places)
 
 abbrev pub no_places : Places
-no_places = record { words = 0; ivs = 0 }
+no_places = record { number = 1; words = 0; ivs = 0 }
 
 -- the same in the form in which a changing request is answered, which takes no places
 abbrev pub decision_by : Reply → Option Entry → Decision

@@ -39,6 +39,10 @@ moment_of history clock = max clock (latest_of history)
 abbrev pub housekeeping_of : List Entry → ℕ → Option Entry
 housekeeping_of history clock = None
 
+-- the first row of an id
+abbrev pub key_with : List KeyRow → List ℕ → Option KeyRow
+key_with rows id = find (λ row. bytes_eq row.key id) rows
+
 -- the row of the key that a reference names: the first of this hyphenated id
 abbrev pub key_named : List KeyRow → List ℕ → Option KeyRow
-key_named rows reference = option_and_then (λ id. find (λ row. bytes_eq row.key id) rows) (parsed_hyphenated reference)
+key_named rows reference = option_and_then (key_with rows) (parsed_hyphenated reference)

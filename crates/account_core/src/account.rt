@@ -2,9 +2,11 @@
 ghost use Rattle.std.specs.Prelude.{◌≡◌, ◌++◌, ◌∷◌, [], length, true, false, IfOk};
 ghost use Rattle.account_core.specs.History.{keys_after};
 
-use crate::decide::{describe, lacking_entries, make_key, no_more_keys};
-use crate::rows::named_row;
+use crate::decide::{lacking_entries, make_key, no_more_keys};
+use crate::reads::read_body;
+use crate::stops::Stop;
 use crate::{Decision, Entry, KeyRow, RealmFacts, What};
+use draw_lines::DrawLine;
 use kms_json::{Ask, AskBody, Reply};
 use kms_names::NoMemory;
 use std::alloc::Global;
@@ -73,7 +75,9 @@ impl Account {
     ghost use Rattle.std.specs.Prelude.{◌≡◌, ◌++◌, ◌∷◌, [], length, true, false, IfOk};
     ghost use Rattle.kms_json.specs.Asks.{changes_account};
     ghost use Rattle.account_core.specs.History.{latest_of, housekeeping_of};
-    ghost use Rattle.account_core.specs.Decide.{decide, decision_of, no_places, IsNext, IsLawful};
+    ghost use Rattle.std.specs.Prelude.{OnOk, OnErr};
+    ghost use Rattle.account_core.specs.Places.{places_of, line_at, IsLineOf, IsWithin};
+    ghost use Rattle.account_core.specs.Decide.{decide, decision_of, IsProper, IsNext, IsLawful};
 
     /// The account of these facts with no entries.
     pub fn empty(alloc: Global, facts: RealmFacts) -> Result<Account, NoMemory>
@@ -109,20 +113,30 @@ impl Account {
         self.latest
     }
 
-    /// The answer to a request that doesn't change the account.
-    pub fn decide_read(&self, alloc: Global, ask: &Ask) -> Result<Reply, NoMemory>
-        requires { changes_account ask.now.body ≡ false }
-        ensures { IfOk result (λ reply. reply ≡ (decide self.now.facts self.now.entries ask.now no_places).reply) }
+    /// The answer to a request that doesn't change the account, for a pass whose line of draws this is.
+    ///
+    /// A request that is served takes what it uses of the line: a sealed text one initialization vector,
+    /// and a draw the whole words that hold it. Without memory at most so much is taken.
+    pub fn decide_read(
+        &self,
+        alloc: Global,
+        ask: &Ask,
+        places: &mut DrawLine,
+    ) -> Result<Reply, NoMemory>
+        requires proper { IsProper self.now.facts ask.now }
+        requires reads { changes_account ask.now.body ≡ false }
+        requires line { IsLineOf self.now.facts places.old }
+        ensures answer { IfOk result (λ reply. reply ≡ (decide self.now.facts self.now.entries ask.now (places_of places.old)).reply) }
+        ensures used { OnOk result (places.new ≡ line_at places.old (decide self.now.facts self.now.entries ask.now (places_of places.old)).places) }
+        ensures within { OnErr result (IsWithin places.old places.new (decide self.now.facts self.now.entries ask.now (places_of places.old)).places) }
     {
         if let Some(refusal) = lacking_entries(self.entries.len() as u64, ask.after) {
             return Ok(Reply::Refused(refusal));
         }
-        match &ask.body {
-            AskBody::CreateKey => unreachable!(),
-            AskBody::DescribeKey { key_id } => {
-                let row = named_row(&self.keys, key_id.as_str());
-                describe(alloc, &self.facts, row)
-            }
+        match read_body(alloc, &self.facts, &self.keys, ask, places) {
+            Ok(reply) => Ok(reply),
+            Err(Stop::Refused(refusal)) => Ok(Reply::Refused(refusal)),
+            Err(Stop::NoMemory) => Err(NoMemory),
         }
     }
 
@@ -142,7 +156,13 @@ impl Account {
                 }
                 make_key(alloc, &self.facts, place, ask.moment.max(self.latest))
             }
-            AskBody::DescribeKey { .. } => unreachable!(),
+            AskBody::DescribeKey { .. }
+            | AskBody::Encrypt(_)
+            | AskBody::Decrypt(_)
+            | AskBody::ReEncrypt(_)
+            | AskBody::GenerateDataKey { .. }
+            | AskBody::GenerateDataKeyWithoutPlaintext(_)
+            | AskBody::GenerateRandom { .. } => unreachable!(),
         }
     }
 

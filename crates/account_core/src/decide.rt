@@ -1,12 +1,12 @@
 // The steps of a decision, over what the account keeps.
 ghost use Rattle.std.specs.Prelude.{◌≡◌, IfOk};
-ghost use Rattle.std.specs.Option.{option_map};
 ghost use Rattle.kms_json.specs.declared.replies.Reply.TheVariants as Reply;
-ghost use Rattle.account_core.specs.Decide.{description_of, describes, makes_key, lacking, keys_full, decision_by, no_places};
+ghost use Rattle.account_core.specs.Reads.{description_of};
+ghost use Rattle.account_core.specs.Decide.{makes_key, lacking, keys_full, decision_by, no_places};
 
 use crate::ids::key_id;
-use crate::{Entry, KeyRow, RealmFacts, What};
-use kms_json::{KeyMetadata, Limit, Missing, Refusal, Reply};
+use crate::{Entry, RealmFacts, What};
+use kms_json::{KeyMetadata, Limit, Refusal, Reply};
 use kms_names::{KeyId, NoMemory, Text};
 use std::alloc::Global;
 
@@ -45,7 +45,13 @@ pub fn no_more_keys(keys: usize) -> Option<Refusal>
     }
 }
 
-fn description(alloc: Global, facts: &RealmFacts, key: KeyId, made: u64) -> Result<Reply, NoMemory>
+/// A key as replies describe it.
+pub fn description(
+    alloc: Global,
+    facts: &RealmFacts,
+    key: KeyId,
+    made: u64,
+) -> Result<Reply, NoMemory>
     ensures { IfOk result (λ reply. reply ≡ Reply.Metadata (description_of facts.now key made)) }
 {
     Ok(Reply::Metadata(KeyMetadata {
@@ -54,16 +60,6 @@ fn description(alloc: Global, facts: &RealmFacts, key: KeyId, made: u64) -> Resu
         key,
         created: made,
     }))
-}
-
-/// The answer about a key that was looked up.
-pub fn describe(alloc: Global, facts: &RealmFacts, row: Option<&KeyRow>) -> Result<Reply, NoMemory>
-    ensures { IfOk result (λ reply. reply ≡ (describes facts.now (option_map (λ row. row.now) row.entry) no_places).reply) }
-{
-    match row {
-        None => Ok(Reply::Refused(Refusal::NotFound(Missing::Key))),
-        Some(row) => description(alloc, facts, row.key, row.made),
-    }
 }
 
 /// The entry that makes a key at this place, with the reply.

@@ -1,8 +1,10 @@
 // Ids of what the history makes.
 ghost use Rattle.std.specs.Prelude.{◌≡◌, ◌+◌, ◌≤◌, ◌++◌, length, take};
 ghost use Rattle.account_core.specs.Ids.{be48, key_id_at};
+ghost use Rattle.account_core.specs.Places.{first_line};
 
 use crate::RealmFacts;
+use draw_lines::DrawLine;
 use kms_names::KeyId;
 use mac_sha::Mac;
 
@@ -38,4 +40,16 @@ pub fn key_id(facts: &RealmFacts, place: u64) -> KeyId
     write_at(&mut id, 0, &digest[..10]);
     write_at(&mut id, 10, &place);
     KeyId::new(id)
+}
+
+/// The line of draws of the pass of this number, which has drawn nothing. It takes no memory.
+#[tactic(auto, unfolding(crate::specs::Ids::draw_seed))]
+pub fn draw_line(facts: &RealmFacts, number: u16) -> DrawLine
+    ensures { result ≡ first_line facts.now number }
+{
+    let mut mac = Mac::new(&facts.root);
+    mac.add(b"draw");
+    mac.add(&facts.boot.to_be_bytes());
+    mac.add(&number.to_be_bytes());
+    DrawLine::new(&mac.end(), facts.boot, number)
 }

@@ -5,14 +5,22 @@
 #![tactic(auto)]
 
 mod account;
+mod checks;
+mod crypto;
 mod decide;
 mod entries;
 mod facts;
 mod ids;
+mod laws;
+mod reads;
 mod rows;
+mod sources;
+mod stops;
 
 pub use account::Account;
 pub use decide::Decision;
 pub use entries::{Entry, What};
 pub use facts::RealmFacts;
+pub use ids::draw_line;
+pub use laws::{one_pass_repeats_no_iv, sealed_is_decrypted_again};
 pub use rows::KeyRow;

@@ -1,8 +1,8 @@
 // Rows that the entries make.
-ghost use Rattle.std.specs.Prelude.{◌≡◌, find};
+ghost use Rattle.std.specs.Prelude.{◌≡◌};
 ghost use Rattle.std.specs.Option.{option_map};
 ghost use Rattle.std.specs.Str.{bytes_eq};
-ghost use Rattle.account_core.specs.History.{key_named};
+ghost use Rattle.account_core.specs.History.{key_named, key_with};
 
 use kms_names::{KeyId, read_key_id};
 
@@ -17,15 +17,16 @@ pub struct KeyRow {
     pub made: u64,
 }
 
-fn same_key(key: &KeyId, other: &KeyId) -> bool
+/// Whether two ids are the same. It takes no memory.
+pub fn same_key(key: &KeyId, other: &KeyId) -> bool
     ensures { result ≡ bytes_eq key.now other.now }
 {
     key.as_bytes().as_slice() == other.as_bytes().as_slice()
 }
 
-// The first row of a key.
-fn row_of<'a>(rows: &'a [KeyRow], key: &KeyId) -> Option<&'a KeyRow>
-    ensures { option_map (λ row. row.now) result ≡ find (λ row. bytes_eq row.key key.now) rows.now }
+/// The first row of a key. It takes no memory, and its time grows with the number of keys.
+pub fn row_of<'a>(rows: &'a [KeyRow], key: &KeyId) -> Option<&'a KeyRow>
+    ensures { option_map (λ row. row.now) result ≡ key_with rows.now key.now }
 {
     for row in rows {
         if same_key(&row.key, key) {

@@ -1,1 +1,5 @@
 mod BodyLemmas
+mod ContextLemmas
+mod ValueLemmas
+mod BuildLemmas
+pub mod Sizes

@@ -2,7 +2,74 @@
 ghost use Rattle.std.specs.Prelude.{◌≡◌};
 ghost use Rattle.kms_json.specs.Asks.{changes_account};
 
-use kms_names::{NoMemory, Principal, Text};
+use enc_context::Context;
+use kms_names::{Bytes, NoMemory, Principal, Text};
+
+/// What Encrypt takes (AWS KMS API Reference, Encrypt).
+#[derive(Debug, Drop)]
+pub struct Encrypt {
+    /// The reference to the key, a text of 1 to 2,048 bytes.
+    pub key_id: Text,
+    /// The bytes to be sealed, 1 to 4,096.
+    pub plaintext: Bytes,
+    /// The encryption context; one that isn't given has no pairs.
+    pub context: Context,
+    /// The algorithm, where it is given.
+    pub algorithm: Option<Text>,
+    /// Whether the call is only to say what it would answer.
+    pub dry_run: bool,
+}
+
+/// What Decrypt takes (AWS KMS API Reference, Decrypt).
+#[derive(Debug, Drop)]
+pub struct Decrypt {
+    /// The sealed text, 1 to 6,144 bytes.
+    pub blob: Bytes,
+    /// The encryption context; one that isn't given has no pairs.
+    pub context: Context,
+    /// The reference to the key, where it is given: a text of 1 to 2,048 bytes.
+    pub key_id: Option<Text>,
+    /// The algorithm, where it is given.
+    pub algorithm: Option<Text>,
+    /// Whether a recipient is given.
+    pub recipient: bool,
+    /// Whether the call is only to say what it would answer.
+    pub dry_run: bool,
+}
+
+/// What ReEncrypt takes (AWS KMS API Reference, ReEncrypt).
+#[derive(Debug, Drop)]
+pub struct ReEncrypt {
+    /// The sealed text, 1 to 6,144 bytes.
+    pub blob: Bytes,
+    /// The encryption context that it was sealed under.
+    pub source_context: Context,
+    /// The reference to the key that it was sealed under, where it is given: a text of 1 to 2,048 bytes.
+    pub source_key_id: Option<Text>,
+    /// The reference to the key to seal it under, a text of 1 to 2,048 bytes.
+    pub key_id: Text,
+    /// The encryption context to seal it under.
+    pub context: Context,
+    /// The algorithm that it was sealed by, where it is given.
+    pub source_algorithm: Option<Text>,
+    /// The algorithm to seal it by, where it is given.
+    pub algorithm: Option<Text>,
+    /// Whether the call is only to say what it would answer.
+    pub dry_run: bool,
+}
+
+/// What a request for a data key takes (AWS KMS API Reference, GenerateDataKey).
+#[derive(Debug, Drop)]
+pub struct DataKey {
+    /// The reference to the key that the data key is sealed under, a text of 1 to 2,048 bytes.
+    pub key_id: Text,
+    /// The encryption context; one that isn't given has no pairs.
+    pub context: Context,
+    /// How many bytes the data key has, 1 to 1,024.
+    pub size: u64,
+    /// Whether the call is only to say what it would answer.
+    pub dry_run: bool,
+}
 
 /// An operation with its fields.
 #[derive(Debug, Drop)]
@@ -10,7 +77,28 @@ pub enum AskBody {
     /// CreateKey.
     CreateKey,
     /// DescribeKey of the key that `key_id` refers to, a text of 1 to 2,048 bytes.
-    DescribeKey { key_id: Text },
+    DescribeKey {
+        key_id: Text,
+    },
+    /// Encrypt.
+    Encrypt(Encrypt),
+    /// Decrypt.
+    Decrypt(Decrypt),
+    /// ReEncrypt.
+    ReEncrypt(ReEncrypt),
+    /// GenerateDataKey, and whether a recipient is given.
+    GenerateDataKey {
+        key: DataKey,
+        recipient: bool,
+    },
+    /// GenerateDataKeyWithoutPlaintext.
+    GenerateDataKeyWithoutPlaintext(DataKey),
+    /// GenerateRandom of 1 to 1,024 bytes, and whether a custom key store and a recipient are given.
+    GenerateRandom {
+        size: u64,
+        custom_key_store: bool,
+        recipient: bool,
+    },
 }
 
 /// A request as the account is asked it.
@@ -36,7 +124,13 @@ impl Ask {
     {
         match self.body {
             AskBody::CreateKey => true,
-            AskBody::DescribeKey { .. } => false,
+            AskBody::DescribeKey { .. }
+            | AskBody::Encrypt(_)
+            | AskBody::Decrypt(_)
+            | AskBody::ReEncrypt(_)
+            | AskBody::GenerateDataKey { .. }
+            | AskBody::GenerateDataKeyWithoutPlaintext(_)
+            | AskBody::GenerateRandom { .. } => false,
         }
     }
 }

@@ -2,11 +2,14 @@
 ghost use Rattle.std.specs.Prelude.{◌≡◌, IfOk, IfErr, true, false};
 ghost use Rattle.std.specs.Option.{option_map};
 ghost use Rattle.serde_json.specs.View.{view};
-ghost use Rattle.kms_json.specs.Asks.{body_data, body_of, asked, AnswersFor};
+ghost use Rattle.kms_json.specs.Asks.{body_data, asked, asked_of_values, AnswersFor};
+ghost use Rattle.kms_json.specs.Fields.{values_of};
+ghost use Rattle.kms_json.specs.Operations.{fields_of};
 ghost use Rattle.kms_json.specs.declared.asks.JsonFault.TheVariants.{NoMemory as OutOfMemory};
 
 use crate::asks::{AskBody, JsonFault};
-use crate::fields::{any_wrong_type, first_fault, text_member};
+use crate::building::asked_from;
+use crate::fields::{first_fault, read_values};
 use crate::operations::{Operation, fields, operation_of};
 use kms_names::{NoMemory, Text};
 use serde_json::{Map, Value};
@@ -26,17 +29,18 @@ fn read_body(alloc: Global, body: &[u8]) -> Result<Option<Value>, NoMemory>
     }
 }
 
-// The operation with the fields that the body gives it.
-fn body_asked(alloc: Global, operation: Operation, body: &Value) -> Result<AskBody, NoMemory>
-    ensures { IfOk result (λ b. b ≡ body_of operation (view body.now)) }
+// What an object asks of an operation.
+fn asked_of_object(alloc: Global, operation: Operation, body: &Value) -> Result<AskBody, JsonFault>
+    ensures { AnswersFor (asked_of_values operation (view body.now) (values_of (fields_of operation) (view body.now))) result }
 {
-    match operation {
-        Operation::CreateKey => Ok(AskBody::CreateKey),
-        Operation::DescribeKey => {
-            let key_id = Text::from_str(alloc, text_member(body, "KeyId"))?;
-            Ok(AskBody::DescribeKey { key_id })
-        }
+    let fields = fields(operation);
+    let Some(values) = read_values(alloc, fields, body)? else {
+        return Err(JsonFault::Serialization);
+    };
+    if let Some(name) = first_fault(fields, body, &values) {
+        return Err(JsonFault::Validation(Text::from_str(alloc, name)?));
     }
+    Ok(asked_from(alloc, operation, values)?)
 }
 
 /// What a request asks whose header X-Amz-Target has the value `target` (AWS KMS API Reference,
@@ -59,12 +63,5 @@ pub fn read_ask(alloc: Global, target: &[u8], body: &[u8]) -> Result<AskBody, Js
     if !value.is_object() {
         return Err(JsonFault::Serialization);
     }
-    let fields = fields(operation);
-    if any_wrong_type(fields, &value) {
-        return Err(JsonFault::Serialization);
-    }
-    if let Some(name) = first_fault(fields, &value) {
-        return Err(JsonFault::Validation(Text::from_str(alloc, name)?));
-    }
-    Ok(body_asked(alloc, operation, &value)?)
+    asked_of_object(alloc, operation, &value)
 }

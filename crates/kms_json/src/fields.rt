@@ -1,93 +1,146 @@
-// Fields of a request's body, judged by their types and then by their values.
-ghost use Rattle.std.specs.Prelude.{◌≡◌, map};
-ghost use Rattle.std.specs.Option.{option_map};
+// Fields of a request's body, read in their order and then judged in it.
+ghost use Rattle.std.specs.Prelude.{◌≡◌, map, length, IfOk, option_map};
+ghost use Rattle.std.specs.Str.{bytes_eq};
 ghost use Rattle.serde_json.specs.Find.{get};
 ghost use Rattle.serde_json.specs.View.{view};
-ghost use Rattle.kms_json.specs.Fields.{row_of, is_given, has_type, is_valid, has_wrong_type, first_invalid, text_at};
+ghost use Rattle.kms_json.specs.Fields.{row_of, wanted_by, fits, may_be_absent, may_be_given, is_valid, values_of, first_invalid, is_data_key_spec, is_some_between};
 
+use crate::given::{Given, is_given, value_given};
+use kms_names::NoMemory;
 use serde_json::Value;
+use std::alloc::Global;
+use std::collections::VecDeque;
 
 /// What the value of a field may be.
 #[derive(Clone, Copy, Debug, PartialEq, Eq)]
 pub enum Kind {
     /// A text of so many bytes of UTF-8.
     Text { least: usize, most: usize },
+    /// A text of any size.
+    AnyText,
+    /// The name of a data key's spec.
+    DataKeySpec,
+    /// So many bytes, as the text of their base64.
+    Bytes { least: usize, most: usize },
+    /// Texts by texts, of at most 8,192 encoded bytes.
+    Context,
+    /// A whole number from the least to the most.
+    Whole { least: u64, most: u64 },
+    /// A truth value.
+    Flag,
+    /// An object.
+    Object,
     /// Nothing: the field isn't built yet.
     NotBuilt,
 }
 
-/// A field of a request's body.
+/// Whether a field is to be given.
+#[derive(Clone, Copy, Debug)]
+pub enum Presence {
+    /// It is.
+    Required,
+    /// It may be.
+    Optional,
+    /// Exactly one of it and the field of this other name is.
+    InsteadOf(&'static str),
+}
+
+/// A field of a request's body: its name, what its value may be, and whether it is to be given.
 #[derive(Clone, Copy)]
-pub struct Field {
-    pub name: &'static str,
-    pub kind: Kind,
-    pub required: bool,
+pub struct Field(pub &'static str, pub Kind, pub Presence);
+
+fn is_spec(name: &str) -> bool
+    ensures { result ≡ is_data_key_spec name.now }
+{
+    name == "AES_256" || name == "AES_128"
 }
 
-fn given(value: Option<&Value>) -> bool
-    ensures { result ≡ is_given (option_map (λ v. view v.now) value.entry) }
+fn number_between(least: u64, most: u64, number: Option<u64>) -> bool
+    ensures { result ≡ is_some_between least most number }
 {
-    match value {
-        None | Some(Value::Null) => false,
-        Some(_) => true,
+    match number {
+        Some(n) => least <= n && n <= most,
+        None => false,
     }
 }
 
-fn fits_type(kind: Kind, value: Option<&Value>) -> bool
-    ensures { result ≡ has_type kind (option_map (λ v. view v.now) value.entry) }
+// Whether a value that is given keeps to its kind's bounds.
+fn fits(kind: Kind, value: &Given) -> bool
+    ensures { result ≡ fits kind value.now }
 {
     match kind {
-        Kind::NotBuilt => true,
-        Kind::Text { .. } => match value {
-            None | Some(Value::Null) | Some(Value::String(_)) => true,
-            Some(_) => false,
-        },
+        Kind::Text { least, most } => {
+            let size = value.text().len();
+            least <= size && size <= most
+        }
+        Kind::Bytes { least, most } => {
+            let size = value.bytes().len();
+            least <= size && size <= most
+        }
+        Kind::Whole { least, most } => number_between(least, most, value.whole()),
+        Kind::Context => value.has_context(),
+        Kind::DataKeySpec => is_spec(value.text()),
+        Kind::AnyText | Kind::Flag | Kind::Object => true,
+        Kind::NotBuilt => false,
     }
 }
 
-fn fits_value(kind: Kind, required: bool, value: Option<&Value>) -> bool
-    ensures { result ≡ is_valid kind required (option_map (λ v. view v.now) value.entry) }
+fn may_be_absent(presence: Presence, body: &Value) -> bool
+    ensures { result ≡ may_be_absent (wanted_by presence) (view body.now) }
 {
-    match kind {
-        Kind::NotBuilt => !given(value),
-        Kind::Text { least, most } => match value {
-            None | Some(Value::Null) => !required,
-            Some(Value::String(text)) => least <= text.len() && text.len() <= most,
-            Some(_) => false,
-        },
+    match presence {
+        Presence::Required => false,
+        Presence::Optional => true,
+        Presence::InsteadOf(other) => is_given(body.get(other)),
     }
 }
 
-/// Whether some field that is given has another type than its kind's.
-pub fn any_wrong_type(fields: &[Field], body: &Value) -> bool
-    ensures { result ≡ has_wrong_type (map row_of fields.now) (view body.now) }
+fn may_be_given(presence: Presence, body: &Value) -> bool
+    ensures { result ≡ may_be_given (wanted_by presence) (view body.now) }
 {
+    match presence {
+        Presence::Required | Presence::Optional => true,
+        Presence::InsteadOf(other) => !is_given(body.get(other)),
+    }
+}
+
+fn valid(field: &Field, body: &Value, value: &Given) -> bool
+    ensures { result ≡ is_valid (row_of field.now) (view body.now) value.now }
+{
+    if value.is_absent() {
+        may_be_absent(field.2, body)
+    } else {
+        may_be_given(field.2, body) && fits(field.1, value)
+    }
+}
+
+/// The values of the fields in their order, or none where a member has another type than its field.
+pub fn read_values(
+    alloc: Global,
+    fields: &[Field],
+    body: &Value,
+) -> Result<Option<VecDeque<Given>>, NoMemory>
+    ensures { IfOk result (λ values. option_map (λ v. v.items) values ≡ values_of (map row_of fields.now) (view body.now)) }
+{
+    let mut values = VecDeque::new(alloc);
     for field in fields {
-        if !fits_type(field.kind, body.get(field.name)) {
-            return true;
+        match value_given(alloc, field.1, body.get(field.0))? {
+            Some(value) => values.push_back(value)?,
+            None => return Ok(None),
         }
     }
-    false
+    Ok(Some(values))
 }
 
-/// The name of the first field that isn't valid.
-pub fn first_fault(fields: &[Field], body: &Value) -> Option<&'static str>
-    ensures { option_map (λ name. name.now) result ≡ first_invalid (map row_of fields.now) (view body.now) }
+/// The name of the first field whose value isn't valid.
+pub fn first_fault(fields: &[Field], body: &Value, values: &VecDeque<Given>) -> Option<&'static str>
+    requires { length values.now.items ≡ length fields.now }
+    ensures { option_map (λ name. name.now) result ≡ first_invalid (map row_of fields.now) (view body.now) values.now.items }
 {
-    for field in fields {
-        if !fits_value(field.kind, field.required, body.get(field.name)) {
-            return Some(field.name);
+    for (i, field) in fields.iter().enumerate() {
+        if !valid(field, body, &values[i]) {
+            return Some(field.0);
         }
     }
     None
-}
-
-/// The text of a member, or the empty text where it is no text.
-pub fn text_member<'a>(body: &'a Value, name: &str) -> &'a str
-    ensures { result.now ≡ text_at name.now (view body.now) }
-{
-    match body.get(name) {
-        Some(Value::String(text)) => text.as_str(),
-        _ => "",
-    }
 }

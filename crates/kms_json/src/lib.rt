@@ -5,14 +5,16 @@
 
 mod asks;
 mod bodies;
+mod building;
 mod fields;
+mod given;
 mod metadata;
 mod objects;
 mod operations;
 mod replies;
 mod writing;
 
-pub use asks::{Ask, AskBody, JsonFault};
+pub use asks::{Ask, AskBody, DataKey, Decrypt, Encrypt, JsonFault, ReEncrypt};
 pub use bodies::read_ask;
-pub use replies::{KeyMetadata, Limit, Missing, Refusal, Reply};
+pub use replies::{KeyMetadata, Limit, Missing, Refusal, Reply, Unsupported};
 pub use writing::write_reply;

@@ -1,8 +1,9 @@
 -- Replies that were written, whole or cut short.
-use Rattle.std.proofs.Common.{◌≡◌, ℕ, List, ◌++◌, length, Bool, true, false, Option, None, Some, refl, sym, ap, ap₂, ◌∙◌, subst}
+use Rattle.std.proofs.Common.{◌≡◌, ℕ, List, ◌++◌, length, Bool, true, false, Option, None, Some, refl, sym, ap, ap₂, ◌∙◌, subst, arith}
 use Rattle.std.specs.Bool.{MatchBool}
 use Rattle.kms_io.specs.Wire.{Wire}
 use Rattle.kms_io.specs.Link.{Sends}
+use Rattle.account_core.proofs.GoingOn.{decide_goes_on}
 use Rattle.kms_local.specs.declared.pass.Answered.{Answered}
 use Rattle.kms_local.specs.Head.{IsHead}
 use Rattle.kms_json.specs.declared.asks.Ask.{Ask}
@@ -14,8 +15,8 @@ use Rattle.account_core.specs.Decide.{decide}
 use Rattle.kms_local.specs.declared.trust.Trust.{Trust}
 use Rattle.kms_local.specs.Message.{Message, target_in}
 use Rattle.kms_local.specs.Answers.{Answer, answer_in, answer_of, IsReplyText, five_hundred}
-use Rattle.kms_local.specs.Pass.{Pass, Meets, Reads, Changes, making_any, entries_of}
-use Rattle.kms_local.specs.Run.{Plan, asks, plan_of, planned, whole, Answers, early, reads, changes, Replies, answers, wants_memory}
+use Rattle.kms_local.specs.Pass.{Pass, Reads, Wants, Changes, making_any, entries_of}
+use Rattle.kms_local.specs.Run.{Plan, answered, asks, plan_of, planned, whole, Wanting, Answers, early, reads, changes, Replies, answers, wants_memory}
 use Rattle.kms_local.specs.Session.{SendsShort, Responds, RespondsShort}
 use Rattle.kms_local.specs.Replying.{SendsReply, SendsReplyShort, Gives}
 use Rattle.kms_local.proofs.Wires.{sends_on, sends_short_after, sends_short_before}
@@ -52,8 +53,30 @@ replied true s plan answer second front closes old new t is at reply =
 replied false s plan answer second front closes old new t is at reply =
     record { text = reply.text; replies = answers answer is (subst (λ (n : ℕ). IsReplyText answer second n closes reply.text) at reply.is); short = reply.short }
 
+-- a pass that holds what it held has used nothing
+pub wants_none : (s t : Pass) (x : Ask) → t ≡ s → Wants s x t
+wants_none s t x same =
+    let goes = decide_goes_on s.facts (entries_of s.history) x s.places in
+    record {
+      met = s;
+      seen = refl;
+      places = s.places;
+      used = same;
+      at_most = record {
+        number = refl;
+        words_from = omega arith;
+        words_to = goes.words_from;
+        ivs_from = omega arith;
+        ivs_to = goes.ivs_from;
+      };
+    }
+
+pub wanting_none : (s t : Pass) (plan : Plan) → t ≡ s → Wanting s plan t
+wanting_none s t (answered answer) same = same
+wanting_none s t (asks x) same = wants_none s t x same
+
 -- a reply for want of memory
-pub wanted : (sent : Bool) (s : Pass) (plan : Plan) (second : ℕ) (closes : Bool) (old new : Wire) (t : Pass) → Meets s t
+pub wanted : (sent : Bool) (s : Pass) (plan : Plan) (second : ℕ) (closes : Bool) (old new : Wire) (t : Pass) → Wanting s plan t
     → MatchBool sent (Sends old new five_hundred) (SendsShort old new five_hundred)
     → MatchBool sent (Responds s plan second closes old new t) (RespondsShort s plan second closes old new t)
 wanted true s plan second closes old new t is reply = record { text = five_hundred; replies = wants_memory is refl; sends = reply }
@@ -89,12 +112,16 @@ any_facts s t (Some entry) is = ap (λ (p : Pass). p.facts) is
 -- the facts stay
 facts_answered : {s t : Pass} {plan : Plan} {answer : Answer} → Answers s plan answer t → t.facts ≡ s.facts
 facts_answered (early is same) = ap (λ (p : Pass). p.facts) same
-facts_answered (reads x reply is which h has) = ap (λ (p : Pass). p.facts) h.seen
+facts_answered (reads x reply is which h has) = ap (λ (p : Pass). p.facts) h.used ∙ ap (λ (p : Pass). p.facts) h.seen
 facts_answered {t = t} (changes x reply is which h has) =
     let house = housekeeping_of (entries_of h.met.history) x.moment in
     let entry = (decide h.kept.facts (entries_of h.kept.history) x h.kept.places).entry in
     any_facts h.kept t entry h.made ∙ any_facts h.met h.kept house h.house ∙ ap (λ (p : Pass). p.facts) h.seen
 
+facts_wanting : (s t : Pass) (plan : Plan) → Wanting s plan t → t.facts ≡ s.facts
+facts_wanting s t (answered answer) is = ap (λ (p : Pass). p.facts) is
+facts_wanting s t (asks x) is = ap (λ (p : Pass). p.facts) is.used ∙ ap (λ (p : Pass). p.facts) is.seen
+
 pub facts_kept : {s t : Pass} {plan : Plan} {c : ℕ} {closes : Bool} {text : List ℕ} → Replies s plan c closes text t → t.facts ≡ s.facts
 facts_kept (answers answer is text) = facts_answered is
-facts_kept (wants_memory is text) = ap (λ (p : Pass). p.facts) is
+facts_kept {s = s} {t = t} {plan = plan} (wants_memory is text) = facts_wanting s t plan is

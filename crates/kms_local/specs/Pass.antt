@@ -5,7 +5,8 @@ use Rattle.kms_json.specs.declared.replies.Reply.{Reply}
 use Rattle.account_core.specs.declared.facts.RealmFacts.{RealmFacts}
 use Rattle.account_core.specs.declared.entries.Entry.{Entry}
 use Rattle.account_core.specs.History.{housekeeping_of}
-use Rattle.account_core.specs.Decide.{Places, no_places, decide}
+use Rattle.account_core.specs.Places.{Places, IsUpTo}
+use Rattle.account_core.specs.Decide.{no_places, decide}
 
 -- its number, the history that it has seen with the number of the pass that made each entry, the places of its own
 -- entries, and what it has used of its random stream and its initialization vectors
@@ -40,10 +41,24 @@ making_any s (Some entry) = making s entry
 abbrev pub Meets : Pass → Pass → Type 0
 Meets s u = u ≡ s
 
--- a request that doesn't change the account is answered at what the pass then holds
+-- the pass at other places
+abbrev pub at_places : Pass → Places → Pass
+at_places s places = record { facts = s.facts; number = s.number; history = s.history; own = s.own; places = places }
+
+-- a request that doesn't change the account is answered at what the pass then holds, and uses what its answer uses
 pub record Reads (s : Pass) (x : Ask) (reply : Reply) (t : Pass) : Type 0 where
-  pub seen : Meets s t
-  pub answer : reply ≡ (decide t.facts (entries_of t.history) x s.places).reply
+  pub met : Pass
+  pub seen : Meets s met
+  pub answer : reply ≡ (decide met.facts (entries_of met.history) x met.places).reply
+  pub used : t ≡ at_places met (decide met.facts (entries_of met.history) x met.places).places
+
+-- a request that is answered for want of memory uses at most what its answer would use
+pub record Wants (s : Pass) (x : Ask) (t : Pass) : Type 0 where
+  pub met : Pass
+  pub seen : Meets s met
+  pub places : Places
+  pub used : t ≡ at_places met places
+  pub at_most : IsUpTo met.places places (decide met.facts (entries_of met.history) x met.places).places
 
 -- housekeeping comes first, then the decision, whose entry is the last of the history
 pub record Changes (s : Pass) (x : Ask) (reply : Reply) (t : Pass) : Type 0 where
@@ -55,5 +70,9 @@ pub record Changes (s : Pass) (x : Ask) (reply : Reply) (t : Pass) : Type 0 wher
   pub answer : reply ≡ (decide kept.facts (entries_of kept.history) x kept.places).reply
 
 -- the one pass of a service, which made every entry
-abbrev pub one_pass : RealmFacts → List Entry → Pass
-one_pass facts entries = record { facts = facts; number = 1; history = made_by 1 entries; own = first_places (length entries); places = no_places }
+abbrev pub one_pass : RealmFacts → List Entry → Places → Pass
+one_pass facts entries places = record { facts = facts; number = 1; history = made_by 1 entries; own = first_places (length entries); places = places }
+
+-- it has made nothing and used nothing
+abbrev pub first_pass : RealmFacts → Pass
+first_pass facts = one_pass facts [] no_places

@@ -10,7 +10,7 @@ use Rattle.kms_local.specs.declared.settings.RunOption.{RunOption}
 use Rattle.kms_local.specs.declared.settings.RunOption.TheVariants.{Account, Region, Root, As}
 use Rattle.kms_local.specs.declared.session.SessionEnd.{SessionEnd}
 use Rattle.kms_local.specs.declared.session.SessionEnd.TheVariants.{Ended, Closed, CutOff, ReadFault, WriteFault, NoMemory}
-use Rattle.kms_local.specs.Pass.{Pass, one_pass}
+use Rattle.kms_local.specs.Pass.{Pass, first_pass}
 use Rattle.kms_local.specs.Session.{outside, SendsShort, EndsBy}
 use Rattle.kms_local.specs.Words.{Command, command_of}
 use Rattle.kms_local.specs.Settings.{IsSettings, IsRefusedAt}
@@ -43,7 +43,7 @@ status_of_end NoMemory = 7
 -- one session is served from an empty history, and ends so
 pub record Serving (facts : RealmFacts) (trust : Trust) (end : SessionEnd) (old : Wire) (told : Option (List ℕ)) (new : Wire) (later : Option (List ℕ)) : Type 0 where
   pub pass : Pass
-  pub ends : EndsBy trust end (outside old told (one_pass facts [])) (outside new later pass)
+  pub ends : EndsBy trust end (outside old told (first_pass facts)) (outside new later pass)
 
 -- the values have their forms, and a session was served
 pub record Serves (command : Command) (status : ℕ) (old : Wire) (told : Option (List ℕ)) (new : Wire) (later : Option (List ℕ)) : Type 0 where

@@ -12,7 +12,7 @@ use Rattle.kms_local.specs.declared.trust.Trust.{Trust}
 use Rattle.kms_local.specs.declared.trust.Trust.TheVariants.{Word}
 use Rattle.kms_local.specs.Message.{Message, IsMessage, IsHopeless, target_in}
 use Rattle.kms_local.specs.Answers.{Answer, answer_of, fault_answer, IsReplyText, five_hundred}
-use Rattle.kms_local.specs.Pass.{Pass, Reads, Changes, Meets}
+use Rattle.kms_local.specs.Pass.{Pass, Reads, Changes, Wants}
 
 -- what is answered: a message, or bytes that no message begins with
 pub data Item : Type 0 where
@@ -47,11 +47,15 @@ pub data Answers (s : Pass) (plan : Plan) (answer : Answer) (t : Pass) : Type 0 
   reads : (x : Ask) (reply : Reply) → plan ≡ asks x → changes_account x.body ≡ false → Reads s x reply t → answer ≡ answer_of reply → Answers s plan answer t
   changes : (x : Ask) (reply : Reply) → plan ≡ asks x → changes_account x.body ≡ true → Changes s x reply t → answer ≡ answer_of reply → Answers s plan answer t
 
--- The plan is answered, with the number of entries that the answer stands on, or the reply is the one for want of memory, and
--- the pass holds what it held.
+-- what a pass holds after the reply for want of memory: what it held, but for what a request of the account may have used
+abbrev pub Wanting : Pass → Plan → Pass → Type 0
+Wanting s (answered answer) t = t ≡ s
+Wanting s (asks x) t = Wants s x t
+
+-- The plan is answered, with the number of entries that the answer stands on, or the reply is the one for want of memory.
 pub data Replies (s : Pass) (plan : Plan) (c : ℕ) (closes : Bool) (text : List ℕ) (t : Pass) : Type 0 where
   answers : (answer : Answer) → Answers s plan answer t → IsReplyText answer c (length t.history) closes text → Replies s plan c closes text t
-  wants_memory : Meets s t → text ≡ five_hundred → Replies s plan c closes text t
+  wants_memory : Wanting s plan t → text ≡ five_hundred → Replies s plan c closes text t
 
 -- one turn of a session
 abbrev pub Turn : Pass → Trust → Item → ℕ → Bool → List ℕ → Pass → Type 0

@@ -75,6 +75,8 @@ fn reason(status: u16) -> &'static [u8]
         200 => b"OK",
         400 => b"Bad Request",
         404 => b"Not Found",
+        412 => b"Precondition Failed",
+        503 => b"Service Unavailable",
         _ => b"Internal Server Error",
     }
 }

@@ -3,13 +3,17 @@ ghost use Rattle.std.specs.Prelude.{◌≡◌, IfOk};
 ghost use Rattle.kms_local.specs.Answers.{answer_of, answer_in};
 
 use crate::service::{Realm, Service};
-use account_core::{Account, Decision};
+use account_core::{Account, Decision, draw_line};
+use draw_lines::DrawLine;
 use kms_io::{Gate, Point};
 use kms_json::{Ask, Reply, write_reply};
 use kms_names::{Bytes, NoMemory};
 use std::alloc::Global;
 use std::marker::{Model, PhantomData};
 use std::sync::Wait;
+
+// The number of the one pass.
+const NUMBER: u16 = 1;
 
 /// A reply's status and body, and the number of entries that it stands on.
 #[derive(Debug, Drop)]
@@ -48,17 +52,20 @@ impl From<NoMemory> for Unread {
 #[derive(Drop)]
 pub struct Pass<R: Realm> {
     account: Account,
+    line: DrawLine,
     realm: PhantomData<R>,
 }
 
 impl<R: Realm> Model for Pass<R> {
-    ghost use Rattle.std.specs.Prelude.{length};
-    ghost use Rattle.account_core.specs.Decide.{no_places};
+    ghost use Rattle.std.specs.Prelude.{◌≡◌, length};
+    ghost use Rattle.account_core.specs.Places.{places_of, IsLineOf};
     ghost use Rattle.kms_local.specs.Pass as passes;
 
     ghost Value = { passes.Pass };
 
-    ghost view = { λ p. passes.one_pass p.account.facts p.account.entries };
+    ghost view = { λ p. passes.one_pass p.account.facts p.account.entries (places_of p.line) };
+
+    ghost invariant = { λ p. IsLineOf p.account.facts p.line };
 }
 
 /// A reply as it is handed on, at so many entries.
@@ -77,15 +84,17 @@ impl<R: Realm> Pass<R> {
     ghost use Rattle.kms_local.specs.declared.pass.Unread.TheVariants.{NoMemory as OutOfMemory};
     ghost use Rattle.kms_json.specs.declared.replies.Reply.{Reply};
     ghost use Rattle.kms_json.specs.Asks.{changes_account};
-    ghost use Rattle.account_core.specs.Decide.{IsProper, IsLawful};
+    ghost use Rattle.account_core.specs.Decide.{no_places, IsProper, IsLawful};
     ghost use Rattle.kms_local.specs.Answers.{answer_of, answer_in};
-    ghost use Rattle.kms_local.specs.Pass.{one_pass, entries_of, Reads, Changes};
+    ghost use Rattle.kms_local.specs.Pass.{one_pass, entries_of, Reads, Wants, Changes};
 
     pub(crate) fn new(account: Account) -> Pass<R>
-        ensures { result ≡ one_pass account.facts account.entries }
+        ensures { result ≡ one_pass account.facts account.entries no_places }
     {
+        let line = draw_line(account.facts(), NUMBER);
         Pass {
             account,
+            line,
             realm: PhantomData,
         }
     }
@@ -99,14 +108,17 @@ impl<R: Realm> Pass<R> {
         self.account.entries()
     }
 
-    /// Answers a request that doesn't change the account. The pass stays as it is.
+    /// Answers a request that doesn't change the account. The pass stays as it is, but for what a request
+    /// that is served uses of the random stream and of the initialization vectors; without memory at most
+    /// so much is used.
     pub fn read(&mut self, alloc: Global, ask: &Ask) -> Result<Answered, Unread>
-        requires { changes_account ask.now.body ≡ false }
+        requires proper { IsProper self.old.facts ask.now }
+        requires reads { changes_account ask.now.body ≡ false }
         ensures answer { IfOk result (λ a. (reply : Reply) × Reads self.old ask.now reply self.new × (answer_in a ≡ answer_of reply) × (a.front ≡ length self.new.history)) }
-        ensures same { self.new ≡ self.old }
+        ensures wants { OnErr result (Wants self.old ask.now self.new) }
         ensures err { IfErr result (λ why. why ≡ OutOfMemory) }
     {
-        let reply = self.account.decide_read(alloc, ask)?;
+        let reply = self.account.decide_read(alloc, ask, &mut self.line)?;
         let answered = answer_with(alloc, self.account.entries(), &reply)?;
         Ok(answered)
     }

@@ -1,6 +1,6 @@
 // A service and its passes.
 ghost use Rattle.std.specs.Prelude.{◌≡◌, ◌∷◌, [], IfOk};
-ghost use Rattle.kms_local.specs.Pass.{one_pass};
+ghost use Rattle.kms_local.specs.Pass.{first_pass};
 
 use crate::pass::Pass;
 use account_core::{Account, RealmFacts};
@@ -63,7 +63,7 @@ pub fn open_service<W: Wait, R: Realm>(
     alloc: Global,
     opening: Opening,
 ) -> Result<(Service<R>, Vec<Pass<R>>), NoMemory>
-    ensures { IfOk result (λ opened. opened.1.items ≡ one_pass opening [] ∷ []) }
+    ensures { IfOk result (λ opened. opened.1.items ≡ first_pass opening ∷ []) }
 {
     let Opening { account } = opening;
     let mut passes = Vec::new(alloc);

@@ -4,7 +4,7 @@ ghost use Rattle.kms_json.specs.Asks.{asked, refusal_of};
 ghost use Rattle.kms_json.specs.declared.replies.Reply.TheVariants.{Refused};
 ghost use Rattle.account_core.specs.Decide.{account_of, IsProper};
 ghost use Rattle.kms_local.specs.Answers.{answer_of, fault_answer};
-ghost use Rattle.kms_local.specs.Run.{whole, asks, answered, caller_of, plan_of, planned};
+ghost use Rattle.kms_local.specs.Run.{whole, asks, answered, caller_of, plan_of, planned, Wanting};
 ghost use Rattle.kms_local.specs.Message.{Message, IsMessage};
 ghost use Rattle.kms_local.specs.Replying.{Gives};
 ghost use Rattle.kms_local.specs.Session.{Outside, outside, Responds, RespondsShort, Serves, EndsBy, GoesOn};
@@ -98,7 +98,7 @@ fn answer_ask<W: Wait, R: Realm, G: Gate>(
 ) -> Result<Answered, NoMemory>
     requires { IsProper pass.old.facts ask.now }
     ensures answer { IfOk result (λ a. Gives pass.old (asks ask.now) a pass.new) }
-    ensures err { OnErr result (pass.new ≡ pass.old) }
+    ensures err { OnErr result (Wanting pass.old (asks ask.now) pass.new) }
 {
     if ask.changes() {
         let answered = pass.change(host.rt, host.alloc, host.service, ask, host.gate)?;
@@ -132,7 +132,7 @@ fn answer_message<W: Wait, R: Realm, G: Gate>(
     requires now { now < 253402300800 }
     requires caller { account_of (caller_of host.now.trust.now) ≡ pass.old.facts.account }
     ensures answer { IfOk result (λ a. Gives pass.old (planned host.now.trust.now now (asked target.now body.now)) a pass.new) }
-    ensures err { OnErr result (pass.new ≡ pass.old) }
+    ensures err { OnErr result (Wanting pass.old (planned host.now.trust.now now (asked target.now body.now)) pass.new) }
 {
     match read_ask(host.alloc, target, body) {
         Ok(body) => {

@@ -1,0 +1,89 @@
+-- Laws of what the account seals.
+use Rattle.std.specs.Prelude.{◌≡◌, ◌≢◌, ℕ, List, ◌++◌, length, slice_range, Bool, false, Option, Some, None}
+use Rattle.uuid.specs.Text.{parsed_hyphenated}
+use Rattle.enc_context.specs.declared.pairs.Pair.{Pair}
+use Rattle.crypto_ops.specs.Sealed.{opened}
+use Rattle.kms_json.specs.declared.asks.Ask.{Ask}
+use Rattle.kms_json.specs.declared.asks.AskBody.TheVariants as ask
+use Rattle.kms_json.specs.declared.asks.Encrypt.{Encrypt}
+use Rattle.kms_json.specs.declared.asks.Decrypt.{Decrypt}
+use Rattle.kms_json.specs.declared.asks.ReEncrypt.{ReEncrypt}
+use Rattle.kms_json.specs.declared.asks.DataKey.{DataKey}
+use Rattle.kms_json.specs.declared.replies.Reply.{Reply}
+use Rattle.kms_json.specs.declared.replies.Reply.TheVariants as reply
+use Rattle.account_core.specs.declared.facts.RealmFacts.{RealmFacts}
+use Rattle.account_core.specs.declared.entries.Entry.{Entry}
+use Rattle.account_core.specs.Places.{Places}
+use Rattle.account_core.specs.Blobs.{name_in}
+use Rattle.account_core.specs.Steps.{unfit, draws}
+use Rattle.account_core.specs.Decide.{lacking, decide, IsProper, IsLawful}
+
+-- a blob, the text that is sealed in it, the context that it is sealed under, and the ARN of the key
+pub record Sealing : Type 0 where
+  pub blob : List ℕ
+  pub plaintext : List ℕ
+  pub context : List Pair
+  pub arn : List ℕ
+
+abbrev pub reply_to : RealmFacts → List Entry → Ask → Places → Reply
+reply_to facts history x places = (decide facts history x places).reply
+
+-- the reply to the request holds this sealed text: that of an Encrypt is what it gives, that of a ReEncrypt what its blob opens
+-- to, and that of a data key what is drawn for it, whether the reply shows it or not
+pub data HasSealed (facts : RealmFacts) (history : List Entry) (x : Ask) (places : Places) : Sealing → Type 0 where
+  encrypted : (e : Encrypt) (blob arn : List ℕ) → x.body ≡ ask.Encrypt e → reply_to facts history x places ≡ reply.Encrypted blob arn
+      → HasSealed facts history x places (record { blob = blob; plaintext = e.plaintext; context = e.context; arn = arn })
+  re_encrypted : (r : ReEncrypt) (blob plaintext arn source_arn : List ℕ) → x.body ≡ ask.ReEncrypt r
+      → opened facts.root r.blob r.source_context ≡ Some plaintext → reply_to facts history x places ≡ reply.ReEncrypted blob arn source_arn
+      → HasSealed facts history x places (record { blob = blob; plaintext = plaintext; context = r.context; arn = arn })
+  data_key : (key : DataKey) (recipient : Bool) (blob plaintext arn : List ℕ) → x.body ≡ ask.GenerateDataKey key recipient
+      → reply_to facts history x places ≡ reply.DataKey blob plaintext arn
+      → HasSealed facts history x places (record { blob = blob; plaintext = plaintext; context = key.context; arn = arn })
+  sealed_data_key : (key : DataKey) (blob arn : List ℕ) → x.body ≡ ask.GenerateDataKeyWithoutPlaintext key
+      → reply_to facts history x places ≡ reply.SealedDataKey blob arn
+      → HasSealed facts history x places (record { blob = blob; plaintext = draws facts key.size places; context = key.context; arn = arn })
+
+-- a reference is left out, or is the hyphenated id of this key
+abbrev pub NoneOrNames : Option (List ℕ) → List ℕ → Type 0
+NoneOrNames None key = Unit {0}
+NoneOrNames (Some reference) key = parsed_hyphenated reference ≡ Some key
+
+-- the request asks, of a history of so many entries, what this blob opens to under this context. Any key that it names is the
+-- blob's, any algorithm is that of symmetric keys, it has no Recipient and no DryRun, and waits for no more entries
+pub record AsksToOpen (y : Ask) (entries : ℕ) (blob : List ℕ) (context : List Pair) : Type 0 where
+  pub fields : Decrypt
+  pub body : y.body ≡ ask.Decrypt fields
+  pub same_blob : fields.blob ≡ blob
+  pub same_context : fields.context ≡ context
+  pub right_key : NoneOrNames fields.key_id (name_in blob).key
+  pub fit : unfit fields.algorithm ≡ None
+  pub no_recipient : fields.recipient ≡ false
+  pub no_dry_run : fields.dry_run ≡ false
+  pub there : lacking entries y.after ≡ None
+
+-- the text that a request sealed is what Decrypt answers for its blob, with the ARN of the same key, at that history and at
+-- every lawful one that goes on from it, whoever asks and by whatever pass
+abbrev pub SealedIsDecryptedAgain : Type 0
+SealedIsDecryptedAgain =
+    (facts : RealmFacts) (history more : List Entry) (x y : Ask) (places other_places : Places) (sealing : Sealing)
+    → IsLawful facts (history ++ more) → IsProper facts x → HasSealed facts history x places sealing
+    → AsksToOpen y (length (history ++ more)) sealing.blob sealing.context
+    → reply_to facts (history ++ more) y other_places ≡ reply.Decrypted sealing.plaintext sealing.arn
+
+-- where a pass's requests, each at some history, leave its places
+pub data PassGoesOn (facts : RealmFacts) : Places → Places → Type 0 where
+  no_request : (places : Places) → PassGoesOn facts places places
+  one_more : {from to : Places} (history : List Entry) (x : Ask) → PassGoesOn facts from to → PassGoesOn facts from (decide facts history x to).places
+
+-- the initialization vector that a blob says
+abbrev pub iv_in : List ℕ → List ℕ
+iv_in blob = slice_range blob 21 33
+
+-- the blobs of two requests of one pass, of which the second comes after the first, have different initialization vectors
+abbrev pub OnePassRepeatsNoIv : Type 0
+OnePassRepeatsNoIv =
+    (facts : RealmFacts) (history later : List Entry) (x y : Ask) (places later_places : Places) (one other : Sealing)
+    → IsLawful facts history → IsLawful facts later
+    → HasSealed facts history x places one → HasSealed facts later y later_places other
+    → PassGoesOn facts (decide facts history x places).places later_places
+    → iv_in one.blob ≢ iv_in other.blob

@@ -1,0 +1,18 @@
+//! Laws of what the account seals. Each stands as the contract of a function that does nothing.
+
+ghost use Rattle.account_core.specs.Laws.{SealedIsDecryptedAgain, OnePassRepeatsNoIv};
+
+/// What Encrypt, ReEncrypt or a data key call answered as sealed under a context, Decrypt opens to the
+/// text that was sealed, at that history and at every lawful one that goes on from it: under an equal
+/// context, for any caller and any pass, where the key is left out or is the blob's, the algorithm is
+/// left out or that of symmetric keys, and the request has no Recipient and no DryRun, and waits for no
+/// entry that isn't there. The reply names the key that sealed the text.
+pub fn sealed_is_decrypted_again()
+    ensures { SealedIsDecryptedAgain }
+{}
+
+/// The blobs that one pass seals have initialization vectors of their own: a blob's differs from those
+/// of all that the pass seals later, at whatever lawful histories, keys and contexts.
+pub fn one_pass_repeats_no_iv()
+    ensures { OnePassRepeatsNoIv }
+{}

@@ -1,0 +1,3 @@
+pub mod Laws
+pub mod Material
+pub mod Sealed

@@ -1,0 +1,2 @@
+pub mod EncodingFacts
+pub mod PairFacts
