@@ -1,11 +1,10 @@
 -- A decision from what the account keeps.
-use Rattle.std.proofs.Common.{◌≡◌, ℕ, List, length, Bool, true, false, Option, Some, None, Result, Ok, Err, IfOk, refl, sym, ap, ap₂, ◌∙◌}
+use Rattle.std.proofs.Common.{◌≡◌, ℕ, List, length, false, Some, None, Result, Ok, Err, IfOk, refl, sym, ap, ap₂, ◌∙◌}
 use Rattle.kms_json.specs.declared.asks.Ask.{Ask}
 use Rattle.kms_json.specs.declared.asks.AskBody.{AskBody}
 use Rattle.kms_json.specs.declared.asks.AskBody.TheVariants as ask
 use Rattle.kms_json.specs.declared.replies.Refusal.{Refusal}
 use Rattle.kms_json.specs.declared.replies.Refusal.TheVariants.{UnknownOperation, Serialization, Validation, DependencyTimeout, NotFound, InvalidCiphertext, IncorrectKey, AccessDenied, UnsupportedOperation, InvalidKeyUsage, LimitExceeded, DryRun}
-use Rattle.kms_json.specs.declared.replies.Reply.{Reply}
 use Rattle.kms_json.specs.declared.replies.Reply.TheVariants.{Refused}
 use Rattle.account_core.specs.declared.decide.Decision.{Decision}
 use Rattle.account_core.specs.declared.decide.Decision.TheVariants as decision

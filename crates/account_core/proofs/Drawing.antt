@@ -1,5 +1,5 @@
 -- What is drawn, and what is sealed after a draw.
-use Rattle.std.proofs.Common.{◌≡◌, ℕ, List, Bool, false, Result, Ok, sym, ap, ◌∙◌, subst}
+use Rattle.std.proofs.Common.{◌≡◌, ℕ, List, Bool, false, Ok, sym, ap, ◌∙◌, subst}
 use Rattle.draw_lines.specs.Draw.{draw_at}
 use Rattle.draw_lines.specs.Iv.{iv_at}
 use Rattle.draw_lines.specs.Line.{Line}
@@ -8,7 +8,6 @@ use Rattle.crypto_ops.specs.Sealed.{sealed}
 use Rattle.account_core.specs.declared.facts.RealmFacts.{RealmFacts}
 use Rattle.kms_json.specs.declared.asks.DataKey.{DataKey}
 use Rattle.kms_json.specs.declared.replies.Reply.TheVariants as reply
-use Rattle.kms_json.specs.declared.replies.Refusal.{Refusal}
 use Rattle.account_core.specs.declared.rows.KeyRow.{KeyRow}
 use Rattle.account_core.specs.Crypto.{data_key_key, data_key, sealed_data_key}
 use Rattle.account_core.specs.Places.{Places, places_of, line_at, one_iv, more_words, IsLineOf}

@@ -1,5 +1,5 @@
 -- Places only go on, and a request that changes the account does not depend on them.
-use Rattle.std.proofs.Common.{◌≡◌, ℕ, List, length, Bool, true, false, Option, Some, None, Result, Ok, Err, refl, sym, ap, ◌∙◌, subst, arith}
+use Rattle.std.proofs.Common.{◌≡◌, List, length, true, Option, Some, None, Result, Ok, Err, refl, sym, ap, ◌∙◌, arith}
 use Rattle.draw_lines.specs.Line.{Line}
 use Rattle.kms_json.specs.Asks.{changes_account}
 use Rattle.kms_json.specs.declared.asks.Ask.{Ask}

@@ -1,13 +1,10 @@
 -- What is known of the steps of a request that went on: what they found, and the sizes of what they found.
 use Rattle.std.proofs.Common.{◌≡◌, ℕ, ◌-◌, ◌<◌, ◌≤◌, ◌^◌, ◌&&◌, List, length, Bool, true, false, Option, Some, None, Result, Ok, Err, refl, sym, ap, ◌∙◌, subst, if◌then◌else◌, nat_le, leb-true, le-leb, arith, inl, inr, length-take, length-drop}
 use Rattle.std.specs.Prelude.{slice_range, option_and_then, ok_or}
-use Rattle.std.specs.Str.{bytes_eq}
 use Rattle.std.proofs.lemmas.Bool.{cases_lt, both_ways}
 use Rattle.uuid.specs.Text.{parsed_hyphenated}
 use Rattle.draw_lines.proofs.DrawFacts.{draw_length}
 use Rattle.enc_context.specs.declared.pairs.Pair.{Pair}
-use Rattle.gcm_seal.specs.Gcm.{opened_text, open_of, tag_of}
-use Rattle.gcm_seal.proofs.SealFacts.{length-opened_text}
 use Rattle.crypto_ops.specs.Sealed.{opened}
 use Rattle.kms_names.specs.declared.actions.Action.{Action}
 use Rattle.kms_names.specs.declared.principals.Principal.{Principal}

@@ -4,11 +4,9 @@ use Rattle.kms_json.specs.declared.asks.Ask.{Ask}
 use Rattle.kms_json.specs.declared.asks.AskBody.{AskBody}
 use Rattle.kms_json.specs.declared.asks.AskBody.TheVariants as ask
 use Rattle.kms_json.specs.declared.replies.Reply.{Reply}
-use Rattle.kms_json.specs.declared.replies.Reply.TheVariants.{Metadata, Refused}
+use Rattle.kms_json.specs.declared.replies.Reply.TheVariants.{Metadata}
 use Rattle.kms_json.specs.declared.replies.Refusal.{Refusal}
-use Rattle.kms_json.specs.declared.replies.Refusal.TheVariants.{NotFound, LimitExceeded, DependencyTimeout}
-use Rattle.kms_json.specs.declared.replies.KeyMetadata.{KeyMetadata}
-use Rattle.kms_json.specs.declared.replies.Missing.TheVariants as missing
+use Rattle.kms_json.specs.declared.replies.Refusal.TheVariants.{LimitExceeded, DependencyTimeout}
 use Rattle.kms_json.specs.declared.replies.Limit.TheVariants as limit
 use Rattle.kms_json.specs.Asks.{asked}
 use Rattle.kms_json.specs.Replies.{status_of}
@@ -17,14 +15,13 @@ use Rattle.kms_names.specs.declared.principals.Principal.TheVariants.{Root, User
 use Rattle.account_core.specs.declared.facts.RealmFacts.{RealmFacts}
 use Rattle.account_core.specs.declared.entries.Entry.{Entry}
 use Rattle.account_core.specs.declared.entries.What.TheVariants.{CreateKey}
-use Rattle.account_core.specs.declared.rows.KeyRow.{KeyRow}
 use Rattle.account_core.specs.declared.decide.Decision.{Decision}
 use Rattle.account_core.specs.declared.decide.Decision.TheVariants as decision
 use Rattle.account_core.specs.Ids.{key_id_at}
 use Rattle.account_core.specs.Places.{Places}
 use Rattle.account_core.specs.Steps.{Decided, refuses, appends, decided_by}
 use Rattle.account_core.specs.Reads.{description_of, read_outcome, after_read}
-use Rattle.account_core.specs.History.{replay, moment_of, key_named}
+use Rattle.account_core.specs.History.{replay, moment_of}
 
 -- the first refusal, or what comes after
 abbrev pub unless_refused : Option Refusal → Places → Decided → Decided

@@ -1,5 +1,5 @@
 -- The steps of a decision that operations share. The first that refuses decides.
-use Rattle.std.specs.Prelude.{◌≡◌, ◌==◌, ℕ, ◌+◌, ◌^◌, List, codes, nat_le, nat_lt, Bool, if◌then◌else◌, Option, Some, None, Result, Ok, Err, ok_or, ⊤}
+use Rattle.std.specs.Prelude.{◌≡◌, ℕ, ◌+◌, ◌^◌, List, codes, nat_le, nat_lt, Bool, if◌then◌else◌, Option, Some, None, Result, Ok, Err, ok_or, ⊤}
 use Rattle.std.specs.Str.{bytes_eq}
 use Rattle.draw_lines.specs.Draw.{words_for, draw_at}
 use Rattle.draw_lines.specs.Iv.{iv_at}

@@ -1,15 +1,13 @@
 -- An operation with its fields, from the values of the fields, is what the body asks of it.
-use Rattle.std.proofs.Common.{◌≡◌, ℕ, List, length, ◌<◌, Bool, true, false, not, codes, Option, Some, None, Ok, refl, sym, ap, ap₂, ◌∙◌, if◌then◌else◌, arith}
+use Rattle.std.proofs.Common.{◌≡◌, ℕ, List, Bool, true, false, not, codes, Option, Some, None, Ok, refl, sym, ap, ap₂, ◌∙◌, if◌then◌else◌, arith}
 use Rattle.serde_json.specs.Data.{Data}
 use Rattle.serde_json.specs.Find.{get}
 use Rattle.kms_json.specs.declared.given.Given.{Given}
 use Rattle.kms_json.specs.declared.fields.Kind.TheVariants as kind
 use Rattle.kms_json.specs.declared.asks.AskBody.{AskBody}
 use Rattle.kms_json.specs.declared.asks.AskBody.TheVariants as ask
-use Rattle.kms_json.specs.declared.asks.DataKey.{DataKey}
 use Rattle.kms_json.specs.declared.operations.Operation.{Operation}
 use Rattle.kms_json.specs.declared.operations.Operation.TheVariants as operation
-use Rattle.kms_json.specs.declared.replies.Refusal.{Refusal}
 use Rattle.kms_json.specs.Operations.{fields_of}
 use Rattle.kms_json.specs.Fields.{values_of, value_given, first_invalid, is_given, is_absent, text_in}
 use Rattle.kms_json.specs.Asks.{body_of, spec_size, data_key_size, asked_unless, asked_of_values}

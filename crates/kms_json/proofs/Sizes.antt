@@ -1,18 +1,16 @@
 -- The sizes of what a proper request asks.
-use Rattle.std.proofs.Common.{◌≡◌, ℕ, zero, suc, ◌<◌, ◌≤◌, ◌&&◌, List, [], ◌∷◌, length, Bool, true, false, not, codes, Option, Some, None, Result, Ok, Err, refl, sym, ap, ◌∙◌, subst, if◌then◌else◌, nat_le, unwrap_or, leb-true, arith}
+use Rattle.std.proofs.Common.{◌≡◌, ℕ, zero, suc, ◌<◌, ◌≤◌, ◌&&◌, List, [], ◌∷◌, length, Bool, true, false, not, codes, Option, Some, None, Ok, Err, refl, subst, if◌then◌else◌, nat_le, unwrap_or, leb-true, arith}
 use Rattle.std.specs.Str.{bytes_eq}
 use Rattle.serde_json.specs.Data.{Data}
 use Rattle.serde_json.specs.Find.{get}
 use Rattle.kms_json.specs.declared.given.Given.{Given}
 use Rattle.kms_json.specs.declared.fields.Kind.TheVariants as kind
 use Rattle.kms_json.specs.declared.asks.AskBody.{AskBody}
-use Rattle.kms_json.specs.declared.asks.AskBody.TheVariants as ask
 use Rattle.kms_json.specs.declared.operations.Operation.{Operation}
 use Rattle.kms_json.specs.declared.operations.Operation.TheVariants as operation
-use Rattle.kms_json.specs.declared.replies.Refusal.{Refusal}
 use Rattle.kms_json.specs.declared.replies.Refusal.TheVariants as refusal
 use Rattle.kms_json.specs.Operations.{operation_named, fields_of}
-use Rattle.kms_json.specs.Fields.{FieldRow, values_of, value_given, first_invalid, is_valid, is_given, is_absent, fits, is_between, is_some_between, bytes_in, whole_in, text_at, number_at}
+use Rattle.kms_json.specs.Fields.{FieldRow, values_of, value_given, first_invalid, is_valid, is_given, is_absent, is_between, is_some_between, bytes_in, whole_in, text_at, number_at}
 use Rattle.kms_json.specs.Building.{value_in}
 use Rattle.kms_json.specs.Asks.{IsSized, body_of, body_data, is_object, spec_size, data_key_size, asked_unless, asked_of_values, asked_by, asked_where, asked}
 use Rattle.kms_json.proofs.ValueLemmas.{row_at, gives_at, values_counted, bytes_is, number_is}

@@ -1,5 +1,5 @@
 -- What the values of fields hold is what the body gives by their names.
-use Rattle.std.proofs.Common.{◌≡◌, ℕ, zero, suc, ◌<◌, List, [], ◌∷◌, length, Bool, true, false, not, Option, Some, None, unwrap_or, refl, sym, ap, ◌∙◌, arith}
+use Rattle.std.proofs.Common.{◌≡◌, ℕ, zero, suc, ◌<◌, List, [], ◌∷◌, length, false, not, Option, Some, None, unwrap_or, refl, sym, ap, ◌∙◌, arith}
 use Rattle.std.specs.Option.{option_map, option_and_then}
 use Rattle.serde_json.specs.Data.{Data, Num, unsigned, negative, float, null, boolean, number, string, array, object}
 use Rattle.serde_json.specs.Find.{get, as_str, as_bool}
@@ -8,7 +8,7 @@ use Rattle.kms_json.specs.declared.fields.Kind.{Kind}
 use Rattle.kms_json.specs.declared.fields.Kind.TheVariants as kind
 use Rattle.kms_json.specs.declared.given.Given.{Given}
 use Rattle.kms_json.specs.declared.given.Given.TheVariants as given
-use Rattle.kms_json.specs.Fields.{FieldRow, maybe, value_of, value_given, values_of, bytes_of, texts_of, pairs_of, fitting, whole_of, natural, is_given, is_absent, text_in, bytes_in, context_in, whole_in, flag_in}
+use Rattle.kms_json.specs.Fields.{FieldRow, maybe, value_of, value_given, values_of, bytes_of, texts_of, pairs_of, fitting, whole_of, natural, is_given, is_absent, text_in, bytes_in, flag_in}
 use Rattle.kms_json.specs.Building.{first_of, value_in, text_if, pairs_in, number_in}
 
 -- ---- the value at a place is what the body gives to the field there

@@ -1,5 +1,5 @@
 -- The fields of a request's body: what each may hold, and what a body gives it.
-use Rattle.std.specs.Prelude.{ℕ, ◌==◌, ◌≤◌, List, [], ◌∷◌, length, nat_le, ◌&&◌, ◌||◌, Bool, true, false, not, codes, if◌then◌else◌, Option, Some, None, find, option_map, option_and_then, unwrap_or, is_some, ℤ, pos, negsuc}
+use Rattle.std.specs.Prelude.{ℕ, List, [], ◌∷◌, length, nat_le, ◌&&◌, ◌||◌, Bool, true, false, not, codes, if◌then◌else◌, Option, Some, None, option_map, option_and_then, unwrap_or, is_some, ℤ, pos, negsuc}
 use Rattle.std.specs.Str.{bytes_eq}
 use Rattle.base64.specs.Engines.{standard}
 use Rattle.base64.specs.GeneralPurpose.{decoded_of}

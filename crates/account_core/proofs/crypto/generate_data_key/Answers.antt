@@ -1,4 +1,4 @@
-use Rattle.std.proofs.Common.{◌≡◌, sym, ap, ◌∙◌, subst, rules}
+use Rattle.std.proofs.Common.{sym, ap, ◌∙◌, rules}
 use Rattle.account_core.specs.Places.{places_of}
 use Rattle.account_core.specs.Steps.{seals}
 use Rattle.account_core.proofs.Drawing.{drawn_is, drawn_line, sealed_after, used_after, data_key_is}

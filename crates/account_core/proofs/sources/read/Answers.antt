@@ -1,4 +1,4 @@
-use Rattle.std.proofs.Common.{◌≡◌, Option, Ok, Err, ap, ok_or, rules}
+use Rattle.std.proofs.Common.{Option, ap, ok_or, rules}
 use Rattle.kms_json.specs.declared.replies.Refusal.TheVariants as refusal
 use Rattle.account_core.specs.Blobs.{BlobName}
 use Rattle.account_core.proofs.BlobNames.{named_read, named_none}

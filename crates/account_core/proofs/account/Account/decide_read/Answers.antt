@@ -1,5 +1,4 @@
 use Rattle.std.proofs.Common.{◌≡◌, ap, sym, ◌∙◌, subst, length, ℕ}
-use Rattle.draw_lines.specs.Line.{Line}
 use Rattle.kms_json.specs.declared.replies.Reply.TheVariants as reply
 use Rattle.kms_json.proofs.Sizes.{asked_sized}
 use Rattle.account_core.specs.Account.{Account}
