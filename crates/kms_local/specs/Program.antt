@@ -1,5 +1,5 @@
 -- What the program does.
-use Rattle.std.specs.Prelude.{◌≡◌, ◌⊎◌, ℕ, List, [], codes, Option, None, Some, option_and_then, slice_get}
+use Rattle.std.specs.Prelude.{◌≡◌, ◌⊎◌, ℕ, List, codes, Option, None, Some, option_and_then, slice_get}
 use Rattle.kms_io.specs.Wire.{Wire}
 use Rattle.kms_io.specs.Link.{Sends}
 use Rattle.account_core.specs.declared.facts.RealmFacts.{RealmFacts}

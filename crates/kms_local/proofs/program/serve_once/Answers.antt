@@ -1,4 +1,4 @@
-use Rattle.std.proofs.Common.{refl, []}
+use Rattle.std.proofs.Common.{refl}
 use Rattle.kms_local.specs.Pass.{first_pass}
 use Rattle.kms_local.proofs.program.serve_once.Goals as goal
 

@@ -1,9 +1,7 @@
-use Rattle.std.proofs.Common.{◌≡◌, sym, ◌∙◌, subst, length}
-use Rattle.kms_json.specs.declared.replies.Reply.{Reply}
+use Rattle.std.proofs.Common.{sym, ◌∙◌, subst}
 use Rattle.account_core.specs.Places.{Places, places_of, IsUpTo}
 use Rattle.account_core.specs.Decide.{decide}
 use Rattle.account_core.proofs.GoingOn.{decide_goes_on, places_at, within_places}
-use Rattle.kms_local.specs.Answers.{answer_in, answer_of}
 use Rattle.kms_local.specs.Pass.{Pass, Reads, Wants, one_pass}
 use Rattle.kms_local.proofs.PassLemmas.{reads_here, wants_here, length-made_by, on_err}
 use Rattle.kms_local.proofs.pass.Pass.read.Goals as goal
