@@ -1,0 +1,9 @@
+pub mod CutFacts
+pub mod PatternFacts
+pub mod NumberFacts
+pub mod OperatorFacts
+pub mod MomentFacts
+pub mod SecondFacts
+pub mod ReadingFacts
+pub mod MatchingFacts
+pub mod FormFacts

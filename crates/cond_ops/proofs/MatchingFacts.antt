@@ -1,0 +1,81 @@
+-- From the facts of a key to the values of the request, and from what some of these do to whether a condition holds.
+use Rattle.std.proofs.Common.{◌≡◌, ◌⊎◌, ℕ, zero, suc, Bool, true, false, not, cond, List, [], ◌∷◌, ◌++◌, refl, sym, subst, arith, inl, inr}
+use Rattle.std.specs.Prelude.{◌↔◌, IsTrue, All, Any, MatchBool, filter}
+use Rattle.std.specs.List.{flat_map}
+use Rattle.std.proofs.lemmas.List.Elements.{All-head, All-tail, All-append}
+use mathlib.Core.Bool.{beq}
+use Rattle.cond_ops.specs.declared.conditions.Condition.{Condition}
+use Rattle.cond_ops.specs.declared.facts.Fact.{Fact}
+use Rattle.cond_ops.specs.declared.qualified.Qualifier.TheVariants.{Plain, AllValues}
+use Rattle.cond_ops.specs.Holds.{Matches, has_name, request_values, HoldsOfValues}
+use Rattle.cond_ops.specs.Matching.{IsMatch, SomeMatch, HasMatch, HasNoMatch}
+
+module _ {X : Type 0} (P : X → Type 0) where
+  any_here : (x : X) (xs : List X) → P x → Any P (x ∷ xs)
+  any_here x xs h = (0, x, omega arith, refl, h)
+
+  any_there : (x : X) (xs : List X) → Any P xs → Any P (x ∷ xs)
+  any_there x xs (k, y, lt, at, h) = (suc k, y, omega arith, at, h)
+
+  any_of : (x : X) (xs : List X) → Any P (x ∷ xs) → P x ⊎ Any P xs
+  any_of x xs (zero, y, lt, at, h) = inl (subst P (sym at) h)
+  any_of x xs (suc k, y, lt, at, h) = inr (k, y, omega arith, at, h)
+
+  any_left : (xs ys : List X) → Any P xs → Any P (xs ++ ys)
+  any_left [] ys (k, y, lt, at, h) = absurd (omega arith)
+  any_left (x ∷ xs) ys any = elim (any_of x xs any) [ inl h ↦ any_here x (xs ++ ys) h | inr rest ↦ any_there x (xs ++ ys) (any_left xs ys rest) ]
+
+  any_right : (xs ys : List X) → Any P ys → Any P (xs ++ ys)
+  any_right [] ys any = any
+  any_right (x ∷ xs) ys any = any_there x (xs ++ ys) (any_right xs ys any)
+
+  pub none_of_all : (xs : List X) → All (λ x. ¬ (P x)) xs → Any P xs → ⊥
+  none_of_all xs all (k, x, lt, at, h) = all k x lt (subst P (sym at) h)
+
+  pub not_all : (xs : List X) → Any (λ x. ¬ (P x)) xs → All P xs → ⊥
+  not_all xs (k, x, lt, at, fails) all = fails (subst P at (all k x lt))
+
+module _ (P : List ℕ → Type 0) (test : Fact → Bool) where
+  abbrev values_of : List Fact → List (List ℕ)
+  values_of facts = flat_map (λ (fact : Fact). fact.values) facts
+
+  any_step : (fact : Fact) (rest : List Fact) (b : Bool) → (b ≡ true × Any P fact.values) ⊎ Any P (values_of rest) → Any P (values_of (cond b (fact ∷ rest) rest))
+  any_step fact rest true (inl h) = any_left P fact.values (values_of rest) h.1
+  any_step fact rest true (inr h) = any_right P fact.values (values_of rest) h
+  any_step fact rest false (inl h) = cc
+  any_step fact rest false (inr h) = h
+
+  any_value : (facts : List Fact) → Any (λ (fact : Fact). test fact ≡ true × Any P fact.values) facts → Any P (values_of (filter test facts))
+  any_value [] (k, x, lt, at, h) = absurd (omega arith)
+  any_value (fact ∷ facts) any =
+      any_step fact (filter test facts) (test fact)
+      (elim (any_of (λ (f : Fact). test f ≡ true × Any P f.values) fact facts any) [ inl h ↦ inl h | inr rest ↦ inr (any_value facts rest) ])
+
+  all_step : (fact : Fact) (rest : List Fact) (b : Bool) → (b ≡ true → All P fact.values) → All P (values_of rest) → All P (values_of (cond b (fact ∷ rest) rest))
+  all_step fact rest true here there = All-append P fact.values (values_of rest) (here refl) there
+  all_step fact rest false here there = there
+
+  all_values_of : (facts : List Fact) → All (λ (fact : Fact). test fact ≡ true → All P fact.values) facts → All P (values_of (filter test facts))
+  all_values_of [] all = λ k d lt. absurd (omega arith)
+  all_values_of (fact ∷ facts) all =
+      all_step fact (filter test facts) (test fact) (All-head (λ (f : Fact). test f ≡ true → All P f.values) fact facts all)
+      (all_values_of facts (All-tail (λ (f : Fact). test f ≡ true → All P f.values) fact facts all))
+
+module _ (condition : Condition) where
+  pub some_of_facts : (wanted : Bool) (facts : List Fact) (r : Bool) → MatchBool r (Any (HasMatch condition wanted) facts) (All (HasNoMatch condition wanted) facts)
+      → SomeMatch condition wanted (request_values condition.key facts) r
+  some_of_facts wanted facts true any = any_value (IsMatch condition wanted) (has_name condition.key) facts any
+  some_of_facts wanted facts false all = all_values_of (IsMatch condition (not wanted)) (has_name condition.key) facts all
+
+  module _ (values : List (List ℕ)) where
+    pub plain : (r negated : Bool) → SomeMatch condition true values r → IsTrue (not (beq r negated)) ↔ HoldsOfValues Plain negated (Matches condition) values
+    plain true false any = (λ h. any, λ h. refl)
+    plain true true any = (λ h. cc, λ none. absurd (none any))
+    plain false false all = (λ h. cc, λ any. absurd (none_of_all (Matches condition) values all any))
+    plain false true all = (λ h any. none_of_all (Matches condition) values all any, λ h. refl)
+
+    pub all_values : (r negated : Bool) → SomeMatch condition negated values r → IsTrue (not r) ↔ HoldsOfValues AllValues negated (Matches condition) values
+    all_values true false any = (λ h. cc, λ all. absurd (not_all (Matches condition) values any all))
+    all_values true true any = (λ h. cc, λ all. absurd (none_of_all (Matches condition) values all any))
+    all_values false false all = (λ h. all, λ h. refl)
+    all_values false true all = (λ h. all, λ h. refl)

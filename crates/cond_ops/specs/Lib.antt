@@ -1,0 +1,11 @@
+pub mod Operator
+pub mod Qualified
+pub mod Number
+pub mod Cut
+pub mod Moment
+pub mod Fields
+pub mod Value
+pub mod Relation
+pub mod Holds
+pub mod Matching
+pub mod Laws

@@ -1,0 +1,85 @@
+//! Facts of a request.
+
+use kms_names::{Action, NoMemory, Principal, Text, TextList};
+use std::marker::Model;
+
+/// A condition key of a request with its values.
+#[derive(Debug, Drop)]
+pub struct Fact {
+    /// The name of the condition key, compared without ASCII case.
+    pub key: Text,
+    /// Its values.
+    pub values: TextList,
+}
+
+impl Fact {
+    ghost use Rattle.std.specs.Prelude.{◌≡◌, IfOk};
+
+    /// A copy that equals its source.
+    pub fn copy(&self) -> Result<Fact, NoMemory>
+        ensures { IfOk result (λ fact. fact ≡ self.now) }
+    {
+        Ok(Fact {
+            key: self.key.copy()?,
+            values: self.values.copy()?,
+        })
+    }
+}
+
+/// A list of facts.
+#[derive(Debug, Drop)]
+pub struct FactList {
+    items: Vec<Fact>,
+}
+
+impl Model for FactList {
+    ghost use Rattle.std.specs.Prelude.{List};
+    ghost use Rattle.cond_ops.specs.declared.facts.Fact.{Fact};
+
+    ghost Value = { List Fact };
+
+    ghost view = { λ l. l.items.items };
+}
+
+impl FactList {
+    ghost use Rattle.std.specs.Prelude.{◌≡◌, IfOk};
+
+    /// The list of a vector's facts; no memory is taken.
+    pub fn new(items: Vec<Fact>) -> FactList
+        ensures { result ≡ items.items }
+    {
+        FactList { items }
+    }
+
+    /// The facts in order.
+    pub fn as_slice(&self) -> &[Fact]
+        ensures { result.now ≡ self.now }
+    {
+        self.items.as_slice()
+    }
+
+    /// A copy that equals its source.
+    pub fn copy(&self) -> Result<FactList, NoMemory>
+        ensures { IfOk result (λ l. l ≡ self.now) }
+    {
+        let mut items = Vec::new(*self.items.allocator());
+        for fact in &self.items {
+            items.push(fact.copy()?)?;
+        }
+        Ok(FactList { items })
+    }
+}
+
+/// What policies are asked about a request: who calls, which action, on which resource, and the condition keys
+/// with their values.
+#[derive(Debug, Drop)]
+pub struct RequestFacts {
+    /// Who calls.
+    pub caller: Principal,
+    /// What is asked.
+    pub action: Action,
+    /// The ARN that it is asked of.
+    pub resource: Text,
+    /// The condition keys of the request. A key is present where some fact has its name.
+    pub facts: FactList,
+}

@@ -1,0 +1,28 @@
+//! Conditions of policies: their operators, the values that these compare, and whether a condition holds of a request.
+#![tactic(auto)]
+
+mod conditions;
+mod cuts;
+mod evaluation;
+mod facts;
+mod laws;
+mod moments;
+mod numbers;
+mod operators;
+mod patterns;
+mod qualified;
+mod truths;
+mod values;
+
+pub use conditions::{Condition, ConditionList};
+pub use evaluation::holds;
+pub use facts::{Fact, FactList, RequestFacts};
+pub use laws::{
+    moments_are_one, numbers_are_one, operator_texts_differ, related_values_have_the_form,
+};
+pub use operators::{Kind, Operator, Order};
+pub use qualified::{QualifiedOperator, Qualifier, read_operator, write_operator};
+pub use values::is_value;
+
+#[cfg(test)]
+mod tests;

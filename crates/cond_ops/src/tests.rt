@@ -1,0 +1,4 @@
+mod evaluating;
+mod forms;
+mod naming;
+mod sharing;
