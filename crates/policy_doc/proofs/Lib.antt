@@ -1,0 +1,10 @@
+mod FormFacts
+mod PathFacts
+mod CallerFacts
+mod TextFacts
+mod ValueFacts
+mod OperatorFacts
+pub mod GrammarFacts
+pub mod PlaceFacts
+mod ReadingFacts
+mod SlotFacts

@@ -1,0 +1,14 @@
+pub mod Paths
+pub mod Answers
+pub mod Names
+pub mod Values
+pub mod Operators
+pub mod Forms
+pub mod Texts
+pub mod Callers
+pub mod Conditions
+pub mod Statements
+pub mod Documents
+pub mod Slots
+pub mod Grammar
+pub mod Reading

@@ -1,0 +1,27 @@
+//! The reader of key policies and identity policies (IAM User Guide, "Grammar of the IAM JSON policy
+//! language"; AWS KMS Developer Guide, "Key policies").
+//!
+//! A policy is stated as a JSON value (`serde_json`'s), and never as bytes.
+#![tactic(auto)]
+
+mod callers;
+mod conditions;
+mod documents;
+mod faults;
+mod forms;
+mod laws;
+mod members;
+mod names;
+mod operators;
+mod paths;
+mod policies;
+mod statements;
+mod texts;
+
+pub use documents::{read_policy, read_policy_value};
+pub use faults::PolicyFault;
+pub use laws::{first_fault_has_place, policy_of_reads};
+pub use policies::{Named, NamedList, Policy, PolicyKind, Statement, StatementList};
+
+#[cfg(test)]
+mod tests;
