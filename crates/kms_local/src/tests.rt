@@ -9,7 +9,8 @@ use std::sync::Wait;
 use std::test::Fail;
 use std::thread::Threads;
 
-const RUN: &str =
+/// The words that serve one session of the account's root.
+pub const RUN: &str =
     "run --account 111122223333 --region us-east-1 --root 0000000000000000000000000000000000000000000000000000000000000000 --as arn:aws:iam::111122223333:root";
 
 const CREATE: &str =
@@ -50,14 +51,15 @@ fn joined(alloc: Global, first: &str, second: &str) -> Result<Vec<u8>, AllocErro
     Ok(all)
 }
 
-// What the program did: its status, and what it wrote.
+/// What the program did: its status, and what it wrote.
 #[derive(Drop)]
-struct Done {
-    status: u8,
-    link: MemoryLink,
+pub struct Done {
+    pub status: u8,
+    pub link: MemoryLink,
 }
 
-fn serve<W: Threads + Wait + Sync>(
+/// Runs the program on this line of words over the link.
+pub fn serve<W: Threads + Wait + Sync>(
     rt: &W,
     alloc: Global,
     line: &str,
@@ -80,8 +82,8 @@ fn serve<W: Threads + Wait + Sync>(
     Ok(Done { status, link })
 }
 
-// A link that gives this input in pieces of so many bytes, 0 for all at once.
-fn link_of(alloc: Global, input: &[u8], piece: usize) -> Result<MemoryLink, AllocError> {
+/// A link that gives this input in pieces of so many bytes, 0 for all at once.
+pub fn link_of(alloc: Global, input: &[u8], piece: usize) -> Result<MemoryLink, AllocError> {
     let pieces = vec![in alloc; piece; 400]?;
     Ok(MemoryLink::new(
         alloc,
@@ -238,7 +240,8 @@ const REFUSALS: [(&str, &str, &str); 15] = [
     ),
 ];
 
-fn request(alloc: Global, operation: &str, body: &str) -> Result<Vec<u8>, AllocError> {
+/// A request of the operation with this body.
+pub fn request(alloc: Global, operation: &str, body: &str) -> Result<Vec<u8>, AllocError> {
     let size = body.len();
     let text = format!(in alloc;
         "POST / HTTP/1.1\r\nHost: localhost\r\nContent-Type: application/x-amz-json-1.1\r\nX-Amz-Target: TrentService.{operation}\r\nContent-Length: {size}\r\n\r\n{body}"
