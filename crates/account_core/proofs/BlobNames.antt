@@ -74,3 +74,16 @@ module _ (bytes : List ℕ) (fit : (i : ℕ) → get_or bytes i 0 < 256) where
   pub named_none : ((key : List ℕ) (version : ℕ) (iv text tag : List ℕ) → ¬ IsBlobText bytes key version iv text tag) → named_in bytes ≡ None
   unfolding named_in
   named_none none = ap (λ (b : Bool). if b then Some (name_in bytes) else None) (form_false (has_form bytes) refl none)
+
+  named_by : (name : BlobName) (b : Bool) → has_form bytes ≡ b → (if b then Some (name_in bytes) else None) ≡ Some name
+      → (iv : List ℕ) × (text : List ℕ) × (tag : List ℕ) × IsBlobText bytes name.key name.version iv text tag
+  named_by name true is e =
+      let same : name_in bytes ≡ name = cc in
+      subst (λ (n : BlobName). (iv : List ℕ) × (text : List ℕ) × (tag : List ℕ) × IsBlobText bytes n.key n.version iv text tag) same
+      (slice_range bytes 21 33, slice_range bytes 33 (length bytes - 16), slice_range bytes (length bytes - 16) (length bytes - 16 + 16), blob_formed is)
+  named_by name false is e = cc
+
+  pub named_only : (name : BlobName) → named_in bytes ≡ Some name
+      → (iv : List ℕ) × (text : List ℕ) × (tag : List ℕ) × IsBlobText bytes name.key name.version iv text tag
+  unfolding named_in
+  named_only name e = named_by name (has_form bytes) refl e

@@ -1,6 +1,7 @@
 -- Laws of what the account seals.
-use Rattle.std.specs.Prelude.{◌≡◌, ◌≢◌, ℕ, List, ◌++◌, length, slice_range, Bool, false, Option, Some, None}
+use Rattle.std.specs.Prelude.{◌≡◌, ◌≢◌, ℕ, ◌<◌, List, ◌++◌, length, slice_index, slice_range, Bool, false, Option, Some, None}
 use Rattle.uuid.specs.Text.{parsed_hyphenated}
+use Rattle.blob_format.specs.Blob.{IsBlobText}
 use Rattle.enc_context.specs.declared.pairs.Pair.{Pair}
 use Rattle.crypto_ops.specs.Sealed.{opened}
 use Rattle.kms_json.specs.declared.asks.Ask.{Ask}
@@ -14,7 +15,7 @@ use Rattle.kms_json.specs.declared.replies.Reply.TheVariants as reply
 use Rattle.account_core.specs.declared.facts.RealmFacts.{RealmFacts}
 use Rattle.account_core.specs.declared.entries.Entry.{Entry}
 use Rattle.account_core.specs.Places.{Places}
-use Rattle.account_core.specs.Blobs.{name_in}
+use Rattle.account_core.specs.Blobs.{BlobName, name_in, named_in}
 use Rattle.account_core.specs.Steps.{unfit, draws}
 use Rattle.account_core.specs.Decide.{lacking, decide, IsProper, IsLawful}
 
@@ -87,3 +88,15 @@ OnePassRepeatsNoIv =
     → HasSealed facts history x places one → HasSealed facts later y later_places other
     → PassGoesOn facts (decide facts history x places).places later_places
     → iv_in one.blob ≢ iv_in other.blob
+
+-- a blob names the key and the version that it says
+abbrev pub BlobsAreNamed : Type 0
+BlobsAreNamed =
+    (bytes key : List ℕ) (version : ℕ) (iv text tag : List ℕ) → IsBlobText bytes key version iv text tag
+    → named_in bytes ≡ Some (record { key = key; version = version })
+
+-- and only blobs name any: bytes that name a key and a version are the blob of these
+abbrev pub NamedAreBlobs : Type 0
+NamedAreBlobs =
+    (bytes : List ℕ) (name : BlobName) → ((i : ℕ) → slice_index bytes i < 256) → named_in bytes ≡ Some name
+    → (iv : List ℕ) × (text : List ℕ) × (tag : List ℕ) × IsBlobText bytes name.key name.version iv text tag

@@ -1,6 +1,6 @@
 //! Laws of what the account seals. Each stands as the contract of a function that does nothing.
 
-ghost use Rattle.account_core.specs.Laws.{SealedIsDecryptedAgain, OnePassRepeatsNoIv};
+ghost use Rattle.account_core.specs.Laws.{SealedIsDecryptedAgain, OnePassRepeatsNoIv, BlobsAreNamed, NamedAreBlobs};
 
 /// What Encrypt, ReEncrypt or a data key call answered as sealed under a context, Decrypt opens to the
 /// text that was sealed, at that history and at every lawful one that goes on from it: under an equal
@@ -15,4 +15,11 @@ pub fn sealed_is_decrypted_again()
 /// of all that the pass seals later, at whatever lawful histories, keys and contexts.
 pub fn one_pass_repeats_no_iv()
     ensures { OnePassRepeatsNoIv }
+{}
+
+/// The key and the version that a decision takes from a sealed text are those that its blob says, and
+/// only the bytes of a blob name any.
+pub fn blobs_name_their_keys()
+    ensures named { BlobsAreNamed }
+    ensures blobs { NamedAreBlobs }
 {}

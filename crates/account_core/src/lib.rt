@@ -22,5 +22,5 @@ pub use decide::Decision;
 pub use entries::{Entry, What};
 pub use facts::RealmFacts;
 pub use ids::draw_line;
-pub use laws::{one_pass_repeats_no_iv, sealed_is_decrypted_again};
+pub use laws::{blobs_name_their_keys, one_pass_repeats_no_iv, sealed_is_decrypted_again};
 pub use rows::KeyRow;
