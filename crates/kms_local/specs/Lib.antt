@@ -1,13 +1,3 @@
-pub mod Parts
-pub mod Message
-pub mod Head
-pub mod Answers
-pub mod Inbox
-pub mod Pass
-pub mod Run
-pub mod Session
-pub mod Replying
 pub mod Words
 pub mod Settings
 pub mod Program
-pub mod Laws

@@ -3,15 +3,15 @@ use Rattle.std.specs.Prelude.{◌≡◌, ◌⊎◌, ℕ, List, codes, Option, No
 use Rattle.kms_io.specs.Wire.{Wire}
 use Rattle.kms_io.specs.Link.{Sends}
 use Rattle.account_core.specs.declared.facts.RealmFacts.{RealmFacts}
-use Rattle.kms_local.specs.declared.trust.Trust.{Trust}
-use Rattle.kms_local.specs.declared.trust.Trust.TheVariants.{Word}
+use Rattle.kms_session.specs.declared.trust.Trust.{Trust}
+use Rattle.kms_session.specs.declared.trust.Trust.TheVariants.{Word}
 use Rattle.kms_local.specs.declared.settings.Settings.{Settings}
 use Rattle.kms_local.specs.declared.settings.RunOption.{RunOption}
 use Rattle.kms_local.specs.declared.settings.RunOption.TheVariants.{Account, Region, Root, As}
-use Rattle.kms_local.specs.declared.session.SessionEnd.{SessionEnd}
-use Rattle.kms_local.specs.declared.session.SessionEnd.TheVariants.{Ended, Closed, CutOff, ReadFault, WriteFault, NoMemory}
-use Rattle.kms_local.specs.Pass.{Pass, first_pass}
-use Rattle.kms_local.specs.Session.{outside, SendsShort, EndsBy}
+use Rattle.kms_session.specs.declared.session.SessionEnd.{SessionEnd}
+use Rattle.kms_session.specs.declared.session.SessionEnd.TheVariants.{Ended, Closed, CutOff, ReadFault, WriteFault, NoMemory}
+use Rattle.publish_pass.specs.Pass.{Pass, first_pass}
+use Rattle.kms_session.specs.Session.{outside, SendsShort, EndsBy}
 use Rattle.kms_local.specs.Words.{Command, command_of}
 use Rattle.kms_local.specs.Settings.{IsSettings, IsRefusedAt}
 

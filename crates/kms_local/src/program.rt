@@ -1,17 +1,15 @@
 // The program, but for its handles.
 ghost use Rattle.std.specs.Prelude.{◌≡◌, drop, map, string_bytes, vec_len};
 ghost use Rattle.account_core.specs.Decide.{account_of};
-ghost use Rattle.kms_local.specs.Run.{caller_of};
-ghost use Rattle.kms_local.specs.declared.trust.Trust.TheVariants.{Word};
+ghost use Rattle.kms_session.specs.Run.{caller_of};
+ghost use Rattle.kms_session.specs.declared.trust.Trust.TheVariants.{Word};
 ghost use Rattle.kms_local.specs.Program.{Runs, Serving, SaysLine, first_told, usage_line, refused_line, status_of_end};
 
-use crate::outbox::send;
-use crate::service::{Opening, Realm, open_service};
-use crate::session::{SessionEnd, serve_session};
 use crate::settings::{RunOption, SettingFault, Settings, read_settings};
-use crate::trust::Trust;
 use crate::words::read_words;
 use kms_io::{Clock, Door, Files, Gate, Link};
+use kms_session::{SessionEnd, Trust, send, serve_session};
+use publish_pass::{Opening, Realm, open_service};
 use std::alloc::Global;
 use std::marker::Brand;
 use std::sync::Wait;

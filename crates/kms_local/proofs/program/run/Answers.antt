@@ -1,5 +1,5 @@
 use Rattle.std.proofs.Common.{refl}
-use Rattle.kms_local.specs.Pass.{first_pass}
+use Rattle.publish_pass.specs.Pass.{first_pass}
 use Rattle.kms_local.proofs.program.run.Goals as goal
 
 pub returns-in_default : goal.returns-in_default

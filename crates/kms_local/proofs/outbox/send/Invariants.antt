@@ -1,9 +1,0 @@
-use Rattle.std.proofs.Common.{length, take, ◌-◌, ◌≤◌}
-use Rattle.kms_io.specs.Link.{Sends}
-use Rattle.kms_local.proofs.outbox.send.Given as goal
-
-abbrev pub invariant-loop-at : goal.invariant-loop-at
-invariant-loop-at g l = record { within : l.at ≤ length l.text; sent : Sends (g.L.Link.shows l.initial.link) (g.L.Link.shows l.link) (take l.at l.text) }
-
-abbrev pub decreases-loop-at : goal.decreases-loop-at
-decreases-loop-at g l = length l.text - l.at

@@ -1,9 +1,0 @@
-use Rattle.std.proofs.Common.{length, ◌-◌}
-use Rattle.kms_local.specs.Inbox.{Receives}
-use Rattle.kms_local.proofs.waiting.await_message.Given as goal
-
-abbrev pub invariant-loop-cut : goal.invariant-loop-cut
-invariant-loop-cut g l = Receives (g.L.Link.shows l.initial.link) l.initial.inbox (g.L.Link.shows l.link) l.inbox
-
-abbrev pub decreases-loop-cut : goal.decreases-loop-cut
-decreases-loop-cut g l = 147456 - length l.inbox

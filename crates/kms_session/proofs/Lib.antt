@@ -1,0 +1,6 @@
+mod Wires
+mod Messages
+mod Runs
+mod ReplyLemmas
+mod OneCut
+mod OneEnd

@@ -1,0 +1,128 @@
+-- Replies that were written, whole or cut short.
+use Rattle.std.proofs.Common.{◌≡◌, ℕ, List, ◌++◌, length, Bool, true, false, Option, None, Some, refl, sym, ap, ap₂, ◌∙◌, subst, arith}
+use Rattle.std.specs.Bool.{MatchBool}
+use Rattle.kms_io.specs.Wire.{Wire}
+use Rattle.kms_io.specs.Link.{Sends}
+use Rattle.account_core.proofs.GoingOn.{decide_goes_on}
+use Rattle.publish_pass.specs.declared.pass.Answered.{Answered}
+use Rattle.http_front.specs.Head.{IsHead}
+use Rattle.kms_json.specs.declared.asks.Ask.{Ask}
+use Rattle.kms_json.specs.declared.replies.Reply.{Reply}
+use Rattle.kms_json.specs.Asks.{asked, changes_account}
+use Rattle.account_core.specs.declared.entries.Entry.{Entry}
+use Rattle.account_core.specs.History.{housekeeping_of}
+use Rattle.account_core.specs.Decide.{decide}
+use Rattle.kms_session.specs.declared.trust.Trust.{Trust}
+use Rattle.http_front.specs.Message.{Message, target_in}
+use Rattle.publish_pass.specs.Answers.{Answer, answer_in, answer_of}
+use Rattle.kms_session.specs.Answers.{IsReplyText, five_hundred}
+use Rattle.publish_pass.specs.Pass.{Pass, Reads, Wants, Changes, making_any, entries_of}
+use Rattle.kms_session.specs.Run.{Plan, answered, asks, plan_of, planned, whole, Wanting, Answers, early, reads, changes, Replies, answers, wants_memory}
+use Rattle.kms_session.specs.Session.{SendsShort, Responds, RespondsShort}
+use Rattle.kms_session.specs.Replying.{SendsReply, SendsReplyShort, Gives}
+use Rattle.kms_session.proofs.Wires.{sends_on, sends_short_after, sends_short_before}
+
+pub text_of_reply : (answer : Answer) (second front : ℕ) (closes : Bool) (head : List ℕ) → IsHead answer.status (length answer.body) second front closes head
+    → IsReplyText answer second front closes (head ++ answer.body)
+text_of_reply answer second front closes head is = record { head = head; is_head = is; whole = refl }
+
+-- the head failed
+pub head_short : (answer : Answer) (second front : ℕ) (closes : Bool) (head : List ℕ) (old new : Wire) → IsHead answer.status (length answer.body) second front closes head
+    → SendsShort old new head → SendsReplyShort answer second front closes old new
+head_short answer second front closes head old new is short = record {
+  text = head ++ answer.body;
+  is = text_of_reply answer second front closes head is;
+  short = sends_short_before answer.body short;
+}
+
+-- the head was written, and then the body, or a front of it
+pub body_sent : (sent : Bool) (answer : Answer) (second front : ℕ) (closes : Bool) (head : List ℕ) (old mid new : Wire) → IsHead answer.status (length answer.body) second front closes head
+    → Sends old mid head → MatchBool sent (Sends mid new answer.body) (SendsShort mid new answer.body)
+    → MatchBool sent (SendsReply answer second front closes old new) (SendsReplyShort answer second front closes old new)
+body_sent true answer second front closes head old mid new is first then =
+    record { text = head ++ answer.body; is = text_of_reply answer second front closes head is; sends = sends_on first then }
+body_sent false answer second front closes head old mid new is first then =
+    record { text = head ++ answer.body; is = text_of_reply answer second front closes head is; short = sends_short_after first then }
+
+-- a reply to a plan
+pub replied : (sent : Bool) (s : Pass) (plan : Plan) (answer : Answer) (second front : ℕ) (closes : Bool) (old new : Wire) (t : Pass)
+    → Answers s plan answer t → front ≡ length t.history
+    → MatchBool sent (SendsReply answer second front closes old new) (SendsReplyShort answer second front closes old new)
+    → MatchBool sent (Responds s plan second closes old new t) (RespondsShort s plan second closes old new t)
+replied true s plan answer second front closes old new t is at reply =
+    record { text = reply.text; replies = answers answer is (subst (λ (n : ℕ). IsReplyText answer second n closes reply.text) at reply.is); sends = reply.sends }
+replied false s plan answer second front closes old new t is at reply =
+    record { text = reply.text; replies = answers answer is (subst (λ (n : ℕ). IsReplyText answer second n closes reply.text) at reply.is); short = reply.short }
+
+-- a pass that holds what it held has used nothing
+pub wants_none : (s t : Pass) (x : Ask) → t ≡ s → Wants s x t
+wants_none s t x same =
+    let goes = decide_goes_on s.facts (entries_of s.history) x s.places in
+    record {
+      met = s;
+      seen = refl;
+      places = s.places;
+      used = same;
+      at_most = record {
+        number = refl;
+        words_from = omega arith;
+        words_to = goes.words_from;
+        ivs_from = omega arith;
+        ivs_to = goes.ivs_from;
+      };
+    }
+
+pub wanting_none : (s t : Pass) (plan : Plan) → t ≡ s → Wanting s plan t
+wanting_none s t (answered answer) same = same
+wanting_none s t (asks x) same = wants_none s t x same
+
+-- a reply for want of memory
+pub wanted : (sent : Bool) (s : Pass) (plan : Plan) (second : ℕ) (closes : Bool) (old new : Wire) (t : Pass) → Wanting s plan t
+    → MatchBool sent (Sends old new five_hundred) (SendsShort old new five_hundred)
+    → MatchBool sent (Responds s plan second closes old new t) (RespondsShort s plan second closes old new t)
+wanted true s plan second closes old new t is reply = record { text = five_hundred; replies = wants_memory is refl; sends = reply }
+wanted false s plan second closes old new t is reply = record { text = five_hundred; replies = wants_memory is refl; short = reply }
+
+-- what a pass hands on as the answer to a request that changes the account
+pub gives_changed : (s t : Pass) (x : Ask) (a : Answered) → true ≡ changes_account x.body
+    → (reply : Reply) × Changes s x reply t × (answer_in a ≡ answer_of reply) × (a.front ≡ length t.history) → Gives s (asks x) a t
+gives_changed s t x a is h = record { answers = changes x h.0 refl (sym is) h.1 h.2; front = h.3 }
+
+-- and to one that doesn't
+pub gives_read : (s t : Pass) (x : Ask) (a : Answered) → false ≡ changes_account x.body
+    → (reply : Reply) × Reads s x reply t × (answer_in a ≡ answer_of reply) × (a.front ≡ length t.history) → Gives s (asks x) a t
+gives_read s t x a is h = record { answers = reads x h.0 refl (sym is) h.1 h.2; front = h.3 }
+
+-- what a pass hands on is replied
+pub replied_given : (sent : Bool) (s t : Pass) (plan other : Plan) (a : Answered) (body : List ℕ) (second : ℕ) (closes : Bool) (old new : Wire)
+    → other ≡ plan → body ≡ a.body → Gives s other a t
+    → MatchBool sent (SendsReply (record { status = a.status; body = body }) second a.front closes old new) (SendsReplyShort (record { status = a.status; body = body }) second a.front closes old new)
+    → MatchBool sent (Responds s plan second closes old new t) (RespondsShort s plan second closes old new t)
+replied_given sent s t plan other a body second closes old new same is gives reply =
+    let P : List ℕ → Type 0 = λ b. MatchBool sent (SendsReply (record { status = a.status; body = b }) second a.front closes old new) (SendsReplyShort (record { status = a.status; body = b }) second a.front closes old new) in
+    replied sent s plan (answer_in a) second a.front closes old new t (subst (λ (p : Plan). Answers s p (answer_in a) t) same gives.answers) gives.front (subst P is reply)
+
+-- what a message comes to, from its parts
+pub plan_from : (trust : Trust) (c : ℕ) (m : Message) (target body : List ℕ) → target ≡ target_in m → body ≡ m.body → planned trust c (asked target body) ≡ plan_of trust (whole m) c
+plan_from trust c m target body is has = ap₂ (λ (t : List ℕ) (b : List ℕ). planned trust c (asked t b)) is has
+
+any_facts : (s t : Pass) (entry : Option Entry) → t ≡ making_any s entry → t.facts ≡ s.facts
+any_facts s t None is = ap (λ (p : Pass). p.facts) is
+any_facts s t (Some entry) is = ap (λ (p : Pass). p.facts) is
+
+-- the facts stay
+facts_answered : {s t : Pass} {plan : Plan} {answer : Answer} → Answers s plan answer t → t.facts ≡ s.facts
+facts_answered (early is same) = ap (λ (p : Pass). p.facts) same
+facts_answered (reads x reply is which h has) = ap (λ (p : Pass). p.facts) h.used ∙ ap (λ (p : Pass). p.facts) h.seen
+facts_answered {t = t} (changes x reply is which h has) =
+    let house = housekeeping_of (entries_of h.met.history) x.moment in
+    let entry = (decide h.kept.facts (entries_of h.kept.history) x h.kept.places).entry in
+    any_facts h.kept t entry h.made ∙ any_facts h.met h.kept house h.house ∙ ap (λ (p : Pass). p.facts) h.seen
+
+facts_wanting : (s t : Pass) (plan : Plan) → Wanting s plan t → t.facts ≡ s.facts
+facts_wanting s t (answered answer) is = ap (λ (p : Pass). p.facts) is
+facts_wanting s t (asks x) is = ap (λ (p : Pass). p.facts) is.used ∙ ap (λ (p : Pass). p.facts) is.seen
+
+pub facts_kept : {s t : Pass} {plan : Plan} {c : ℕ} {closes : Bool} {text : List ℕ} → Replies s plan c closes text t → t.facts ≡ s.facts
+facts_kept (answers answer is text) = facts_answered is
+facts_kept {s = s} {t = t} {plan = plan} (wants_memory is text) = facts_wanting s t plan is

@@ -1,0 +1,146 @@
+-- How a run goes on.
+use Rattle.std.proofs.Common.{◌≡◌, ◌+◌, ℕ, List, [], ◌∷◌, ◌++◌, Bool, true, false, refl, sym, ap, ◌∙◌, append_assoc, length-append, subst, drop, arith}
+use Rattle.std.proofs.lemmas.List.{take-append-drop}
+use Rattle.kms_io.specs.Wire.{Wire, with_more, with_first, TellsMore}
+use Rattle.kms_io.specs.Link.{Sends}
+use Rattle.http_front.specs.declared.message.Cut.{Cut}
+use Rattle.http_front.specs.declared.message.HttpFault.{HttpFault}
+use Rattle.kms_session.specs.declared.trust.Trust.{Trust}
+use Rattle.kms_session.specs.Inbox.{Receives}
+use Rattle.http_front.specs.Message.{Message, IsHopeless, CutsOff}
+use Rattle.kms_session.specs.Run.{Item, whole, fault, closes_at, plan_of, Turn, goes_on, begins, Cuts, nothing, message, no_message}
+use Rattle.kms_session.specs.Session.{Outside, Serves, Responds, RespondsShort, BreaksOff}
+use Rattle.kms_session.proofs.Wires.{rose_since, with_more-append, with_first-append, with_more-nil, with_first-nil, tells_on, tells_nothing}
+
+-- more bytes go to the rest
+pub cuts_more : {stream rest : List ℕ} {items : List Item} (bytes : List ℕ) → Cuts stream false items rest → Cuts (stream ++ bytes) false items (rest ++ bytes)
+cuts_more bytes nothing = nothing
+cuts_more bytes (message {items} {rest} {text} {more} {m} cuts split is closes) =
+    message (cuts_more bytes cuts) (ap (λ all. all ++ bytes) split ∙ append_assoc text more bytes) is closes
+
+pub serves_nothing : (trust : Trust) (start : Outside) → Serves trust start start false 0 []
+serves_nothing trust start = record {
+  input = [];
+  items = [];
+  clocks = [];
+  text = [];
+  number = refl;
+  cuts = nothing;
+  run = begins;
+  taken = with_more-nil start.wire.taken;
+  left = with_first-nil start.wire.left;
+  written = with_more-nil start.wire.written;
+  told = tells_nothing start.clock;
+  read_faults = omega arith;
+  write_faults = omega arith;
+}
+
+-- bytes come, and no reply is written
+pub serves_read : {trust : Trust} {start old : Outside} {count : ℕ} {buffer : List ℕ} (wire : Wire) (after : List ℕ) → Serves trust start old false count buffer → Receives old.wire buffer wire after
+    → Serves trust start (record { wire = wire; clock = old.clock; pass = old.pass }) false count after
+serves_read {trust} {start} {old} {count} {buffer} wire after s r = record {
+  input = s.input ++ r.bytes;
+  items = s.items;
+  clocks = s.clocks;
+  text = s.text;
+  number = s.number;
+  cuts = subst (Cuts (s.input ++ r.bytes) false s.items) (sym r.grows) (cuts_more r.bytes s.cuts);
+  run = s.run;
+  taken = r.takes.taken ∙ ap (λ told. with_more told r.bytes) s.taken ∙ with_more-append start.wire.taken s.input r.bytes;
+  left = s.left ∙ ap (with_first s.input) r.takes.left ∙ with_first-append s.input r.bytes wire.left;
+  written = r.takes.written ∙ s.written;
+  told = s.told;
+  read_faults = omega (arith, s.read_faults, r.takes.faults);
+  write_faults = omega (arith, s.write_faults, r.takes.write_faults);
+}
+
+-- one more item is answered
+pub serves_item : {trust : Trust} {start old new : Outside} {count : ℕ} {buffer reply more : List ℕ} (item : Item) (c : ℕ) (closes : Bool) (s : Serves trust start old false count buffer)
+    → Cuts s.input closes (s.items ++ item ∷ []) more → closes ≡ closes_at count item
+    → Turn old.pass trust item c closes reply new.pass → Sends old.wire new.wire reply → TellsMore old.clock (c ∷ []) new.clock
+    → Serves trust start new closes (count + 1) more
+serves_item {trust} {start} {old} {new} {count} {buffer} {reply} {more} item c closes s cuts is turn sends tells = record {
+  input = s.input;
+  items = s.items ++ item ∷ [];
+  clocks = s.clocks ++ c ∷ [];
+  text = s.text ++ reply;
+  number = simp length-append (omega (arith, s.number));
+  cuts = cuts;
+  run = goes_on item c s.run (subst (λ b. Turn old.pass trust item c b reply new.pass) (is ∙ ap (λ n. closes_at n item) (sym s.number)) turn);
+  taken = sends.taken ∙ s.taken;
+  left = s.left ∙ ap (with_first s.input) (sym sends.left);
+  written = sends.written ∙ ap (λ told. with_more told reply) s.written ∙ with_more-append start.wire.written s.text reply;
+  told = tells_on start.clock old.clock new.clock s.clocks (c ∷ []) s.told tells;
+  read_faults = omega (arith, s.read_faults, sends.read_faults);
+  write_faults = omega (arith, s.write_faults, sends.faults);
+}
+
+-- a message at the front of the buffer is cut off
+cuts_message : {trust : Trust} {start old : Outside} {count : ℕ} {buffer : List ℕ} {closes : Bool} (cut : Cut) (m : Message) (s : Serves trust start old false count buffer) → CutsOff buffer cut m
+    → closes ≡ closes_at count (whole m) → Cuts s.input closes (s.items ++ whole m ∷ []) (drop cut.len buffer)
+cuts_message {buffer = buffer} cut m s cuts is =
+    message s.cuts (sym (take-append-drop cut.len buffer)) cuts.message (is ∙ ap (λ n. closes_at n (whole m)) (sym s.number))
+
+-- a message at the front of the buffer is answered
+pub serves_message : {trust : Trust} {start old new : Outside} {count c : ℕ} {buffer : List ℕ} {closes : Bool} (cut : Cut) (m : Message) → Serves trust start old false count buffer → CutsOff buffer cut m
+    → closes ≡ closes_at count (whole m) → TellsMore old.clock (c ∷ []) new.clock
+    → Responds old.pass (plan_of trust (whole m) c) c closes old.wire new.wire new.pass
+    → Serves trust start new closes (count + 1) (drop cut.len buffer)
+serves_message {c = c} {closes = closes} cut m s cuts is tells r = serves_item (whole m) c closes s (cuts_message cut m s cuts is) is r.replies r.sends tells
+
+-- bytes that no message begins with are answered
+pub serves_fault : {trust : Trust} {start old new : Outside} {count c : ℕ} {buffer : List ℕ} (why : HttpFault) → Serves trust start old false count buffer → IsHopeless buffer
+    → TellsMore old.clock (c ∷ []) new.clock → Responds old.pass (plan_of trust (fault why) c) c true old.wire new.wire new.pass
+    → Serves trust start new true (count + 1) buffer
+serves_fault {c = c} why s hopeless tells r = serves_item (fault why) c true s (no_message why s.cuts hopeless) refl r.replies r.sends tells
+
+-- the same, where the test has come out
+pub serves_where : {trust : Trust} {start new : Outside} {count : ℕ} {rest : List ℕ} {closes is : Bool} → closes ≡ is → Serves trust start new closes count rest → Serves trust start new is count rest
+serves_where {trust} {start} {new} {count} {rest} e s = subst (λ (b : Bool). Serves trust start new b count rest) e s
+
+pub serves_rest : {trust : Trust} {start new : Outside} {count : ℕ} {rest same : List ℕ} {closes : Bool} → same ≡ rest → Serves trust start new closes count rest → Serves trust start new closes count same
+serves_rest {trust} {start} {new} {count} {closes = closes} e s = subst (Serves trust start new closes count) (sym e) s
+
+-- a reply to a message that was cut short ends the session
+pub breaks_at_message : {trust : Trust} {start old new : Outside} {count c : ℕ} {buffer : List ℕ} {closes : Bool} (cut : Cut) (m : Message) → Serves trust start old false count buffer → CutsOff buffer cut m
+    → closes ≡ closes_at count (whole m) → TellsMore old.clock (c ∷ []) new.clock
+    → RespondsShort old.pass (plan_of trust (whole m) c) c closes old.wire new.wire new.pass → BreaksOff trust start new
+breaks_at_message {old = old} {count = count} {c = c} {buffer = buffer} {closes = closes} cut m s cuts is tells r = record {
+  so_far = old;
+  count = count;
+  buffer = buffer;
+  rest = drop cut.len buffer;
+  item = whole m;
+  c = c;
+  closes = closes;
+  serves = s;
+  cuts = cuts_message cut m s cuts is;
+  is = is;
+  told = tells;
+  text = r.text;
+  turn = r.replies;
+  short = r.short;
+  rose = rose_since _ _ _ s.write_faults r.short.rose;
+}
+
+-- and so does one to what no message begins with
+pub breaks_at_fault : {trust : Trust} {start old new : Outside} {count c : ℕ} {buffer : List ℕ} (why : HttpFault) → Serves trust start old false count buffer → IsHopeless buffer
+    → TellsMore old.clock (c ∷ []) new.clock
+    → RespondsShort old.pass (plan_of trust (fault why) c) c true old.wire new.wire new.pass → BreaksOff trust start new
+breaks_at_fault {old = old} {count = count} {c = c} {buffer = buffer} why s hopeless tells r = record {
+  so_far = old;
+  count = count;
+  buffer = buffer;
+  rest = buffer;
+  item = fault why;
+  c = c;
+  closes = true;
+  serves = s;
+  cuts = no_message why s.cuts hopeless;
+  is = refl;
+  told = tells;
+  text = r.text;
+  turn = r.replies;
+  short = r.short;
+  rose = rose_since _ _ _ s.write_faults r.short.rose;
+}

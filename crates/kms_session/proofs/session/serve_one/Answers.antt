@@ -1,0 +1,89 @@
+use Rattle.std.proofs.Common.{◌+◌, ℕ, refl, sym, subst, take, List, arith}
+use Rattle.http_front.specs.Message.{IsMessage}
+use Rattle.kms_session.specs.Session.{outside}
+use Rattle.kms_session.proofs.Runs.{serves_read, serves_message, serves_fault, serves_where, serves_rest, breaks_at_message, breaks_at_fault}
+use Rattle.kms_session.proofs.Messages.{same, other}
+use Rattle.kms_session.proofs.ReplyLemmas.{facts_kept}
+use Rattle.kms_session.proofs.Wires.{rose_since}
+use Rattle.kms_session.proofs.session.serve_one.Goals as goal
+
+pub returns-then-not-respond-clause-goes : goal.returns-then-not-respond-clause-goes
+returns-then-not-respond-clause-goes g c = λ start s.
+    let read = serves_read _ _ s c.in-Message.ensures.receives in
+    let found = c.in-Message.ensures.finds in
+    let cut = c.in-Message.cut in
+    let here = subst (λ (bytes : List ℕ). IsMessage found.0 (take cut.len bytes)) (sym c.bytes.ensures.value) found.1.message in
+    breaks_at_message {new = outside (g.L.Link.shows c.respond.new.link) (g.C.Clock.told c.now-now.new.self) c.respond.new.pass} cut found.0 read found.1 refl c.now-now.ensures.told (c.if-not-respond.ensures found.0 here)
+
+pub returns-then-not-respond-clause-facts : goal.returns-then-not-respond-clause-facts
+returns-then-not-respond-clause-facts g c =
+    let found = c.in-Message.ensures.finds in
+    let here = subst (λ (bytes : List ℕ). IsMessage found.0 (take c.in-Message.cut.len bytes)) (sym c.bytes.ensures.value) found.1.message in
+    facts_kept (c.if-not-respond.ensures found.0 here).replies
+
+pub returns-then-closes-clause-goes : goal.returns-then-closes-clause-goes
+returns-then-closes-clause-goes g c = λ start s.
+    let read = serves_read _ _ s c.in-Message.ensures.receives in
+    let found = c.in-Message.ensures.finds in
+    let cut = c.in-Message.cut in
+    let here = subst (λ (bytes : List ℕ). IsMessage found.0 (take cut.len bytes)) (sym c.bytes.ensures.value) found.1.message in
+    let next = serves_message {new = outside (g.L.Link.shows c.respond.new.link) (g.C.Clock.told c.now-now.new.self) c.respond.new.pass} cut found.0 read found.1 refl c.now-now.ensures.told (c.if-not-respond.ensures found.0 here) in
+    record { count = c.args.number + 1; rest = _; serves = serves_where (same _ _ c.if-closes.true) next }
+
+pub returns-then-closes-clause-facts : goal.returns-then-closes-clause-facts
+returns-then-closes-clause-facts g c =
+    let found = c.in-Message.ensures.finds in
+    let here = subst (λ (bytes : List ℕ). IsMessage found.0 (take c.in-Message.cut.len bytes)) (sym c.bytes.ensures.value) found.1.message in
+    facts_kept (c.if-not-respond.ensures found.0 here).replies
+
+pub returns-else-closes-clause-goes : goal.returns-else-closes-clause-goes
+returns-else-closes-clause-goes g c = λ start s.
+    let read = serves_read _ _ s c.in-Message.ensures.receives in
+    let found = c.in-Message.ensures.finds in
+    let cut = c.in-Message.cut in
+    let here = subst (λ (bytes : List ℕ). IsMessage found.0 (take cut.len bytes)) (sym c.bytes.ensures.value) found.1.message in
+    let next = serves_message {new = outside (g.L.Link.shows c.respond.new.link) (g.C.Clock.told c.now-now.new.self) c.respond.new.pass} cut found.0 read found.1 refl c.now-now.ensures.told (c.if-not-respond.ensures found.0 here) in
+    let going = serves_where (other _ _ c.if-closes.false) next in
+    (serves_rest c.drop_front.ensures going, omega arith)
+
+pub returns-else-closes-clause-facts : goal.returns-else-closes-clause-facts
+returns-else-closes-clause-facts g c =
+    let found = c.in-Message.ensures.finds in
+    let here = subst (λ (bytes : List ℕ). IsMessage found.0 (take c.in-Message.cut.len bytes)) (sym c.bytes.ensures.value) found.1.message in
+    facts_kept (c.if-not-respond.ensures found.0 here).replies
+
+pub returns-then-respond_fault-clause-goes : goal.returns-then-respond_fault-clause-goes
+returns-then-respond_fault-clause-goes g c = λ start s.
+    let read = serves_read _ _ s c.in-Bad.ensures.receives in
+    let next = serves_fault {new = outside (g.L.Link.shows c.respond_fault.new.link) (g.C.Clock.told c.now-now-in-Bad.new.self) c.args.pass.now} c.in-Bad.fault read c.in-Bad.ensures.finds c.now-now-in-Bad.ensures.told c.if-respond_fault.ensures in
+    record { count = c.args.number + 1; rest = c.await_message.new.inbox; serves = next }
+
+pub returns-else-respond_fault-clause-goes : goal.returns-else-respond_fault-clause-goes
+returns-else-respond_fault-clause-goes g c = λ start s.
+    let read = serves_read _ _ s c.in-Bad.ensures.receives in
+    breaks_at_fault {new = outside (g.L.Link.shows c.respond_fault.new.link) (g.C.Clock.told c.now-now-in-Bad.new.self) c.args.pass.now} c.in-Bad.fault read c.in-Bad.ensures.finds c.now-now-in-Bad.ensures.told c.if-respond_fault.ensures
+
+pub returns-in-End-clause-goes : goal.returns-in-End-clause-goes
+returns-in-End-clause-goes g c = λ start s.
+    let read = serves_read _ _ s c.in-End.ensures.receives in
+    record { count = c.args.number; serves = serves_rest (sym c.if-is_empty.ensures) read; at_end = c.in-End.ensures.finds.2 }
+
+pub returns-in-End-2-clause-goes : goal.returns-in-End-2-clause-goes
+returns-in-End-2-clause-goes g c = λ start s.
+    let read = serves_read _ _ s c.in-End.ensures.receives in
+    let finds = c.in-End.ensures.finds in
+    record {
+      count = c.args.number;
+      rest = c.await_message.new.inbox;
+      serves = read;
+      some = c.if-is_empty.ensures;
+      unfinished = finds.1;
+      none = finds.0;
+      at_end = finds.2;
+    }
+
+pub returns-in-Failed-clause-goes : goal.returns-in-Failed-clause-goes
+returns-in-Failed-clause-goes g c = λ start s.
+    let read = serves_read _ _ s c.in-Failed.ensures.receives in
+    let finds = c.in-Failed.ensures.finds in
+    record { count = c.args.number; rest = c.await_message.new.inbox; serves = read; none = finds.0; rose = rose_since _ _ _ s.read_faults finds.1 }

@@ -1,0 +1,28 @@
+-- How bytes come into the buffer.
+use Rattle.std.specs.Prelude.{◌≡◌, ◌<◌, ℕ, List, ◌++◌, length}
+use Rattle.kms_io.specs.Wire.{Wire, RoseBy}
+use Rattle.kms_io.specs.Link.{Takes, IsAtEnd}
+use Rattle.kms_io.specs.declared.link.Took.{Took}
+use Rattle.kms_io.specs.declared.link.Took.TheVariants.{Got, End, Failed}
+use Rattle.kms_session.specs.declared.waiting.Awaited.{Awaited}
+use Rattle.kms_session.specs.declared.waiting.Awaited.TheVariants as awaited
+use Rattle.http_front.specs.Message.{Message, CutsOff, IsHopeless, BeginsWithNone, IsUnfinished}
+
+-- these bytes came from the link to the end of the buffer
+pub record Receives (old : Wire) (before : List ℕ) (new : Wire) (after : List ℕ) : Type 0 where
+  pub bytes : List ℕ
+  pub takes : Takes old new bytes
+  pub grows : after ≡ before ++ bytes
+
+-- what one read did
+abbrev pub Fills : Wire → List ℕ → Took → Wire → List ℕ → Type 0
+Fills old before (Got n) new after = Receives old before new after × (length before < length after)
+Fills old before End new after = Receives old before new after × (after ≡ before) × IsAtEnd new
+Fills old before Failed new after = Receives old before new after × (after ≡ before) × RoseBy 1 old.read_faults new.read_faults
+
+-- what the buffer begins with, once no further read is needed or possible
+abbrev pub Finds : Wire → Wire → List ℕ → Awaited → Type 0
+Finds old new buffer (awaited.Message cut) = (m : Message) × CutsOff buffer cut m
+Finds old new buffer (awaited.Bad fault) = IsHopeless buffer
+Finds old new buffer awaited.End = BeginsWithNone buffer × IsUnfinished buffer × IsAtEnd new
+Finds old new buffer awaited.Failed = BeginsWithNone buffer × RoseBy 1 old.read_faults new.read_faults

@@ -1,0 +1,79 @@
+-- A session as a run of turns over what is due.
+use Rattle.std.specs.Prelude.{◌≡◌, ◌+◌, ◌==◌, ℕ, List, [], ◌∷◌, ◌++◌, length, Bool, true, false, None, Result, Ok, Err}
+use Rattle.kms_names.specs.declared.principals.Principal.{Principal}
+use Rattle.kms_json.specs.declared.asks.Ask.{Ask}
+use Rattle.kms_json.specs.declared.asks.AskBody.{AskBody}
+use Rattle.kms_json.specs.declared.replies.Reply.{Reply}
+use Rattle.kms_json.specs.declared.replies.Reply.TheVariants.{Refused}
+use Rattle.kms_json.specs.declared.replies.Refusal.{Refusal}
+use Rattle.kms_json.specs.Asks.{asked, changes_account}
+use Rattle.http_front.specs.declared.message.HttpFault.{HttpFault}
+use Rattle.kms_session.specs.declared.trust.Trust.{Trust}
+use Rattle.kms_session.specs.declared.trust.Trust.TheVariants.{Word}
+use Rattle.http_front.specs.Message.{Message, IsMessage, IsHopeless, target_in}
+use Rattle.publish_pass.specs.Answers.{Answer, answer_of}
+use Rattle.kms_session.specs.Answers.{fault_answer, IsReplyText, five_hundred}
+use Rattle.publish_pass.specs.Pass.{Pass, Reads, Changes, Wants}
+
+-- what is answered: a message, or bytes that no message begins with
+pub data Item : Type 0 where
+  whole : Message → Item
+  fault : HttpFault → Item
+
+-- whether the reply to the item at this place, counted from 0, closes the session
+abbrev pub closes_at : ℕ → Item → Bool
+closes_at place (whole m) = place + 1 == 100000
+closes_at place (fault why) = true
+
+-- the caller that is trusted
+abbrev pub caller_of : Trust → Principal
+caller_of (Word caller) = caller
+
+-- what an item comes to: an answer that no history decides, or a request of the account
+pub data Plan : Type 0 where
+  answered : Answer → Plan
+  asks : Ask → Plan
+
+abbrev pub planned : Trust → ℕ → Result AskBody Refusal → Plan
+planned trust c (Ok body) = asks (record { body = body; caller = caller_of trust; moment = c; after = None })
+planned trust c (Err refusal) = answered (answer_of (Refused refusal))
+
+abbrev pub plan_of : Trust → Item → ℕ → Plan
+plan_of trust (whole m) c = planned trust c (asked (target_in m) m.body)
+plan_of trust (fault why) c = answered (fault_answer why)
+
+-- the answer to a plan, and what the pass holds afterwards
+pub data Answers (s : Pass) (plan : Plan) (answer : Answer) (t : Pass) : Type 0 where
+  early : plan ≡ answered answer → t ≡ s → Answers s plan answer t
+  reads : (x : Ask) (reply : Reply) → plan ≡ asks x → changes_account x.body ≡ false → Reads s x reply t → answer ≡ answer_of reply → Answers s plan answer t
+  changes : (x : Ask) (reply : Reply) → plan ≡ asks x → changes_account x.body ≡ true → Changes s x reply t → answer ≡ answer_of reply → Answers s plan answer t
+
+-- what a pass holds after the reply for want of memory: what it held, but for what a request of the account may have used
+abbrev pub Wanting : Pass → Plan → Pass → Type 0
+Wanting s (answered answer) t = t ≡ s
+Wanting s (asks x) t = Wants s x t
+
+-- The plan is answered, with the number of entries that the answer stands on, or the reply is the one for want of memory.
+pub data Replies (s : Pass) (plan : Plan) (c : ℕ) (closes : Bool) (text : List ℕ) (t : Pass) : Type 0 where
+  answers : (answer : Answer) → Answers s plan answer t → IsReplyText answer c (length t.history) closes text → Replies s plan c closes text t
+  wants_memory : Wanting s plan t → text ≡ five_hundred → Replies s plan c closes text t
+
+-- one turn of a session
+abbrev pub Turn : Pass → Trust → Item → ℕ → Bool → List ℕ → Pass → Type 0
+Turn s trust item c closes text t = Replies s (plan_of trust item c) c closes text t
+
+-- A run of turns over the items in order, each with its answer of the clock. The text is the replies joined.
+pub data SessionRun (start : Pass) (trust : Trust) : Pass → List Item → List ℕ → List ℕ → Type 0 where
+  begins : SessionRun start trust start [] [] []
+  goes_on : {old new : Pass} {items : List Item} {clocks text reply : List ℕ} (item : Item) (c : ℕ)
+      → SessionRun start trust old items clocks text → Turn old trust item c (closes_at (length items) item) reply new
+      → SessionRun start trust new (items ++ item ∷ []) (clocks ++ c ∷ []) (text ++ reply)
+
+-- The stream is cut into these items, of which the last closes or none does, and this rest.
+pub data Cuts (stream : List ℕ) : Bool → List Item → List ℕ → Type 0 where
+  nothing : Cuts stream false [] stream
+  message : {items : List Item} {rest text more : List ℕ} {m : Message} {closes : Bool}
+      → Cuts stream false items rest → rest ≡ text ++ more → IsMessage m text → closes ≡ closes_at (length items) (whole m)
+      → Cuts stream closes (items ++ whole m ∷ []) more
+  no_message : {items : List Item} {rest : List ℕ} (why : HttpFault)
+      → Cuts stream false items rest → IsHopeless rest → Cuts stream true (items ++ fault why ∷ []) rest

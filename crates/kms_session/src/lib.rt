@@ -1,0 +1,14 @@
+//! One connection: messages are read, answered in their order, and the replies are written.
+#![tactic(auto)]
+
+mod inbox;
+mod laws;
+mod outbox;
+mod session;
+mod trust;
+mod waiting;
+
+pub use laws::{one_cut, one_end};
+pub use outbox::send;
+pub use session::{SessionEnd, serve_session};
+pub use trust::Trust;

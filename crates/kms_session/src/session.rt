@@ -1,0 +1,279 @@
+// One connection, from its first byte to its end.
+ghost use Rattle.std.specs.Prelude.{◌≡◌, ◌+◌, ◌<◌, MatchBool, IfOk, OnErr, true, false};
+ghost use Rattle.kms_json.specs.Asks.{asked, refusal_of};
+ghost use Rattle.kms_json.specs.declared.replies.Reply.TheVariants.{Refused};
+ghost use Rattle.account_core.specs.Decide.{account_of, IsProper};
+ghost use Rattle.publish_pass.specs.Answers.{answer_of};
+ghost use Rattle.kms_session.specs.Answers.{fault_answer};
+ghost use Rattle.kms_session.specs.Run.{whole, asks, answered, caller_of, plan_of, planned, Wanting};
+ghost use Rattle.http_front.specs.Message.{Message, IsMessage};
+ghost use Rattle.kms_session.specs.Replying.{Gives};
+ghost use Rattle.kms_session.specs.Session.{Outside, outside, Responds, RespondsShort, Serves, EndsBy, GoesOn};
+
+use crate::inbox::Inbox;
+use http_front::{HttpFault, body_of, target_of};
+use crate::outbox::{send, send_reply};
+use publish_pass::{Answered, Pass, Realm, Service, answer_with};
+use crate::trust::Trust;
+use crate::waiting::{Awaited, await_message};
+use kms_io::{Clock, Gate, Link};
+use kms_json::{Ask, JsonFault, Refusal, Reply, read_ask};
+use kms_names::{NoMemory, Principal};
+use std::alloc::Global;
+use std::sync::Wait;
+
+/// How many messages a session answers at most.
+pub const MESSAGES: u64 = 100_000;
+
+const FIVE_HUNDRED: &[u8] =
+    b"HTTP/1.1 500 Internal Server Error\r\nContent-Type: application/x-amz-json-1.1\r\nContent-Length: 61\r\n\r\n{\"__type\":\"KMSInternalException\",\"message\":\"Want of memory.\"}";
+
+/// How a session ends.
+#[derive(Clone, Copy, Debug, PartialEq, Eq)]
+pub enum SessionEnd {
+    /// The input ended between two messages.
+    Ended,
+    /// A reply that closes was written whole: to an HTTP fault, or to message 100,000.
+    Closed,
+    /// The input ended inside a message, for which nothing was written.
+    CutOff,
+    /// A read failed.
+    ReadFault,
+    /// A write failed. The replies before are written whole, and a front of the last one.
+    WriteFault,
+    /// There was no memory for the buffer, and nothing was taken.
+    NoMemory,
+}
+
+// What a session is served with.
+#[derive(Drop)]
+struct Host<'a, W: Wait, R: Realm, G: Gate> {
+    rt: &'a W,
+    alloc: Global,
+    service: &'a Service<R>,
+    trust: &'a Trust,
+    gate: &'a G,
+}
+
+fn caller(trust: &Trust) -> Result<Principal, NoMemory>
+    ensures { IfOk result (λ caller. caller ≡ caller_of trust.now) }
+{
+    match trust {
+        Trust::Word(caller) => caller.copy(),
+    }
+}
+
+fn refusal_in(fault: JsonFault) -> Option<Refusal>
+    ensures { result ≡ refusal_of fault }
+{
+    match fault {
+        JsonFault::UnknownOperation => Some(Refusal::UnknownOperation),
+        JsonFault::Serialization => Some(Refusal::Serialization),
+        JsonFault::Validation(field) => Some(Refusal::Validation(field)),
+        JsonFault::NoMemory => None,
+    }
+}
+
+fn fault_body(fault: HttpFault) -> &'static [u8]
+    ensures { result.now ≡ (fault_answer fault).body }
+{
+    match fault {
+        HttpFault::BadHead => b"{\"__type\":\"HttpFault\",\"message\":\"BadHead\"}",
+    }
+}
+
+fn fault_status(fault: HttpFault) -> u16
+    ensures { result ≡ (fault_answer fault).status }
+{
+    match fault {
+        HttpFault::BadHead => 400,
+    }
+}
+
+// Answers a request of the account.
+fn answer_ask<W: Wait, R: Realm, G: Gate>(
+    host: &Host<'_, W, R, G>,
+    pass: &mut Pass<R>,
+    ask: &Ask,
+) -> Result<Answered, NoMemory>
+    requires { IsProper pass.old.facts ask.now }
+    ensures answer { IfOk result (λ a. Gives pass.old (asks ask.now) a pass.new) }
+    ensures err { OnErr result (Wanting pass.old (asks ask.now) pass.new) }
+{
+    if ask.changes() {
+        let answered = pass.change(host.rt, host.alloc, host.service, ask, host.gate)?;
+        return Ok(answered);
+    }
+    match pass.read(host.alloc, ask) {
+        Ok(answered) => Ok(answered),
+        Err(_) => Err(NoMemory),
+    }
+}
+
+// Answers a request that asks nothing of the account.
+fn answer_refusal<R: Realm>(
+    alloc: Global,
+    pass: &Pass<R>,
+    refusal: Refusal,
+) -> Result<Answered, NoMemory>
+    ensures { IfOk result (λ a. Gives pass.now (answered (answer_of (Refused refusal))) a pass.now) }
+{
+    answer_with(alloc, pass.seen(), &Reply::Refused(refusal))
+}
+
+// Answers a message of this target and body.
+fn answer_message<W: Wait, R: Realm, G: Gate>(
+    host: &Host<'_, W, R, G>,
+    pass: &mut Pass<R>,
+    target: &[u8],
+    body: &[u8],
+    now: u64,
+) -> Result<Answered, NoMemory>
+    requires now { now < 253402300800 }
+    requires caller { account_of (caller_of host.now.trust.now) ≡ pass.old.facts.account }
+    ensures answer { IfOk result (λ a. Gives pass.old (planned host.now.trust.now now (asked target.now body.now)) a pass.new) }
+    ensures err { OnErr result (Wanting pass.old (planned host.now.trust.now now (asked target.now body.now)) pass.new) }
+{
+    match read_ask(host.alloc, target, body) {
+        Ok(body) => {
+            let ask = Ask {
+                body,
+                caller: caller(host.trust)?,
+                moment: now,
+                after: None,
+            };
+            answer_ask(host, pass, &ask)
+        }
+        Err(fault) => match refusal_in(fault) {
+            Some(refusal) => answer_refusal(host.alloc, pass, refusal),
+            None => Err(NoMemory),
+        },
+    }
+}
+
+// Answers a message on the link. It is false where the link failed.
+fn respond<W: Wait, R: Realm, L: Link, G: Gate>(
+    host: &Host<'_, W, R, G>,
+    pass: &mut Pass<R>,
+    link: &mut L,
+    message: &[u8],
+    now: u64,
+    closes: bool,
+) -> bool
+    requires now { now < 253402300800 }
+    requires caller { account_of (caller_of host.now.trust.now) ≡ pass.old.facts.account }
+    requires message { (m : Message) × IsMessage m message.now }
+    ensures { (m : Message) → IsMessage m message.now → MatchBool result
+        (Responds pass.old (plan_of host.now.trust.now (whole m) now) now closes (L.shows link.old) (L.shows link.new) pass.new)
+        (RespondsShort pass.old (plan_of host.now.trust.now (whole m) now) now closes (L.shows link.old) (L.shows link.new) pass.new) }
+{
+    match answer_message(host, pass, target_of(message), body_of(message), now) {
+        Ok(a) => send_reply(link, a.status, a.body.as_slice(), now, a.front, closes),
+        Err(NoMemory) => send(link, FIVE_HUNDRED),
+    }
+}
+
+// Answers bytes that are no message. It is false where the link failed.
+fn respond_fault<R: Realm, L: Link>(
+    pass: &Pass<R>,
+    link: &mut L,
+    fault: HttpFault,
+    now: u64,
+) -> bool
+    requires { now < 253402300800 }
+    ensures { MatchBool result
+        (Responds pass.now (answered (fault_answer fault)) now true (L.shows link.old) (L.shows link.new) pass.now)
+        (RespondsShort pass.now (answered (fault_answer fault)) now true (L.shows link.old) (L.shows link.new) pass.now) }
+{
+    send_reply(
+        link,
+        fault_status(fault),
+        fault_body(fault),
+        now,
+        pass.seen(),
+        true,
+    )
+}
+
+// Awaits one message and answers it.
+fn serve_one<W: Wait, R: Realm, L: Link, C: Clock, G: Gate>(
+    host: &Host<'_, W, R, G>,
+    pass: &mut Pass<R>,
+    clock: &mut C,
+    link: &mut L,
+    inbox: &mut Inbox,
+    number: u64,
+) -> Option<SessionEnd>
+    requires number { number < 100000 }
+    requires caller { account_of (caller_of host.now.trust.now) ≡ pass.old.facts.account }
+    ensures goes { (start : Outside) → Serves host.now.trust.now start (outside (L.shows link.old) (C.told clock.old) pass.old) false number inbox.old
+        → GoesOn host.now.trust.now result start (outside (L.shows link.new) (C.told clock.new) pass.new) (number + 1) inbox.new }
+    ensures facts { pass.new.facts ≡ pass.old.facts }
+{
+    match await_message(inbox, link) {
+        Awaited::Message(cut) => {
+            let closes = number + 1 == MESSAGES;
+            let now = clock.now();
+            let message = &inbox.bytes()[..cut.len];
+            if !respond(host, pass, link, message, now, closes) {
+                return Some(SessionEnd::WriteFault);
+            }
+            inbox.drop_front(cut.len);
+            if closes {
+                Some(SessionEnd::Closed)
+            } else {
+                None
+            }
+        }
+        Awaited::Bad(fault) => {
+            let now = clock.now();
+            if respond_fault(pass, link, fault, now) {
+                Some(SessionEnd::Closed)
+            } else {
+                Some(SessionEnd::WriteFault)
+            }
+        }
+        Awaited::End if inbox.is_empty() => Some(SessionEnd::Ended),
+        Awaited::End => Some(SessionEnd::CutOff),
+        Awaited::Failed => Some(SessionEnd::ReadFault),
+    }
+}
+
+/// Serves a connection to its end.
+///
+/// What is written is the replies of a run of turns over the messages into which the bytes taken are
+/// cut, in whatever pieces they come, and each end comes by its cause (`EndsBy`). The clock is asked
+/// once for each message answered. The buffer of 147,456 bytes is reserved before the first byte is
+/// taken, and nothing is read while it holds a whole message. It makes at most 100,000 answers.
+pub fn serve_session<W: Wait, R: Realm, L: Link, C: Clock, G: Gate>(
+    rt: &W,
+    alloc: Global,
+    service: &Service<R>,
+    pass: &mut Pass<R>,
+    trust: &Trust,
+    clock: &mut C,
+    link: &mut L,
+    gate: &G,
+) -> SessionEnd
+    requires { account_of (caller_of trust.now) ≡ pass.old.facts.account }
+    ensures { EndsBy trust.now result (outside (L.shows link.old) (C.told clock.old) pass.old)
+        (outside (L.shows link.new) (C.told clock.new) pass.new) }
+{
+    let Ok(mut inbox) = Inbox::new(alloc) else {
+        return SessionEnd::NoMemory;
+    };
+    let host = Host {
+        rt,
+        alloc,
+        service,
+        trust,
+        gate,
+    };
+    for number in 0..MESSAGES {
+        match serve_one(&host, pass, clock, link, &mut inbox, number) {
+            Some(end) => return end,
+            None => {}
+        }
+    }
+    SessionEnd::Closed
+}
