@@ -1,0 +1,337 @@
+//! The cases of names: accounts, principals, keys, grants, aliases, references and operations.
+
+use crate::columns::{
+    Columns, push, push_bytes, push_number, written, written_bytes, written_text, written_texts,
+    written_truth,
+};
+use kms_names::{
+    AccountNumber, Action, AliasName, Bytes, GrantId, GrantOp, GrantOps, KeyId, KeyRef, NameFault,
+    Principal, Text, alias_arn, grant_text, grant_text_into, is_alias_name, is_region, key_arn,
+    key_text, key_text_into, principal_len, read_alias, read_grant_id, read_key_id, read_key_ref,
+    read_principal, write_principal,
+};
+use std::alloc::Global;
+use std::cmp::Ordering;
+
+/// What a call of names answers.
+pub fn names(alloc: Global, columns: &mut Columns<'_>) -> Option<String> {
+    let call = columns.word()?;
+    match call {
+        "account" | "is_region" | "is_alias_name" | "read_alias" | "read_key_ref" => {
+            texts_read(alloc, call, columns)
+        }
+        "read_principal" | "write_principal" | "principal_len" => {
+            principals(alloc, call, columns)
+        }
+        "read_key_id"
+        | "key_text"
+        | "key_text_into"
+        | "read_grant_id"
+        | "grant_text"
+        | "grant_text_into" => ids(alloc, call, columns),
+        "key_arn" | "alias_arn" => arns(alloc, call, columns),
+        "action" | "grant_op" | "grant_ops" | "is_subset" => operations(alloc, call, columns),
+        "text" | "bytes" | "texts" | "order" => values(alloc, call, columns),
+        _ => None,
+    }
+}
+
+/// The name of a fault, but for want of memory.
+fn fault_name(fault: NameFault) -> Option<&'static str> {
+    match fault {
+        NameFault::BadArn => Some("BadArn"),
+        NameFault::BadAlias => Some("BadAlias"),
+        NameFault::BadId => Some("BadId"),
+        NameFault::NoMemory => None,
+    }
+}
+
+fn written_fault(alloc: Global, fault: NameFault) -> Option<String> {
+    written(alloc, fault_name(fault)?)
+}
+
+fn texts_read(alloc: Global, call: &str, columns: &mut Columns<'_>) -> Option<String> {
+    let text = columns.text()?;
+    match call {
+        "account" => account(alloc, text),
+        "is_region" => written_truth(alloc, is_region(text)),
+        "is_alias_name" => written_truth(alloc, is_alias_name(text)),
+        "read_alias" => alias(alloc, text),
+        "read_key_ref" => {
+            let account = AccountNumber::read(columns.word()?)?;
+            reference(alloc, text, &account, columns.word()?)
+        }
+        _ => None,
+    }
+}
+
+fn account(alloc: Global, text: &str) -> Option<String> {
+    match AccountNumber::read(text) {
+        Some(account) => written(alloc, account.copy().ok()?.as_str()),
+        None => written(alloc, "none"),
+    }
+}
+
+fn alias(alloc: Global, text: &str) -> Option<String> {
+    match read_alias(alloc, text) {
+        Ok(alias) => written(alloc, alias.copy().ok()?.as_str()),
+        Err(fault) => written_fault(alloc, fault),
+    }
+}
+
+/// A reference: `key` and the id's bytes, `alias` and the name, or `elsewhere`.
+fn written_reference(alloc: Global, reference: &KeyRef) -> Option<String> {
+    match reference {
+        KeyRef::Key(key) => {
+            let mut answer = written(alloc, "key")?;
+            push_bytes(alloc, &mut answer, key.as_bytes())?;
+            Some(answer)
+        }
+        KeyRef::Alias(alias) => {
+            let mut answer = written(alloc, "alias")?;
+            push(&mut answer, " ", alias.as_str())?;
+            Some(answer)
+        }
+        KeyRef::Elsewhere => written(alloc, "elsewhere"),
+    }
+}
+
+fn reference(alloc: Global, text: &str, account: &AccountNumber, region: &str) -> Option<String> {
+    match read_key_ref(alloc, text, account, region) {
+        Ok(reference) => {
+            let copied = reference.copy().ok()?;
+            if copied != reference {
+                return written(alloc, "another copy");
+            }
+            written_reference(alloc, &copied)
+        }
+        Err(fault) => written_fault(alloc, fault),
+    }
+}
+
+/// The principal of a kind, an account and a path and name: `root` has none of these.
+pub fn read_parts(alloc: Global, columns: &mut Columns<'_>) -> Option<Principal> {
+    let kind = columns.word()?;
+    let account = AccountNumber::read(columns.word()?)?;
+    match kind {
+        "root" => Some(Principal::Root(account)),
+        "user" => Some(Principal::User(account, Text::from_str(alloc, columns.text()?).ok()?)),
+        "role" => Some(Principal::Role(account, Text::from_str(alloc, columns.text()?).ok()?)),
+        _ => None,
+    }
+}
+
+/// The kind of a principal, its account, and its path and name.
+fn written_parts(alloc: Global, principal: &Principal) -> Option<String> {
+    let (kind, account, name) = match principal {
+        Principal::Root(account) => ("root", account, ""),
+        Principal::User(account, name) => ("user", account, name.as_str()),
+        Principal::Role(account, name) => ("role", account, name.as_str()),
+    };
+    let mut answer = written(alloc, kind)?;
+    push(&mut answer, " ", account.as_str())?;
+    if !name.is_empty() {
+        push(&mut answer, " ", name)?;
+    }
+    Some(answer)
+}
+
+fn principals(alloc: Global, call: &str, columns: &mut Columns<'_>) -> Option<String> {
+    match call {
+        "read_principal" => match read_principal(alloc, columns.text()?) {
+            Ok(principal) => written_parts(alloc, &principal.copy().ok()?),
+            Err(fault) => written_fault(alloc, fault),
+        },
+        "write_principal" => {
+            let principal = read_parts(alloc, columns)?;
+            written(alloc, write_principal(alloc, &principal).ok()?.as_str())
+        }
+        "principal_len" => {
+            let principal = read_parts(alloc, columns)?;
+            let mut answer = String::new(alloc);
+            push_number(alloc, &mut answer, principal_len(&principal) as u64)?;
+            Some(answer)
+        }
+        _ => None,
+    }
+}
+
+fn ids(alloc: Global, call: &str, columns: &mut Columns<'_>) -> Option<String> {
+    match call {
+        "read_key_id" => match read_key_id(columns.text()?) {
+            Some(key) => written_bytes(alloc, key.copy().ok()?.as_bytes()),
+            None => written(alloc, "none"),
+        },
+        "read_grant_id" => match read_grant_id(columns.text()?) {
+            Some(grant) => written_bytes(alloc, grant.copy().ok()?.as_bytes()),
+            None => written(alloc, "none"),
+        },
+        "key_text" => {
+            let key = KeyId::new(columns.array()?);
+            written(alloc, key_text(alloc, &key).ok()?.as_str())
+        }
+        "key_text_into" => {
+            let key = KeyId::new(columns.array()?);
+            written(alloc, key_text_into(&key, &mut [0; 36]))
+        }
+        "grant_text" => {
+            let grant = GrantId::new(columns.array()?);
+            written(alloc, grant_text(alloc, &grant).ok()?.as_str())
+        }
+        "grant_text_into" => {
+            let grant = GrantId::new(columns.array()?);
+            written(alloc, grant_text_into(&grant, &mut [0; 64]))
+        }
+        _ => None,
+    }
+}
+
+fn arns(alloc: Global, call: &str, columns: &mut Columns<'_>) -> Option<String> {
+    let account = AccountNumber::read(columns.word()?)?;
+    let region = columns.word()?;
+    match call {
+        "key_arn" => {
+            let key = KeyId::new(columns.array()?);
+            let arn = key_arn(alloc, &account, region, &key).ok()?;
+            written(alloc, arn.as_str())
+        }
+        "alias_arn" => {
+            let alias: AliasName = read_alias(alloc, columns.word()?).ok()?;
+            let arn = alias_arn(alloc, &account, region, &alias).ok()?;
+            written(alloc, arn.as_str())
+        }
+        _ => None,
+    }
+}
+
+/// All actions in their order.
+pub const ACTIONS: [Action; 32] = [
+    Action::CreateKey,
+    Action::DescribeKey,
+    Action::ListKeys,
+    Action::EnableKey,
+    Action::DisableKey,
+    Action::ScheduleKeyDeletion,
+    Action::CancelKeyDeletion,
+    Action::EnableKeyRotation,
+    Action::DisableKeyRotation,
+    Action::GetKeyRotationStatus,
+    Action::RotateKeyOnDemand,
+    Action::ListKeyRotations,
+    Action::PutKeyPolicy,
+    Action::GetKeyPolicy,
+    Action::ListKeyPolicies,
+    Action::UpdateKeyDescription,
+    Action::CreateAlias,
+    Action::UpdateAlias,
+    Action::DeleteAlias,
+    Action::ListAliases,
+    Action::CreateGrant,
+    Action::ListGrants,
+    Action::ListRetirableGrants,
+    Action::RetireGrant,
+    Action::RevokeGrant,
+    Action::Encrypt,
+    Action::Decrypt,
+    Action::ReEncryptFrom,
+    Action::ReEncryptTo,
+    Action::GenerateDataKey,
+    Action::GenerateDataKeyWithoutPlaintext,
+    Action::GenerateRandom,
+];
+
+fn operations(alloc: Global, call: &str, columns: &mut Columns<'_>) -> Option<String> {
+    match call {
+        "action" => {
+            let place = columns.number()?;
+            let action = ACTIONS.iter().find(|action| **action as u64 == place)?;
+            written(alloc, action.name())
+        }
+        "grant_op" => grant_op(alloc, columns.text()?),
+        "grant_ops" => {
+            let set = read_set(columns.word()?)?;
+            written_set(alloc, &set.copy().ok()?)
+        }
+        "is_subset" => {
+            let inner = read_set(columns.word()?)?;
+            let outer = read_set(columns.word()?)?;
+            written_truth(alloc, inner.is_subset(&outer))
+        }
+        _ => None,
+    }
+}
+
+/// The name of an operation of grants and of its action.
+fn grant_op(alloc: Global, text: &str) -> Option<String> {
+    let Some(op) = GrantOp::read(text) else {
+        return written(alloc, "none");
+    };
+    let mut answer = written(alloc, op.name())?;
+    push(&mut answer, " ", op.action().name())?;
+    Some(answer)
+}
+
+/// The set of some operations, with `, ` between two: `-` are none.
+fn read_set(word: &str) -> Option<GrantOps> {
+    let mut set = GrantOps::new();
+    if word != "-" {
+        for name in word.split(", ") {
+            set.insert(GrantOp::read(name)?);
+        }
+    }
+    Some(set)
+}
+
+/// The operations of a set in order: `-` are none.
+fn written_set(alloc: Global, set: &GrantOps) -> Option<String> {
+    if set.is_empty() {
+        return written(alloc, "-");
+    }
+    let mut words = String::new(alloc);
+    for op in GrantOp::ALL {
+        if set.contains(op) {
+            push(&mut words, ", ", op.name())?;
+        }
+    }
+    Some(words)
+}
+
+/// Copies of texts, of bytes and of lists of texts, and the order of texts.
+fn values(alloc: Global, call: &str, columns: &mut Columns<'_>) -> Option<String> {
+    match call {
+        "text" => {
+            let text = Text::from_str(alloc, columns.text()?).ok()?;
+            let copied = text.copy().ok()?;
+            if copied != text {
+                return written(alloc, "another copy");
+            }
+            written_text(alloc, copied.as_str())
+        }
+        "bytes" => {
+            let bytes = Bytes::new(columns.bytes(alloc)?);
+            let copied = Bytes::from_slice(alloc, bytes.copy().ok()?.as_slice()).ok()?;
+            if copied != bytes {
+                return written(alloc, "another copy");
+            }
+            written_bytes(alloc, copied.as_slice())
+        }
+        "texts" => {
+            let list = columns.texts(alloc)?;
+            written_texts(alloc, &list.copy().ok()?)
+        }
+        "order" => {
+            let left = Text::from_str(alloc, columns.text()?).ok()?;
+            let right = Text::from_str(alloc, columns.text()?).ok()?;
+            written(alloc, order_name(left.cmp(&right)))
+        }
+        _ => None,
+    }
+}
+
+fn order_name(order: Ordering) -> &'static str {
+    match order {
+        Ordering::Less => "less",
+        Ordering::Equal => "equal",
+        Ordering::Greater => "greater",
+    }
+}
