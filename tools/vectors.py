@@ -44,3 +44,32 @@ def hexadecimal(data):
 def counted(size, first=0):
     """So many bytes: first, first + 1 and so on, modulo 256."""
     return bytes((first + i) % 256 for i in range(size))
+
+
+class Below:
+    """The cases below the last heading of a file that is otherwise written by hand."""
+
+    HEADING = "# Made by tools/"
+
+    def __init__(self, name, note):
+        self.name = name
+        self.random = random.Random(name)
+        path = os.path.join(DATA, name)
+        with open(path, encoding="utf-8") as file:
+            lines = file.read().split("\n")
+        end = next((i for i, line in enumerate(lines) if line.startswith(self.HEADING)), len(lines) - 1)
+        while end and not lines[end - 1]:
+            end -= 1
+        self.lines = lines[:end] + [""] + ["# " + line for line in note.strip().split("\n")]
+        assert self.lines[end + 1].startswith(self.HEADING)
+        self.seen = set(self.lines)
+
+    case = File.case
+    write = File.write
+
+    def once(self, *columns):
+        """A case, where the file does not have it."""
+        line = " | ".join(columns)
+        if line not in self.seen:
+            self.seen.add(line)
+            self.case(*columns)
