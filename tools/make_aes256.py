@@ -9,7 +9,7 @@ AES-256 (FIPS 197): a key, a block and the cipher's block, in hexadecimal.
 
 encrypt | key of 32 bytes | block of 16 bytes | block of 16 bytes
 
-Made by tools/make_aes256.py. The published blocks are copied from the standards, and compared there
+Made by tools/make_aes256.py. The published blocks stand there as the standards have them, and are compared
 with those of Python's cryptography, which made all others.
 """
 

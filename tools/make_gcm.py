@@ -15,8 +15,8 @@ open | key | IV | additional data | ciphertext | tag | text, or `refused`
 open_bits | key | IV | additional data | ciphertext | tag | how many of the 128 tags that differ from this
     one in one bit are refused, with the buffer as it was
 
-Made by tools/make_gcm.py. The published tags are copied from their sources, and compared there with those
-of Python's cryptography, which made all others.
+Made by tools/make_gcm.py. The published tags stand there, and are compared with those of Python's cryptography,
+which made all others.
 """
 
 ZERO_KEY, ZERO_IV = bytes(32), bytes(12)

@@ -11,8 +11,8 @@ GHASH (SP 800-38D, section 6.4): a hash subkey, the blocks joined and their hash
 hash | subkey of 16 bytes | blocks of 16 bytes each | hash of 16 bytes
 
 Made by tools/make_ghash.py, which multiplies polynomials over GF(2) bit by bit and divides by
-x^128 + x^7 + x^2 + x + 1. The published hashes are copied from "The Galois/Counter Mode of Operation"
-(McGrew and Viega) and compared there; those of sealed texts agree with the tags of Python's cryptography.
+x^128 + x^7 + x^2 + x + 1. The published hashes, of "The Galois/Counter Mode of Operation" (McGrew and Viega), are
+compared there; those of sealed texts agree with the tags of Python's cryptography.
 """
 
 MODULUS = 1 << 128 | 1 << 7 | 1 << 2 | 1 << 1 | 1

@@ -11,8 +11,8 @@ HMAC-SHA-256 (FIPS 198-1), in hexadecimal; `-` are no bytes.
 hmac256 | key | message | HMAC
 mac | key | parts of the message, with a space between two | HMAC
 
-Made by tools/make_hmac.py. The published HMACs are copied from RFC 4231 and compared there with those of
-Python's hmac, which made all others.
+Made by tools/make_hmac.py. The HMACs of RFC 4231 stand there, and are compared with those of Python's hmac, which
+made all others.
 """
 
 
