@@ -162,6 +162,7 @@ def sealings(file):
     file.seal(ROOT, KEY, 1, IV, {"b": "2", "a": "1"}, b"text")
     file.seal(ROOT, KEY, 1, IV, {"a": "1", "b": "2"}, b"text")
     file.seal(ROOT, KEY, 1, IV, NONE, b"text")
+    file.seal(ROOT, KEY, 1, IV, {"a": "1"}, b"text")
 
 
 def openings(file):

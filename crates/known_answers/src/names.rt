@@ -321,7 +321,7 @@ fn values(alloc: Global, call: &str, columns: &mut Columns<'_>) -> Option<String
         }
         "order" => {
             let left = Text::from_str(alloc, columns.text()?).ok()?;
-            let right = Text::from_str(alloc, columns.text()?).ok()?;
+            let right = Text::from_string(written(alloc, columns.text()?)?);
             written(alloc, order_name(left.cmp(&right)))
         }
         _ => None,
