@@ -11,8 +11,6 @@ mod laws;
 mod sbox;
 mod schedule;
 mod state;
-#[cfg(test)]
-mod tests;
 
 pub use key::AesKey;
 pub use laws::inverse_is_pinned;

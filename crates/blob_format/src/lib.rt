@@ -14,6 +14,3 @@ mod writing;
 pub use laws::{one_spelling, one_value, written_is_read_again};
 pub use reading::{Blob, read_blob};
 pub use writing::write_blob;
-
-#[cfg(test)]
-mod tests;

@@ -23,6 +23,3 @@ pub use laws::{
 pub use operators::{Kind, Operator, Order};
 pub use qualified::{QualifiedOperator, Qualifier, read_operator, write_operator};
 pub use values::is_value;
-
-#[cfg(test)]
-mod tests;

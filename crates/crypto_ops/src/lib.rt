@@ -14,6 +14,3 @@ pub use laws::{opens_by_its_tag, sealed_is_a_blob, sealed_opens_again};
 pub use materials::material;
 pub use opening::{OpenFault, open_blob};
 pub use sealing::seal_blob;
-
-#[cfg(test)]
-mod tests;

@@ -9,6 +9,3 @@ mod line;
 
 pub use laws::{draws_keep_to_their_words, lines_share_no_iv, one_line_repeats_no_iv};
 pub use line::{DrawLine, Drawn};
-
-#[cfg(test)]
-mod tests;

@@ -16,6 +16,3 @@ pub use contexts::Context;
 pub use faults::ContextFault;
 pub use laws::{encodings_tell_contexts, one_order};
 pub use pairs::Pair;
-
-#[cfg(test)]
-mod tests;

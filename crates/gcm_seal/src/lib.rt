@@ -9,8 +9,6 @@ mod counter;
 mod gcm;
 mod hash;
 mod laws;
-#[cfg(test)]
-mod tests;
 
 pub use gcm::{open, seal};
 pub use laws::{blocks_make_the_text, open_undoes_seal};

@@ -35,6 +35,3 @@ pub use principals::{Principal, principal_len, read_principal, write_principal};
 pub use references::{KeyRef, alias_arn, key_arn, read_key_ref};
 pub use regions::is_region;
 pub use texts::{Bytes, Text, TextList};
-
-#[cfg(test)]
-mod tests;

@@ -22,6 +22,3 @@ pub use documents::{read_policy, read_policy_value};
 pub use faults::PolicyFault;
 pub use laws::{first_fault_has_place, policy_of_reads};
 pub use policies::{Named, NamedList, Policy, PolicyKind, Statement, StatementList};
-
-#[cfg(test)]
-mod tests;

@@ -1,4 +1,0 @@
-mod evaluating;
-mod forms;
-mod naming;
-mod sharing;

@@ -1,3 +1,0 @@
-mod globbing;
-mod naming;
-mod sharing;

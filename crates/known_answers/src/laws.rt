@@ -1,0 +1,56 @@
+//! The laws of the crates below, each of which stands as the contract of a call that does nothing. They
+//! are called once, as each public call is.
+
+/// The laws of names and references.
+fn of_names() {
+    kms_names::alias_of_reads();
+    kms_names::grant_texts_differ();
+    kms_names::key_ref_of_reads();
+    kms_names::principal_of_reads();
+    kms_names::principal_texts_differ();
+    kms_names::printed_alias_refers();
+    kms_names::printed_key_reads_back();
+    kms_names::printed_key_refers();
+    kms_names::read_key_prints_back();
+    kms_names::refers_to_one();
+}
+
+/// The laws of the ciphers and of lines of draws.
+fn of_ciphers() {
+    aes_block::inverse_is_pinned();
+    gcm_seal::blocks_make_the_text();
+    gcm_seal::open_undoes_seal();
+    draw_lines::draws_keep_to_their_words();
+    draw_lines::lines_share_no_iv();
+    draw_lines::one_line_repeats_no_iv();
+}
+
+/// The laws of blobs, of contexts and of sealing.
+fn of_blobs() {
+    blob_format::one_spelling();
+    blob_format::one_value();
+    blob_format::written_is_read_again();
+    enc_context::encodings_tell_contexts();
+    enc_context::one_order();
+    crypto_ops::opens_by_its_tag();
+    crypto_ops::sealed_is_a_blob();
+    crypto_ops::sealed_opens_again();
+}
+
+/// The laws of conditions and of policy documents.
+fn of_policies() {
+    cond_ops::moments_are_one();
+    cond_ops::numbers_are_one();
+    cond_ops::operator_texts_differ();
+    cond_ops::related_values_have_the_form();
+    policy_doc::first_fault_has_place();
+    policy_doc::policy_of_reads();
+}
+
+/// Calls each law.
+pub fn all() {
+    of_names();
+    of_ciphers();
+    of_blobs();
+    of_policies();
+}

@@ -1,0 +1,33 @@
+//! Known answers: the cases of the files in `data`, each of a public call and of what it answers, told
+//! apart from what the calls answer here.
+//!
+//! It writes a line for each file, with how many cases it has and how many of them are answered as they
+//! should be, and a line for each case that isn't.
+#![tactic(auto)]
+
+mod blobs;
+mod ciphers;
+mod columns;
+mod conditions;
+mod contexts;
+mod draws;
+mod globs;
+mod laws;
+mod macs;
+mod names;
+mod parts;
+mod policies;
+mod report;
+mod threads;
+
+use parts::Part;
+use std::io;
+
+fn main(rt: HostRuntime) -> io::Result<()> {
+    laws::all();
+    threads::all();
+    for part in Part::ALL {
+        report::report(&rt, part)?;
+    }
+    Ok(())
+}
