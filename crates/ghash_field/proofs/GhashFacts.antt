@@ -1,9 +1,7 @@
 -- What callers use of a GHASH: its length. What the calls use: the hash of no blocks, and of one block
 -- more.
-use Rattle.std.proofs.Common.{◌≡◌, ◌<◌, ℕ, zero, suc, List, [], ◌∷◌, ◌++◌, length, arith, refl}
-use Rattle.std.proofs.lemmas.List.Elements.{All-cons, All-nil}
-use Rattle.std.specs.Int.{byte_at, bytes_high_first}
-use Rattle.std.specs.Prelude.{All, bit_xor}
+use Rattle.std.proofs.Common.{◌≡◌, ℕ, List, [], ◌∷◌, ◌++◌, length, refl}
+use Rattle.std.specs.Prelude.{bit_xor}
 use Rattle.std.proofs.lemmas.List.Sums.{fold_push}
 use Rattle.ghash_field.specs.Ghash.{block_of, ghash, hash_number, number_of, product}
 
