@@ -1,8 +1,8 @@
 //! The rounds, FIPS 197, 5.1, on a state that is kept as four words, a word for each column with the
 //! byte of row 0 highest.
 //!
-//! The substitution and the mixing of a round are read from four tables, one for each row. Their
-//! places depend on the key and on the block.
+//! What SubBytes and MixColumns make of a byte is looked up in one of four tables, by its row. The
+//! places in the tables depend on the key and on the block.
 
 ghost use Rattle.std.specs.Prelude.{◌≡◌, ◌+◌, ◌<◌};
 ghost use Rattle.std.specs.Int.{w32, to_be_bytes};
@@ -13,8 +13,8 @@ ghost use Rattle.aes_block.specs.Words.{bytes_of, words_of};
 
 use crate::schedule::{packed_word, sub_word};
 
-// The column that MixColumns makes of the substitution of each byte in row 0, with zeros in the
-// other rows: its products with 02, 01, 01 and 03.
+// The column that MixColumns makes of the substitution of each byte in row 0, where the other rows
+// are 0: its products with 02, 01, 01 and 03.
 const MIXED_ROW_0: [u32; 256] = [
     0xc66363a5, 0xf87c7c84, 0xee777799, 0xf67b7b8d, 0xfff2f20d, 0xd66b6bbd, 0xde6f6fb1, 0x91c5c554,
     0x60303050, 0x02010103, 0xce6767a9, 0x562b2b7d, 0xe7fefe19, 0xb5d7d762, 0x4dababe6, 0xec76769a,
@@ -254,8 +254,8 @@ pub(crate) fn first_state(words: &[u32; 60], block: &[u8; 16]) -> [u32; 4]
 #[inline(always)]
 fn last_column(words: &[u32; 60], state: &[u32; 4], c: usize) -> [u8; 4]
     requires { c < 4 }
-    ensures { result
-        ≡ word_of (λ r. byte_at (add_round_key (shift_rows (sub_bytes (bytes_of state.now))) (words_of words.now) 14) r c) }
+    ensures { let last = add_round_key (shift_rows (sub_bytes (bytes_of state.now))) (words_of words.now) 14 in
+        result ≡ word_of (λ r. byte_at last r c) }
 {
     let column = sub_word(shifted_column(state, c));
     (packed_word(column) ^ words[56 + c]).to_be_bytes()

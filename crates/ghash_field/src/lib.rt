@@ -49,9 +49,10 @@ const REMAINDERS: [u16; 256] = [
 pub struct Ghash {
     key: u128,
     sum: u128,
-    // The products of the hash subkey and of what is 0 after its first four bits, by those bits.
+    // The products of the hash subkey and the blocks that are 0 after their first four bits, by those
+    // bits.
     first_half: [u128; 16],
-    // The same of what is 0 but for the four bits after them.
+    // The same of the blocks that are 0 but for the four bits after the first four.
     second_half: [u128; 16],
     ghost first_products: { HasProducts first_half key 124 },
     ghost second_products: { HasProducts second_half key 120 },
@@ -126,8 +127,9 @@ fn block_of(number: u128) -> [u8; 16]
     number.to_be_bytes()
 }
 
-/// The sums of four products, by which of them are taken: a half byte's lowest bit takes the last,
-/// each product being the one before it shifted by one bit.
+/// The products of a block and the sixteen half bytes that can stand in one place of the other block,
+/// from the product with the half byte 1000: a 1 further to the right is one shift more, and what has
+/// several is their sum.
 fn products(highest: u128) -> [u128; 16]
     ensures { (key n : ℕ) → n ≤ 124 → highest ≡ spec.product (8 * 2 ^ n) key → HasProducts result key n }
 {
