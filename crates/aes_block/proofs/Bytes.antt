@@ -25,23 +25,25 @@ all_below_at p (suc n) k h lt =
 
 -- ---- products with 02 and 03
 
-abbrev doubled : ℕ → ℕ
+abbrev pub doubled : ℕ → ℕ
 doubled x = cond (nat_lt x 128) (x * 2 % 256) (bit_xor (x * 2 % 256) 27)
 
 doubled_everywhere : all_below 256 (λ x. product 2 x == doubled x) ≡ true
 unfolding product polynomial_product remainder
 doubled_everywhere = refl
 
-pub product-two : (x : ℕ) → x < 256 → product 2 x ≡ cond (nat_lt x 128) (x * 2 % 256) (bit_xor (x * 2 % 256) 27)
+pub product-two : (x : ℕ) → x < 256 → product 2 x ≡ doubled x
 product-two x lt = eqb-true (product 2 x) (doubled x) (all_below_at (λ x. product 2 x == doubled x) 256 x doubled_everywhere lt)
 
-tripled_everywhere : all_below 256 (λ x. product 3 x == bit_xor (product 2 x) x) ≡ true
+abbrev pub tripled : ℕ → ℕ
+tripled x = bit_xor (doubled x) x
+
+tripled_everywhere : all_below 256 (λ x. product 3 x == tripled x) ≡ true
 unfolding product polynomial_product remainder
 tripled_everywhere = refl
 
-pub product-three : (x : ℕ) → x < 256 → product 3 x ≡ bit_xor (product 2 x) x
-product-three x lt =
-    eqb-true (product 3 x) (bit_xor (product 2 x) x) (all_below_at (λ x. product 3 x == bit_xor (product 2 x) x) 256 x tripled_everywhere lt)
+pub product-three : (x : ℕ) → x < 256 → product 3 x ≡ tripled x
+product-three x lt = eqb-true (product 3 x) (tripled x) (all_below_at (λ x. product 3 x == tripled x) 256 x tripled_everywhere lt)
 
 -- ---- the inverse
 

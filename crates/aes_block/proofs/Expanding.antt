@@ -1,10 +1,12 @@
 -- The words of a schedule, one after another.
 use Rattle.std.proofs.Common.{◌≡◌, ◌≢◌, ℕ, zero, suc, ◌+◌, ◌-◌, ◌*◌, ◌/◌, ◌^◌, ◌%◌, ◌<◌, ◌≤◌, ◌==◌, List, [], ◌∷◌, ◌++◌, length, slice_index, slice_set, take, map, refl, sym, ap, ◌∙◌, arith}
+use Rattle.std.specs.Int.{w32, to_be_bytes}
 use Rattle.std.specs.List.{range_with_len, flat_map}
 use Rattle.std.proofs.lemmas.Bool.{cond-true, cond-false, eq-eqb, ne_eqb}
-use Rattle.std.proofs.lemmas.List.{get_or-take, take_more_set, take_all, take-append-le, length_push}
+use Rattle.std.proofs.lemmas.List.{get_or-take, take_more, take_more_set, take_all, take-append-le, length_push, map_push}
 use Rattle.std.proofs.lemmas.List.FromFn.{fill_by_all, map-range_with_len_more}
 use Rattle.aes_block.specs.State.{word}
+use Rattle.aes_block.specs.Words.{words_of}
 use Rattle.aes_block.specs.Schedule.{xor_words, rot_word, sub_word, rcon, key_term, next_word, with_next, key_word, first_words, key_expansion}
 use Rattle.aes_block.proofs.Bytes.{power_of_x-small}
 
@@ -87,3 +89,20 @@ key_expansion-key key len =
 
 pub expanded-key : (key : List ℕ) (words : List (List ℕ)) → length key ≡ 32 → words ≡ key_expansion key → flat_map (λ (w : List ℕ). w) (take 8 words) ≡ key
 expanded-key key words len e = rw e (key_expansion-key key len)
+
+-- ---- the words as numbers
+
+-- one word more
+pub packed_more : (words : List (List ℕ)) (out : List ℕ) (i number : ℕ) → i < length words → length out ≡ length words
+    → words_of (take i out) ≡ take i words → to_be_bytes w32 number ≡ word words i
+    → words_of (take (i + 1) (slice_set out i number)) ≡ take (i + 1) words
+unfolding words_of
+packed_more words out i number lt len so_far e =
+    ap (map (to_be_bytes w32)) (take_more_set out i number (omega arith))
+    ∙ map_push (to_be_bytes w32) (take i out) number
+    ∙ rw (so_far, e) (sym (take_more words i [] lt))
+
+pub packed_all : (words : List (List ℕ)) (out : List ℕ) (i : ℕ) → i ≡ 60 → length words ≡ 60 → length out ≡ 60
+    → words_of (take i out) ≡ take i words → words_of out ≡ words
+packed_all words out i e len_words len_out so_far =
+    ap words_of (sym (take_all i out (omega arith))) ∙ so_far ∙ take_all i words (omega arith)

@@ -1,5 +1,5 @@
 pub mod Bytes
-pub mod Filling
 pub mod Expanding
-pub mod Rounds
-pub mod CipherFacts
+pub mod WordFacts
+pub mod Tables
+pub mod CipherSteps

@@ -1,19 +1,16 @@
 //! A key with its schedule, and the cipher, FIPS 197, 5.1.
 
-ghost use Rattle.std.specs.Prelude.{◌≡◌, ◌<◌};
-ghost use Rattle.aes_block.specs.Cipher.{cipher, round};
+ghost use Rattle.std.specs.Prelude.{◌≡◌};
+ghost use Rattle.aes_block.specs.Cipher.{cipher};
 
-use crate::schedule::key_expansion;
-use crate::state::{add_round_key, mix_columns, shift_rows, sub_bytes};
+use crate::rounds::{first_state, four_rounds, last_block, round};
+use crate::schedule::{key_expansion, packed};
 use std::marker::Model;
-
-// The rounds of AES-256.
-const ROUNDS: usize = 14;
 
 /// A key of AES-256, ready to encrypt. It is seen as the key's 32 bytes.
 #[derive(Drop)]
 pub struct AesKey {
-    words: [[u8; 4]; 60],
+    words: [u32; 60],
 }
 
 impl Model for AesKey {
@@ -34,7 +31,7 @@ impl AesKey {
         ensures { result ≡ key.now }
     {
         AesKey {
-            words: key_expansion(key),
+            words: packed(&key_expansion(key)),
         }
     }
 
@@ -42,20 +39,11 @@ impl AesKey {
     pub fn encrypt(&self, block: [u8; 16]) -> [u8; 16]
         ensures { result ≡ cipher self.now block }
     {
-        let mut state = add_round_key(&block, &self.words, 0);
-        for n in 1..ROUNDS {
-            state = round(&self.words, &state, n);
-        }
-        add_round_key(&shift_rows(&sub_bytes(&state)), &self.words, ROUNDS)
+        let start = first_state(&self.words, &block);
+        let after_four = four_rounds(&self.words, &start, 1);
+        let after_eight = four_rounds(&self.words, &after_four, 5);
+        let after_twelve = four_rounds(&self.words, &after_eight, 9);
+        let after_thirteen = round(&self.words, &after_twelve, 13);
+        last_block(&self.words, &after_thirteen)
     }
-}
-
-// One round other than the last.
-#[tactic(auto, unfolding(crate::specs::Cipher::round))]
-fn round(words: &[[u8; 4]; 60], state: &[u8; 16], n: usize) -> [u8; 16]
-    requires { n < 14 }
-    ensures { result ≡ round words.now state.now n }
-{
-    let mixed = mix_columns(&shift_rows(&sub_bytes(state)));
-    add_round_key(&mixed, words, n)
 }

@@ -1,6 +1,8 @@
 //! The key expansion of FIPS 197, 5.2, for a key of 8 words.
 
 ghost use Rattle.std.specs.Prelude.{◌≡◌, ◌+◌, ◌*◌, ◌<◌, ◌≤◌, take};
+ghost use Rattle.std.specs.Int.{w32, to_be_bytes};
+ghost use Rattle.aes_block.specs.Words.{words_of};
 ghost use Rattle.aes_block.specs.Schedule.{xor_words, rot_word, sub_word, rcon, key_term, key_word, first_words, key_expansion};
 
 use crate::sbox::sub_byte;
@@ -29,7 +31,7 @@ fn rot_word(a: [u8; 4]) -> [u8; 4]
 
 // SubWord.
 #[tactic(auto, unfolding(crate::specs::Schedule::sub_word))]
-fn sub_word(a: [u8; 4]) -> [u8; 4]
+pub(crate) fn sub_word(a: [u8; 4]) -> [u8; 4]
     ensures { result ≡ sub_word a }
 {
     [
@@ -91,4 +93,23 @@ pub(crate) fn key_expansion(key: &[u8; 32]) -> [[u8; 4]; 60]
         words[i] = xor_words(words[i - KEY_WORDS], key_term(words[i - 1], i));
     }
     words
+}
+
+// A word as a number, the first byte highest.
+#[inline(always)]
+pub(crate) fn packed_word(word: [u8; 4]) -> u32
+    ensures { to_be_bytes w32 result ≡ word }
+{
+    u32::from_be_bytes(word)
+}
+
+// The words of a schedule as numbers.
+pub(crate) fn packed(words: &[[u8; 4]; 60]) -> [u32; 60]
+    ensures { words_of result ≡ words.now }
+{
+    let mut out = [0; SCHEDULE_WORDS];
+    for i in 0..SCHEDULE_WORDS {
+        out[i] = packed_word(words[i]);
+    }
+    out
 }

@@ -1,5 +1,5 @@
 -- Texts and their blocks.
-use Rattle.std.proofs.Common.{◌≡◌, ℕ, zero, suc, ◌+◌, ◌-◌, ◌*◌, ◌<◌, ◌≤◌, min, List, [], ◌∷◌, ◌++◌, length, take, drop, map, replicate, refl, sym, ap, ◌∙◌, inl, inr, arith, subst, append_assoc, length-append, length-drop}
+use Rattle.std.proofs.Common.{◌≡◌, ℕ, zero, suc, ◌+◌, ◌-◌, ◌*◌, ◌/◌, ◌<◌, ◌≤◌, min, List, [], ◌∷◌, ◌++◌, length, take, drop, map, replicate, refl, sym, ap, ◌∙◌, inl, inr, arith, subst, append_assoc, length-append, length-drop}
 use Rattle.std.proofs.lemmas.Bool.{cases_lt}
 use Rattle.std.proofs.lemmas.List.{length-replicate, append-nil, length-take, drop-append-le, take-append-le, take_all, drop-drop, drop_at, drop-replicate, get_or_append_left, get_or-append_right, same_lists}
 use Rattle.std.proofs.lemmas.List.FromFn.{length-map-range_with_len, get_or-map-range_with_len, map-range_with_len_more}
@@ -119,6 +119,16 @@ unfolding blocks_of
 padded_done hash h text blocks i e taken =
     let n : i ≡ block_count (padded text) = e ∙ sym (block_count-padded text) in
     subst (λ (n : ℕ). IsGhash hash h (blocks ++ map (block_at (padded text)) (range_with_len 0 n))) n taken
+
+-- the last block, where it is not whole
+pub padded_rest : (hash : Ghash) (h : List ℕ) (text : List ℕ) (blocks : List (List ℕ)) (block : List ℕ) (i whole : ℕ)
+    → i ≡ whole → whole ≡ length text / 16 → 16 * whole < length text
+    → block ≡ block_at (padded text) whole
+    → IsGhash hash h (blocks ++ map (block_at (padded text)) (range_with_len 0 i) ++ block ∷ [])
+    → IsGhash hash h (blocks ++ blocks_of (padded text))
+padded_rest hash h text blocks block i whole ei ew some e taken =
+    padded_done hash h text blocks (i + 1) (omega arith)
+    (padded_more hash h text blocks block i (e ∙ ap (block_at (padded text)) (sym ei)) taken)
 
 -- ---- what the blocks are
 

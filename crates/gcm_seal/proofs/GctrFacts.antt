@@ -1,11 +1,13 @@
 -- GCTR, block by block and byte by byte.
-use Rattle.std.proofs.Common.{◌≡◌, ℕ, zero, suc, ◌+◌, ◌-◌, ◌*◌, ◌/◌, ◌%◌, ◌^◌, ◌<◌, ◌≤◌, min, List, [], ◌∷◌, ◌++◌, length, take, drop, slice_index, bit_xor, refl, sym, ap, ◌∙◌, inl, inr, arith, length-append, length-drop, append_assoc}
+use Rattle.std.proofs.Common.{◌≡◌, ℕ, zero, suc, ◌+◌, ◌-◌, ◌*◌, ◌/◌, ◌%◌, ◌^◌, ◌<◌, ◌≤◌, min, List, [], ◌∷◌, ◌++◌, length, take, drop, slice_index, bit_xor, refl, sym, ap, subst, ◌∙◌, inl, inr, arith, length-append, length-drop, append_assoc}
 use borrow.Rule.Slice.PartMut.{put_mid}
 use Rattle.std.specs.Int.{w32, from_be_bytes, to_be_bytes}
 use Rattle.std.specs.Int.Bits.{xor_assoc, xor_self, xor_zero_r}
 use Rattle.std.specs.List.{range_with_len, flat_map}
 use Rattle.std.proofs.lemmas.Bool.{cases_lt}
-use Rattle.std.proofs.lemmas.List.{drop_more, drop_all, take_at, take_min, drop_min, drop_at, drop-drop, append-nil, map-id, get_or-take, get_or-drop, get_or_append_left, get_or-append_right, ext_get_or}
+use Rattle.std.proofs.lemmas.Simd.{length-zip2, get_or-zip2, put_chunk_whole}
+use Rattle.std.specs.Simd.Lanes.{zip2, put_chunk}
+use Rattle.std.proofs.lemmas.List.{drop_more, drop_all, take_all, take_at, take_min, drop_min, drop_at, drop-drop, append-nil, map-id, get_or-take, get_or-drop, get_or_append_left, get_or-append_right, ext_get_or}
 use Rattle.std.proofs.lemmas.List.Concat.{flat_map-append}
 use Rattle.std.proofs.lemmas.List.FromFn.{fill_by_all, length-map-range_with_len, get_or-map-range_with_len, map-range_with_len_more}
 use Rattle.aes_block.specs.Cipher.{cipher}
@@ -50,6 +52,20 @@ get_or-xor_bytes : (x y : List ℕ) (k : ℕ) → k < length x → slice_index (
 unfolding xor_bytes
 get_or-xor_bytes x y k lt =
     get_or-map-range_with_len (λ i. bit_xor (slice_index x i) (slice_index y i)) 0 (length x) k k 0 lt (omega arith)
+
+-- no more of the mask is added than the text is long
+xor_bytes-taken : (x y : List ℕ) → xor_bytes x y ≡ xor_bytes x (take (length x) y)
+xor_bytes-taken x y =
+    xor_bytes-filled x (take (length x) y) (xor_bytes x y) (length-xor_bytes x y)
+    (λ k lt. get_or-xor_bytes x y k lt ∙ ap (bit_xor (slice_index x k)) (sym (get_or-take (length x) y k 0 lt)))
+
+-- the lanes of a block, added and written back
+pub xor_lanes : (x y : List ℕ) → length x ≡ 16 → length y ≡ 16 → put_chunk 0 x (zip2 bit_xor (take 16 x) y) ≡ xor_bytes x y
+xor_lanes x y lx ly =
+    let long : length (zip2 bit_xor x y) ≡ length x = length-zip2 bit_xor x y (lx ∙ sym ly) in
+    ap (λ (l : List ℕ). put_chunk 0 x (zip2 bit_xor l y)) (take_all 16 x (omega arith))
+    ∙ put_chunk_whole x (zip2 bit_xor x y) (sym long)
+    ∙ xor_bytes-filled x y (zip2 bit_xor x y) long (λ k lt. get_or-zip2 bit_xor x y k 0 0 0 lt (omega arith))
 
 -- adding the same twice
 xor_twice : (a b : ℕ) → bit_xor (bit_xor a b) b ≡ a
@@ -203,6 +219,15 @@ gctr_more key initial old text counter mask written i size k lt e ek so_far_coun
     ∙ sym (append_assoc front (output_block key initial old i) (drop (16 * (i + 1)) old))
     ∙ ap (λ f. f ++ drop (16 * (i + 1)) old) (sym (front_output-more key initial old i))
 
+-- a whole block more
+pub gctr_more_whole : (key initial old text counter mask written : List ℕ) (i k : ℕ) → 16 * i + 16 ≤ length old → k ≡ 16
+    → counter ≡ counter_block initial i → text ≡ front_output key initial old i ++ drop (16 * i) old → mask ≡ cipher key counter
+    → written ≡ xor_bytes (take k (drop (16 * i) text)) mask
+    → put_mid (16 * i) k text written ≡ front_output key initial old (i + 1) ++ drop (16 * (i + 1)) old
+gctr_more_whole key initial old text counter mask written i k le ek so_far_counter so_far em ew =
+    gctr_more key initial old text counter mask written i 16 k (omega arith) (omega arith) ek so_far_counter so_far em
+    (ew ∙ xor_bytes-taken (take k (drop (16 * i) text)) mask)
+
 pub gctr_done : (key initial old text : List ℕ) (i : ℕ) → i ≡ block_count old
     → text ≡ front_output key initial old i ++ drop (16 * i) old → text ≡ gctr key initial old
 unfolding gctr front_output
@@ -211,3 +236,16 @@ gctr_done key initial old text i e so_far =
     ∙ ap (λ r. front_output key initial old i ++ r) (drop_all (16 * i) old (omega arith))
     ∙ append-nil (front_output key initial old i)
     ∙ ap (front_output key initial old) e
+
+-- the rest after the whole blocks
+pub gctr_rest : (key initial old text counter mask written : List ℕ) (i whole size : ℕ) → i ≡ whole → whole ≡ length old / 16 → 16 * whole < length old
+    → length text ≡ length old → counter ≡ counter_block initial i → text ≡ front_output key initial old i ++ drop (16 * i) old → mask ≡ cipher key counter
+    → size ≡ length text - 16 * whole
+    → written ≡ xor_bytes (take size (drop (16 * whole) text)) (take (length (take size (drop (16 * whole) text))) mask)
+    → put_mid (16 * whole) size text written ≡ gctr key initial old
+gctr_rest key initial old text counter mask written i whole size ei ew some len so_far_counter so_far em es e =
+    let P : ℕ → Type 0 = λ n. written ≡ xor_bytes (take size (drop (16 * n) text)) (take (length (take size (drop (16 * n) text))) mask) in
+    let e' : P i = subst P (sym ei) e in
+    ap (λ n. put_mid (16 * n) size text written) (sym ei)
+    ∙ gctr_done key initial old (put_mid (16 * i) size text written) (i + 1) (omega arith)
+    (gctr_more key initial old text counter mask written i size size (omega arith) (omega arith) refl so_far_counter so_far em e')

@@ -1,66 +1,32 @@
--- What callers may want of sealing and opening: lengths, bytes, and what opens what. What the calls
+-- What callers may want of sealing and opening: lengths, and what opens what. What the calls
 -- use: the answers of `open`.
-use Rattle.std.proofs.Common.{◌≡◌, ◌≢◌, ◌↔◌, ℕ, ◌/◌, ◌%◌, ◌<◌, List, ◌++◌, length, slice_index, Bool, true, false, IsTrue, Some, None, if◌then◌else◌, refl, sym, ap, ◌∙◌, inl, inr, arith}
-use Rattle.std.proofs.lemmas.Bool.{cases_lt, cond-true, cond-false, false_from_ne_true, both_ways}
-use Rattle.std.proofs.lemmas.List.{take_all, get_or_past}
-use Rattle.std.proofs.lemmas.List.Elements.{All-get_or}
-use Rattle.std.proofs.lemmas.Nat.{xor_of_8}
+use Rattle.std.proofs.Common.{◌≡◌, ◌≢◌, ◌↔◌, ℕ, List, ◌++◌, length, Bool, true, false, IsTrue, Some, None, if◌then◌else◌, refl, sym, ap, ◌∙◌, arith}
+use Rattle.std.proofs.lemmas.Bool.{cond-true, cond-false, false_from_ne_true, both_ways}
+use Rattle.std.proofs.lemmas.List.{take_all}
 use Rattle.std.proofs.lemmas.Slice.Eq.{bytes_eq-Decides}
 use Rattle.std.specs.Str.{bytes_eq}
-use Rattle.aes_block.specs.Cipher.{cipher}
-use Rattle.aes_block.proofs.CipherFacts.{cipher-bytes}
-use Rattle.ghash_field.proofs.GhashFacts.{ghash_length, ghash_bytes}
+use Rattle.ghash_field.proofs.GhashFacts.{ghash_length}
 use Rattle.gcm_seal.specs.Blocks.{blocks_of, padded}
-use Rattle.gcm_seal.specs.Counter.{inc32, counter_block, gctr}
+use Rattle.gcm_seal.specs.Counter.{inc32, gctr}
 use Rattle.gcm_seal.specs.Gcm.{hash_subkey, lengths_block, hash_of, pre_counter_block, sealed_text, tag_of, opened_text, open_of}
-use Rattle.gcm_seal.proofs.GctrFacts.{length-gctr, get_or-gctr, gctr-gctr}
+use Rattle.gcm_seal.proofs.GctrFacts.{length-gctr, gctr-gctr}
 
--- each item of a list is a byte
-abbrev pub AreBytes : List ℕ → Type 0
-AreBytes xs = (k : ℕ) → slice_index xs k < 256
-
--- ---- lengths and bytes
-
--- GCTR under a key of bytes leaves bytes
-pub gctr-bytes : (key initial text : List ℕ) → AreBytes key → AreBytes text → AreBytes (gctr key initial text)
-gctr-bytes key initial text hk ht k = elim (cases_lt k (length text)) [
-  | inl lt ↦
-      let mask : List ℕ = cipher key (counter_block initial (k / 16)) in
-      rw (get_or-gctr key initial text k lt) (xor_of_8 (slice_index text k) (slice_index mask (k % 16)) (ht k) (cipher-bytes key (counter_block initial (k / 16)) hk (k % 16)))
-  | inr ge ↦ rw (get_or_past (gctr key initial text) k 0 (omega (arith, length-gctr key initial text))) (omega arith)
-]
+-- ---- lengths
 
 -- a ciphertext is as long as its text
 pub length-sealed_text : (key iv text : List ℕ) → length (sealed_text key iv text) ≡ length text
 unfolding sealed_text
 length-sealed_text key iv text = length-gctr key (inc32 (pre_counter_block iv)) text
 
-pub sealed_text-bytes : (key iv text : List ℕ) → AreBytes key → AreBytes text → AreBytes (sealed_text key iv text)
-unfolding sealed_text
-sealed_text-bytes key iv text hk ht = gctr-bytes key (inc32 (pre_counter_block iv)) text hk ht
-
 -- and a plaintext as long as its ciphertext
 pub length-opened_text : (key iv ciphertext : List ℕ) → length (opened_text key iv ciphertext) ≡ length ciphertext
 unfolding opened_text
 length-opened_text key iv ciphertext = length-gctr key (inc32 (pre_counter_block iv)) ciphertext
 
-pub opened_text-bytes : (key iv ciphertext : List ℕ) → AreBytes key → AreBytes ciphertext → AreBytes (opened_text key iv ciphertext)
-unfolding opened_text
-opened_text-bytes key iv ciphertext hk ht = gctr-bytes key (inc32 (pre_counter_block iv)) ciphertext hk ht
-
 length-hash_of : (key aad ciphertext : List ℕ) → length (hash_of key aad ciphertext) ≡ 16
 unfolding hash_of
 length-hash_of key aad ciphertext =
     ghash_length (hash_subkey key) (blocks_of (padded aad ++ padded ciphertext ++ lengths_block aad ciphertext))
-
-hash_of-bytes : (key aad ciphertext : List ℕ) → AreBytes (hash_of key aad ciphertext)
-unfolding hash_of
-hash_of-bytes key aad ciphertext k =
-    let blocks : List (List ℕ) = blocks_of (padded aad ++ padded ciphertext ++ lengths_block aad ciphertext) in
-    elim (cases_lt k 16) [
-      | inl lt ↦ All-get_or (λ b. b < 256) (hash_of key aad ciphertext) k 0 (omega (arith, length-hash_of key aad ciphertext)) (ghash_bytes (hash_subkey key) blocks)
-      | inr ge ↦ rw (get_or_past (hash_of key aad ciphertext) k 0 (omega (arith, length-hash_of key aad ciphertext))) (omega arith)
-    ]
 
 -- the whole of the last GCTR is the tag
 pub tag_of-whole : (key iv aad ciphertext : List ℕ)
@@ -76,11 +42,6 @@ length-tag_of key iv aad ciphertext =
     ap length (tag_of-whole key iv aad ciphertext)
     ∙ length-gctr key (pre_counter_block iv) (hash_of key aad ciphertext)
     ∙ length-hash_of key aad ciphertext
-
-pub tag_of-bytes : (key iv aad ciphertext : List ℕ) → AreBytes key → AreBytes (tag_of key iv aad ciphertext)
-tag_of-bytes key iv aad ciphertext hk =
-    rw (tag_of-whole key iv aad ciphertext)
-    (gctr-bytes key (pre_counter_block iv) (hash_of key aad ciphertext) hk (hash_of-bytes key aad ciphertext))
 
 -- ---- opening
 

@@ -1,23 +1,35 @@
 //! The hash of additional data and a ciphertext, and the tag made of it, SP 800-38D, 7.1.
 
-ghost use Rattle.std.specs.Prelude.{◌≡◌, ℕ, ◌<◌, ◌≤◌, ◌^◌, ◌++◌, List, length};
+ghost use Rattle.std.specs.Prelude.{◌≡◌, ℕ, ◌+◌, ◌*◌, ◌<◌, ◌≤◌, ◌^◌, ◌++◌, List, length};
 ghost use Rattle.ghash_field.specs.Running.{IsGhash};
-ghost use Rattle.gcm_seal.specs.Blocks.{block_count, block_at, blocks_of, padded};
+ghost use Rattle.gcm_seal.specs.Blocks.{block_at, blocks_of, padded};
 ghost use Rattle.gcm_seal.specs.Gcm.{lengths_block, pre_counter_block, tag_of};
 
 use crate::counter::gctr;
 use aes_block::AesKey;
 use ghash_field::Ghash;
 
-/// Block `i` of a text, its last block filled up with zeros.
-fn padded_block(text: &[u8], i: usize) -> [u8; 16]
-    requires { i < block_count text.now }
+/// Block `i` of a text, which is whole.
+#[inline(always)]
+fn whole_block(text: &[u8], i: usize) -> [u8; 16]
+    requires { 16 * i + 16 ≤ length text.now }
     ensures { result ≡ block_at (padded text.now) i }
 {
     let start = 16 * i;
-    let size = (text.len() - start).min(16);
     let mut block = [0; 16];
-    block[..size].copy_from_slice(&text[start..start + size]);
+    block.copy_from_slice(&text[start..start + 16]);
+    block
+}
+
+/// Block `i` of a text, which is its last and not whole, filled up with zeros.
+fn padded_block(text: &[u8], i: usize) -> [u8; 16]
+    requires some { 16 * i < length text.now }
+    requires rest { length text.now < 16 * i + 16 }
+    ensures { result ≡ block_at (padded text.now) i }
+{
+    let rest = &text[16 * i..];
+    let mut block = [0; 16];
+    block[..rest.len()].copy_from_slice(rest);
     block
 }
 
@@ -26,8 +38,12 @@ fn update_padded(hash: &mut Ghash, text: &[u8])
     ensures { (h : List ℕ) (blocks : List (List ℕ)) → IsGhash hash.old h blocks
         → IsGhash hash.new h (blocks ++ blocks_of (padded text.now)) }
 {
-    for i in 0..text.len().div_ceil(16) {
-        hash.update_block(padded_block(text, i));
+    let whole = text.len() / 16;
+    for i in 0..whole {
+        hash.update_block(whole_block(text, i));
+    }
+    if 16 * whole < text.len() {
+        hash.update_block(padded_block(text, whole));
     }
 }
 

@@ -2,7 +2,9 @@
 //! 32 bytes, an IV of 12 bytes and a tag of 16 bytes.
 //!
 //! No call takes memory and none is refused. One key and one IV may seal one text only: who calls
-//! `seal` keeps the IVs of a key apart. The time that a call takes is no part of any claim.
+//! `seal` keeps the IVs of a key apart. The cipher and the hash are looked up in tables, at places that
+//! depend on the key and on the texts: the time that a call takes, which may depend on them too, is no
+//! part of any claim.
 #![tactic(auto)]
 
 mod counter;

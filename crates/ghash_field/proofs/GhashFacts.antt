@@ -1,9 +1,7 @@
--- What callers use of a GHASH: its length, and that it is made of bytes. What the calls use: the hash
--- of no blocks, and of one block more.
-use Rattle.std.proofs.Common.{◌≡◌, ◌<◌, ℕ, zero, suc, List, [], ◌∷◌, ◌++◌, length, arith, refl}
-use Rattle.std.proofs.lemmas.List.Elements.{All-cons, All-nil}
-use Rattle.std.specs.Int.{byte_at, bytes_high_first}
-use Rattle.std.specs.Prelude.{All, bit_xor}
+-- What callers use of a GHASH: its length. What the calls use: the hash of no blocks, and of one block
+-- more.
+use Rattle.std.proofs.Common.{◌≡◌, ℕ, List, [], ◌∷◌, ◌++◌, length, refl}
+use Rattle.std.specs.Prelude.{bit_xor}
 use Rattle.std.proofs.lemmas.List.Sums.{fold_push}
 use Rattle.ghash_field.specs.Ghash.{block_of, ghash, hash_number, number_of, product}
 
@@ -11,20 +9,6 @@ use Rattle.ghash_field.specs.Ghash.{block_of, ghash, hash_number, number_of, pro
 pub ghash_length : (key : List ℕ) (blocks : List (List ℕ)) → length (ghash key blocks) ≡ 16
 unfolding ghash block_of
 ghash_length key blocks = refl
-
-byte_below : (i n : ℕ) → byte_at i n < 256
-byte_below zero n = omega arith
-byte_below (suc i) n = omega arith
-
-number_in_bytes : (k n : ℕ) → All (λ b. b < 256) (bytes_high_first k n)
-number_in_bytes zero n = All-nil (λ b. b < 256)
-number_in_bytes (suc k) n =
-    All-cons (λ b. b < 256) (byte_at k n) (bytes_high_first k n) (byte_below k n) (number_in_bytes k n)
-
--- each element of a GHASH is a byte
-pub ghash_bytes : (key : List ℕ) (blocks : List (List ℕ)) → All (λ b. b < 256) (ghash key blocks)
-unfolding ghash block_of
-ghash_bytes key blocks = number_in_bytes 16 (hash_number key blocks)
 
 -- Y_0 is 0
 pub hash_number_none : (key : List ℕ) → hash_number key [] ≡ 0

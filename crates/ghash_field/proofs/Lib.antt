@@ -1,1 +1,2 @@
 pub mod GhashFacts
+pub mod ProductFacts

@@ -1,6 +1,0 @@
-use Rattle.std.proofs.Common.{◌≡◌, ◌-◌}
-use Rattle.aes_block.specs.Cipher.{after_rounds}
-use Rattle.aes_block.proofs.key.AesKey.encrypt.Given as goal
-
-abbrev pub invariant-loop-n : goal.invariant-loop-n
-invariant-loop-n l = l.state ≡ after_rounds l.self-inside.words l.fn.block (l.n - 1)
