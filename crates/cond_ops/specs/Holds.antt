@@ -68,7 +68,7 @@ HoldsMissing condition =
     (HoldsOfNone condition.qualifier (is_negated condition.operator) condition.if_exists)
 
 -- the condition holds of the request
-abbrev pub Holds : Condition → RequestFacts → Type 0
+unfoldable pub Holds : Condition → RequestFacts → Type 0
 Holds condition request =
     MatchBool (is_present condition.key request.facts)
     (HoldsPresent condition (request_values condition.key request.facts))

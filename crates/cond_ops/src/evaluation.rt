@@ -136,6 +136,7 @@ impl Condition {
 /// and suffix. A value matches where it stands in the operator's relation to some value of the condition; one of
 /// another form matches nothing. No memory is taken. (IAM User Guide, "IAM JSON policy elements: Condition operators"
 /// and "Set operators for multivalued context keys".)
+#[tactic(auto, unfolding(crate::specs::Holds::Holds))]
 pub fn holds(condition: &Condition, facts: &RequestFacts) -> bool
     ensures { IsTrue result ↔ Holds condition.now facts.now }
 {

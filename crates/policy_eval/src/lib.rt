@@ -1,13 +1,11 @@
-// A library with one function.
+//! Policies that are asked about requests (IAM User Guide, "Policy evaluation logic"; AWS KMS Developer Guide, "Key
+//! policies").
 #![tactic(auto)]
 
-ghost use Rattle.std.specs.Prelude.{◌≡◌};
-ghost use Rattle.policy_eval.specs.Echo.{echo_of};
+mod compiled;
+mod matching;
+mod naming;
+mod verdicts;
 
-// The `ensures` clause is the contract: what `echo` returns is `echo_of` of its argument, a definition
-// in `specs/Echo.antt`, which a caller's clause can cite too.
-pub fn echo(x: usize) -> usize
-    ensures { result ≡ echo_of x }
-{
-    x
-}
+pub use compiled::Compiled;
+pub use verdicts::Verdict;
