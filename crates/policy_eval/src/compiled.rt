@@ -1,129 +1,36 @@
 //! Policies made ready to be asked.
 
-ghost use Rattle.std.specs.Prelude.{◌≡◌, ◌↔◌, IsTrue, IfOk, false};
-ghost use Rattle.policy_eval.specs.Verdict.{IsAllow, IsDeny, IsDenyOf, AllowsCaller, AllowsAccount, SomeDenies, SomeAllowsCaller, SomeAllowsAccount, IsKeyVerdict, IsIdentityVerdict, IsVerdict, SomeHasConditions, HasConditions, GoesByQuestion};
+ghost use Rattle.std.specs.Prelude.{◌≡◌, ◌↔◌, IsTrue, Any, IfOk, false};
+ghost use Rattle.policy_eval.specs.Verdict.{IsAllow, IsDeny, SomeDenies, SomeAllowsCaller, SomeAllowsAccount, IsKeyVerdict, IsIdentityVerdict, IsVerdict, SomeHasConditions, HasConditions, GoesByQuestion};
 
-use crate::matching::matches;
-use crate::naming::{names_account, names_caller};
+use crate::groups::Group;
+use crate::naming::Naming;
+use crate::statements::CompiledStatement;
 use crate::verdicts::Verdict;
 use cond_ops::RequestFacts;
 use kms_names::NoMemory;
-use policy_doc::{Policy, PolicyKind, Statement};
+use policy_doc::{Policy, PolicyKind};
 use std::alloc::Global;
 use std::marker::Model;
 
 /// A policy made ready to be asked about many requests. Contracts see it as the policy that it was made of.
 #[derive(Debug, Drop)]
 pub struct Compiled {
-    policy: Policy,
+    kind: PolicyKind,
+    effects: Vec<bool>,
+    denies: Group,
+    allows: Group,
 }
 
 impl Model for Compiled {
     ghost use Rattle.policy_doc.specs.declared.policies.Policy.{Policy as PolicyValue};
+    ghost use Rattle.policy_eval.specs.Order.{in_order, AreApart};
 
     ghost Value = { PolicyValue };
 
-    ghost view = { λ c. c.policy };
-}
+    ghost view = { λ c. record { kind = c.kind; statements = in_order c.effects.items c.denies c.allows } };
 
-/// Whether a statement has the effect Deny, and matches.
-#[tactic(auto, unfolding(crate::specs::Verdict::IsDeny))]
-fn is_deny(statement: &Statement, facts: &RequestFacts) -> bool
-    ensures { IsTrue result ↔ IsDeny statement.now facts.now }
-{
-    !statement.allow && matches(statement, facts)
-}
-
-/// Whether a statement has the effect Allow, and matches.
-#[tactic(auto, unfolding(crate::specs::Verdict::IsAllow))]
-fn is_allow(statement: &Statement, facts: &RequestFacts) -> bool
-    ensures { IsTrue result ↔ IsAllow statement.now facts.now }
-{
-    statement.allow && matches(statement, facts)
-}
-
-#[tactic(auto, unfolding(crate::specs::Verdict::IsDenyOf))]
-fn denies(statement: &Statement, facts: &RequestFacts) -> bool
-    ensures { IsTrue result ↔ IsDenyOf statement.now facts.now }
-{
-    let names = statement.principals.as_slice();
-    (names_caller(names, &facts.caller) || names_account(names, &facts.caller))
-        && is_deny(statement, facts)
-}
-
-#[tactic(auto, unfolding(crate::specs::Verdict::AllowsCaller))]
-fn allows_caller(statement: &Statement, facts: &RequestFacts) -> bool
-    ensures { IsTrue result ↔ AllowsCaller statement.now facts.now }
-{
-    names_caller(statement.principals.as_slice(), &facts.caller) && is_allow(statement, facts)
-}
-
-#[tactic(auto, unfolding(crate::specs::Verdict::AllowsAccount))]
-fn allows_account(statement: &Statement, facts: &RequestFacts) -> bool
-    ensures { IsTrue result ↔ AllowsAccount statement.now facts.now }
-{
-    names_account(statement.principals.as_slice(), &facts.caller) && is_allow(statement, facts)
-}
-
-fn some_denies(statements: &[Statement], facts: &RequestFacts) -> bool
-    ensures { IsTrue result ↔ SomeDenies statements.now facts.now }
-{
-    statements.iter().any(|statement| denies(statement, facts))
-}
-
-fn some_allows_caller(statements: &[Statement], facts: &RequestFacts) -> bool
-    ensures { IsTrue result ↔ SomeAllowsCaller statements.now facts.now }
-{
-    statements
-        .iter()
-        .any(|statement| allows_caller(statement, facts))
-}
-
-fn some_allows_account(statements: &[Statement], facts: &RequestFacts) -> bool
-    ensures { IsTrue result ↔ SomeAllowsAccount statements.now facts.now }
-{
-    statements
-        .iter()
-        .any(|statement| allows_account(statement, facts))
-}
-
-/// The verdict of a key policy's statements.
-fn key_verdict(statements: &[Statement], facts: &RequestFacts) -> Verdict
-    ensures { IsKeyVerdict statements.now facts.now result }
-{
-    if some_denies(statements, facts) {
-        Verdict::Deny
-    } else if some_allows_caller(statements, facts) {
-        Verdict::Direct
-    } else if some_allows_account(statements, facts) {
-        Verdict::ByRoot
-    } else {
-        Verdict::Silent
-    }
-}
-
-/// The verdict of an identity policy's statements.
-fn identity_verdict(statements: &[Statement], facts: &RequestFacts) -> Verdict
-    ensures { IsIdentityVerdict statements.now facts.now result }
-{
-    if statements.iter().any(|statement| is_deny(statement, facts)) {
-        Verdict::Deny
-    } else if statements
-        .iter()
-        .any(|statement| is_allow(statement, facts))
-    {
-        Verdict::Direct
-    } else {
-        Verdict::Silent
-    }
-}
-
-fn some_has_conditions(statements: &[Statement]) -> bool
-    ensures { IsTrue result ↔ SomeHasConditions statements.now }
-{
-    statements
-        .iter()
-        .any(|statement| !statement.conditions.as_slice().is_empty())
+    ghost invariant = { λ c. AreApart (in_order c.effects.items c.denies c.allows) c.denies c.allows };
 }
 
 impl Compiled {
@@ -131,9 +38,82 @@ impl Compiled {
     pub fn new(alloc: Global, policy: &Policy) -> Result<Compiled, NoMemory>
         ensures { IfOk result (λ compiled. compiled ≡ policy.now) }
     {
-        let _alloc = alloc;
-        let policy = policy.copy()?;
-        Ok(Compiled { policy })
+        let mut effects = Vec::new(alloc);
+        let mut denies = Group::new(alloc);
+        let mut allows = Group::new(alloc);
+        for statement in policy.statements.as_slice() {
+            let compiled = CompiledStatement::new(alloc, statement)?;
+            effects.push(statement.allow)?;
+            if statement.allow {
+                allows.push(compiled)?;
+            } else {
+                denies.push(compiled)?;
+            }
+        }
+        Ok(Compiled {
+            kind: policy.kind,
+            effects,
+            denies,
+            allows,
+        })
+    }
+
+    fn some_denies(&self, facts: &RequestFacts) -> bool
+        ensures { IsTrue result ↔ SomeDenies self.now.statements facts.now }
+    {
+        self.denies.hits(Naming::CallerOrAccount, facts)
+    }
+
+    fn some_allows_caller(&self, facts: &RequestFacts) -> bool
+        ensures { IsTrue result ↔ SomeAllowsCaller self.now.statements facts.now }
+    {
+        self.allows.hits(Naming::Caller, facts)
+    }
+
+    fn some_allows_account(&self, facts: &RequestFacts) -> bool
+        ensures { IsTrue result ↔ SomeAllowsAccount self.now.statements facts.now }
+    {
+        self.allows.hits(Naming::Account, facts)
+    }
+
+    fn some_denies_anyone(&self, facts: &RequestFacts) -> bool
+        ensures { IsTrue result ↔ Any (λ s. IsDeny s facts.now) self.now.statements }
+    {
+        self.denies.hits(Naming::Anyone, facts)
+    }
+
+    fn some_allows_anyone(&self, facts: &RequestFacts) -> bool
+        ensures { IsTrue result ↔ Any (λ s. IsAllow s facts.now) self.now.statements }
+    {
+        self.allows.hits(Naming::Anyone, facts)
+    }
+
+    /// The verdict of a key policy.
+    fn key_verdict(&self, facts: &RequestFacts) -> Verdict
+        ensures { IsKeyVerdict self.now.statements facts.now result }
+    {
+        if self.some_denies(facts) {
+            Verdict::Deny
+        } else if self.some_allows_caller(facts) {
+            Verdict::Direct
+        } else if self.some_allows_account(facts) {
+            Verdict::ByRoot
+        } else {
+            Verdict::Silent
+        }
+    }
+
+    /// The verdict of an identity policy.
+    fn identity_verdict(&self, facts: &RequestFacts) -> Verdict
+        ensures { IsIdentityVerdict self.now.statements facts.now result }
+    {
+        if self.some_denies_anyone(facts) {
+            Verdict::Deny
+        } else if self.some_allows_anyone(facts) {
+            Verdict::Direct
+        } else {
+            Verdict::Silent
+        }
     }
 
     /// What the policy says of a request. In a key policy a Deny statement that matches and names the caller,
@@ -146,11 +126,16 @@ impl Compiled {
     pub fn verdict(&self, facts: &RequestFacts) -> Verdict
         ensures { IsVerdict self.now facts.now result }
     {
-        let statements = self.policy.statements.as_slice();
-        match self.policy.kind {
-            PolicyKind::Key => key_verdict(statements, facts),
-            PolicyKind::Identity => identity_verdict(statements, facts),
+        match self.kind {
+            PolicyKind::Key => self.key_verdict(facts),
+            PolicyKind::Identity => self.identity_verdict(facts),
         }
+    }
+
+    fn has_conditions(&self) -> bool
+        ensures { IsTrue result ↔ SomeHasConditions self.now.statements }
+    {
+        self.denies.has_conditions() || self.allows.has_conditions()
     }
 
     /// Whether some statement has a condition. Where none has, requests with the same caller, action and resource
@@ -159,14 +144,18 @@ impl Compiled {
         ensures conditions { IsTrue result ↔ HasConditions self.now }
         ensures unasked { result ≡ false → GoesByQuestion self.now }
     {
-        some_has_conditions(self.policy.statements.as_slice())
+        self.has_conditions()
     }
 
     /// A copy that equals its source.
     pub fn copy(&self) -> Result<Compiled, NoMemory>
         ensures { IfOk result (λ compiled. compiled ≡ self.now) }
     {
-        let policy = self.policy.copy()?;
-        Ok(Compiled { policy })
+        Ok(Compiled {
+            kind: self.kind,
+            effects: self.effects.clone()?,
+            denies: self.denies.copy()?,
+            allows: self.allows.copy()?,
+        })
     }
 }

@@ -3,9 +3,13 @@
 #![tactic(auto)]
 
 mod compiled;
-mod matching;
+mod elements;
+mod groups;
 mod naming;
+mod statements;
+mod threads;
 mod verdicts;
 
 pub use compiled::Compiled;
+pub use threads::compiled_crosses_threads;
 pub use verdicts::Verdict;
