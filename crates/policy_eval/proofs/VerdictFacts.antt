@@ -95,3 +95,44 @@ no_conditions s h = empty s.conditions h
 pub goes_by_question : (policy : Policy) → ¬ (HasConditions policy) → GoesByQuestion policy
 goes_by_question policy none a b verdict same h =
     verdict_too policy.statements (λ s k lt at. no_conditions s (λ some. none (k, s, lt, at, some))) a b same policy.kind verdict h
+
+-- a policy has one verdict
+one_key_verdict : (ss : List Statement) (r : RequestFacts) (v w : Verdict) → IsKeyVerdict ss r v → IsKeyVerdict ss r w → v ≡ w
+one_key_verdict ss r Deny Deny a b = refl
+one_key_verdict ss r Deny Direct a b = absurd (b.0 a)
+one_key_verdict ss r Deny ByRoot a b = absurd (b.0 a)
+one_key_verdict ss r Deny Silent a b = absurd (b.0 a)
+one_key_verdict ss r Direct Deny a b = absurd (a.0 b)
+one_key_verdict ss r Direct Direct a b = refl
+one_key_verdict ss r Direct ByRoot a b = absurd (b.1 a.1)
+one_key_verdict ss r Direct Silent a b = absurd (b.1 a.1)
+one_key_verdict ss r ByRoot Deny a b = absurd (a.0 b)
+one_key_verdict ss r ByRoot Direct a b = absurd (a.1 b.1)
+one_key_verdict ss r ByRoot ByRoot a b = refl
+one_key_verdict ss r ByRoot Silent a b = absurd (b.2 a.2)
+one_key_verdict ss r Silent Deny a b = absurd (a.0 b)
+one_key_verdict ss r Silent Direct a b = absurd (a.1 b.1)
+one_key_verdict ss r Silent ByRoot a b = absurd (a.2 b.2)
+one_key_verdict ss r Silent Silent a b = refl
+
+one_identity_verdict : (ss : List Statement) (r : RequestFacts) (v w : Verdict) → IsIdentityVerdict ss r v → IsIdentityVerdict ss r w → v ≡ w
+one_identity_verdict ss r ByRoot w a b = absurd a
+one_identity_verdict ss r Deny ByRoot a b = absurd b
+one_identity_verdict ss r Direct ByRoot a b = absurd b
+one_identity_verdict ss r Silent ByRoot a b = absurd b
+one_identity_verdict ss r Deny Deny a b = refl
+one_identity_verdict ss r Deny Direct a b = absurd (b.0 a)
+one_identity_verdict ss r Deny Silent a b = absurd (b.0 a)
+one_identity_verdict ss r Direct Deny a b = absurd (a.0 b)
+one_identity_verdict ss r Direct Direct a b = refl
+one_identity_verdict ss r Direct Silent a b = absurd (b.1 a.1)
+one_identity_verdict ss r Silent Deny a b = absurd (a.0 b)
+one_identity_verdict ss r Silent Direct a b = absurd (a.1 b.1)
+one_identity_verdict ss r Silent Silent a b = refl
+
+one_verdict_of : (kind : PolicyKind) (ss : List Statement) (r : RequestFacts) (v w : Verdict) → IsVerdictOf kind ss r v → IsVerdictOf kind ss r w → v ≡ w
+one_verdict_of Key ss r v w a b = one_key_verdict ss r v w a b
+one_verdict_of Identity ss r v w a b = one_identity_verdict ss r v w a b
+
+pub one_verdict : (policy : Policy) (r : RequestFacts) (v w : Verdict) → IsVerdict policy r v → IsVerdict policy r w → v ≡ w
+one_verdict policy r v w a b = one_verdict_of policy.kind policy.statements r v w a b

@@ -5,11 +5,13 @@
 mod compiled;
 mod elements;
 mod groups;
+mod laws;
 mod naming;
 mod statements;
 mod threads;
 mod verdicts;
 
 pub use compiled::Compiled;
+pub use laws::verdicts_are_one;
 pub use threads::compiled_crosses_threads;
 pub use verdicts::Verdict;
