@@ -1,5 +1,5 @@
 -- Values of conditions that are read once.
-use Rattle.std.specs.Prelude.{◌≡◌, ◌↔◌, ℕ, List, Any, Contains, ⊤}
+use Rattle.std.specs.Prelude.{◌≡◌, ⊤}
 use Rattle.cond_ops.specs.declared.conditions.Condition.{Condition}
 use Rattle.cond_ops.specs.declared.operators.Kind.TheVariants as kind
 use Rattle.cond_ops.specs.declared.read_values.ReadValues.{ReadValues}

@@ -1,5 +1,5 @@
 -- Sets of actions, and the globs of actions.
-use Rattle.std.specs.Prelude.{◌≡◌, ℕ, ◌==◌, Bool, List}
+use Rattle.std.specs.Prelude.{ℕ, ◌==◌, Bool, List}
 use Rattle.std.specs.Int.{bit_at}
 use Rattle.kms_names.specs.declared.actions.Action.{Action}
 use Rattle.kms_names.specs.Action.{action_number, action_text}

@@ -1,6 +1,6 @@
 -- An element and its Not-form.
 use Rattle.std.proofs.Common.{◌≡◌, ◌≢◌, ℕ, Bool, true, false, not, ◌==◌, List, [], ◌∷◌, length, get_or, refl, subst, sym, ◌∙◌, ap, arith}
-use Rattle.std.specs.Prelude.{◌↔◌, IsTrue, All, Any}
+use Rattle.std.specs.Prelude.{◌↔◌, IsTrue, Any}
 use Rattle.std.proofs.lemmas.Bool.{eqb-true}
 use Rattle.std.proofs.lemmas.List.{get_or_default}
 use Rattle.policy_eval.specs.Matching.{ElementMatches}

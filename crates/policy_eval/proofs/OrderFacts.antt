@@ -1,5 +1,5 @@
 -- Statements in the order of all, and by their effects.
-use Rattle.std.proofs.Common.{◌≡◌, ◌≢◌, ◌⊎◌, ℕ, ◌+◌, ◌<◌, ◌≤◌, Bool, true, false, not, cond, List, [], ◌∷◌, ◌++◌, length, take, get_or, map, filter, refl, sym, ◌∙◌, ap, subst, arith, append-nil}
+use Rattle.std.proofs.Common.{◌≡◌, ◌≢◌, ◌⊎◌, ℕ, ◌+◌, ◌<◌, ◌≤◌, Bool, true, false, not, cond, List, [], ◌∷◌, ◌++◌, length, take, get_or, map, filter, refl, sym, ◌∙◌, ap, subst, append-nil}
 use Rattle.std.specs.Prelude.{◌↔◌, IsTrue, Any}
 use Rattle.std.proofs.lemmas.List.{take_all, take_more, map-append}
 use Rattle.std.proofs.lemmas.List.Elements.{filter_more}
@@ -7,7 +7,6 @@ use Rattle.cond_ops.specs.declared.facts.RequestFacts.{RequestFacts}
 use Rattle.policy_doc.specs.declared.policies.Statement.{Statement}
 use Rattle.policy_eval.specs.declared.naming.Naming.TheVariants.{Anyone, Caller, Account, CallerOrAccount}
 use Rattle.policy_eval.specs.Hits.{IsNamed, Hits, SomeHits}
-use Rattle.policy_eval.specs.Naming.{NamesCaller, NamesAccount}
 use Rattle.policy_eval.specs.Order.{in_order, denies_of, allows_of, AreApart}
 use Rattle.policy_eval.specs.Verdict.{IsAllow, IsDeny, IsDenyOf, AllowsCaller, AllowsAccount, SomeDenies, SomeAllowsCaller, SomeAllowsAccount, SomeHasConditions}
 use Rattle.policy_eval.proofs.AnyFacts.{by_filter, by_parts}

@@ -1,6 +1,4 @@
-use Rattle.std.proofs.Common.{◌≡◌, true, false, sym, ◌∙◌, ap, subst}
-use Rattle.cond_ops.specs.Holds.{has_name}
-use Rattle.cond_ops.specs.Matching.{SomeMatch}
+use Rattle.std.proofs.Common.{sym, ◌∙◌}
 use Rattle.cond_ops.proofs.MatchingFacts.{none_looked_up, found_one, passed_named, passed_other, present_without, missing}
 use Rattle.cond_ops.proofs.evaluation.Reading.look_up.Goals as goal
 use Rattle.cond_ops.proofs.evaluation.Reading.look_up.Goals.{then-has_name+else-some_match, else-has_name}

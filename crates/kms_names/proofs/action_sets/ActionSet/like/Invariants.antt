@@ -1,7 +1,5 @@
-use Rattle.std.proofs.Common.{◌≡◌, ℕ, ◌<◌, true, get_or}
 use Rattle.std.specs.Prelude.{Any}
-use Rattle.kms_names.specs.Action.{all_actions}
-use Rattle.kms_names.specs.ActionSet.{IsActionLike, has_action}
+use Rattle.kms_names.specs.ActionSet.{IsActionLike}
 use Rattle.kms_names.specs.declared.actions.Action.{Action}
 use Rattle.kms_names.proofs.ActionFacts.{IsSetOf}
 use Rattle.kms_names.proofs.action_sets.ActionSet.like.Given as goal

@@ -1,9 +1,8 @@
-use Rattle.std.proofs.Common.{◌≡◌, ℕ, List, Bool, true, refl, sym, ◌∙◌, ap, subst}
+use Rattle.std.proofs.Common.{◌≡◌, refl, sym, ◌∙◌, ap, subst}
 use Rattle.std.specs.Prelude.{◌↔◌, IsTrue}
 use Rattle.std.specs.Str.{chars}
 use Rattle.kms_names.specs.Glob.{Globs}
 use Rattle.kms_names.specs.Pattern.{pattern_text, HasShape}
-use Rattle.kms_names.specs.declared.patterns.Shape.{Shape}
 use Rattle.kms_names.specs.declared.patterns.Shape.TheVariants.{Anything, Exact, Prefix}
 use Rattle.kms_names.proofs.PatternFacts.{anything, exact_eq, begins_some}
 use Rattle.kms_names.proofs.patterns.Pattern.matches.Goals as goal

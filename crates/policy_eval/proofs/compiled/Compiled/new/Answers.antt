@@ -1,7 +1,7 @@
 use Rattle.std.proofs.Common.{List, ◌∙◌, ap}
 use Rattle.policy_doc.specs.declared.policies.Policy.{Policy}
 use Rattle.policy_doc.specs.declared.policies.Statement.{Statement}
-use Rattle.policy_eval.proofs.OrderFacts.{kept_none, kept_allow, kept_deny, all_kept, all_apart}
+use Rattle.policy_eval.proofs.OrderFacts.{kept_allow, kept_deny, all_kept, all_apart}
 use Rattle.policy_eval.proofs.compiled.Compiled.new.Goals as goal
 use Rattle.policy_eval.proofs.compiled.Compiled.new.Goals.{then-statement+in_ok-push-2, else-statement+in_ok-push-3}
 
