@@ -6,4 +6,6 @@ pub mod MomentFacts
 pub mod SecondFacts
 pub mod ReadingFacts
 pub mod MatchingFacts
+pub mod ReadFacts
+pub mod ArnFacts
 pub mod FormFacts

@@ -67,9 +67,13 @@ HoldsMissing condition =
     IfAbsence (kind_of condition.operator) (Contains condition.values (codes "true"))
     (HoldsOfNone condition.qualifier (is_negated condition.operator) condition.if_exists)
 
--- the condition holds of the request
-abbrev pub Holds : Condition → RequestFacts → Type 0
-Holds condition request =
-    MatchBool (is_present condition.key request.facts)
-    (HoldsPresent condition (request_values condition.key request.facts))
+-- the condition holds of the facts of a request
+abbrev pub HoldsOf : Condition → List Fact → Type 0
+HoldsOf condition facts =
+    MatchBool (is_present condition.key facts)
+    (HoldsPresent condition (request_values condition.key facts))
     (HoldsMissing condition)
+
+-- the condition holds of the request
+unfoldable pub Holds : Condition → RequestFacts → Type 0
+Holds condition request = HoldsOf condition request.facts

@@ -6,6 +6,10 @@ pub mod Moment
 pub mod Fields
 pub mod Value
 pub mod Relation
+pub mod Arn
+pub mod ArnPattern
+pub mod Reading
+pub mod Compiled
 pub mod Holds
 pub mod Matching
 pub mod Laws

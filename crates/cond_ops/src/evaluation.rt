@@ -1,16 +1,17 @@
 //! Whether a condition holds of a request.
 
-ghost use Rattle.std.specs.Prelude.{◌≡◌, ◌↔◌, IsTrue, Any, All, Contains, not};
+ghost use Rattle.std.specs.Prelude.{◌≡◌, ◌↔◌, ℕ, List, IsTrue, Any, All, Contains, not};
 ghost use Rattle.std.specs.Bool.{MatchBool};
-ghost use Rattle.cond_ops.specs.Holds.{Matches, HoldsOfValues, HoldsPresent, HoldsMissing, Holds, has_name, is_present, request_values};
-ghost use Rattle.cond_ops.specs.Matching.{IsMatch, SomeMatch, HasMatch, HasNoMatch};
+ghost use Rattle.cond_ops.specs.Compiled.{AreValuesOf};
+ghost use Rattle.cond_ops.specs.Holds.{Matches, HoldsOfValues, HoldsPresent, HoldsMissing, Holds, HoldsOf, has_name};
+ghost use Rattle.cond_ops.specs.Matching.{IsMatch, SomeMatch, IsLookUp, wanted_of};
 ghost use Rattle.cond_ops.specs.Operator.{is_negated};
 
 use crate::conditions::Condition;
 use crate::facts::{Fact, RequestFacts};
 use crate::operators::Operator;
 use crate::qualified::Qualifier;
-use crate::values::relates;
+use crate::read_values::ReadValues;
 use kms_names::Text;
 
 impl Fact {
@@ -22,71 +23,82 @@ impl Fact {
     }
 }
 
-/// Whether some fact has the key's name.
-fn is_present(key: &str, facts: &[Fact]) -> bool
-    ensures { result ≡ is_present key.now facts.now }
-{
-    facts.iter().any(|fact| fact.has_name(key))
+/// A condition, and its values as its operator compares them.
+#[derive(Clone, Copy)]
+pub struct Reading<'a> {
+    pub condition: &'a Condition,
+    pub values: &'a ReadValues,
 }
 
-impl Condition {
-    /// Whether a value of the request stands in the operator's relation to some value of the policy.
-    fn matches(&self, value: &str) -> bool
-        ensures { IsTrue result ↔ Matches self.now value.now }
-    {
-        let kind = self.operator.kind();
-        self.values
-            .as_slice()
-            .iter()
-            .any(|policy| relates(kind, value, policy.as_str()))
-    }
-
+impl Reading<'_> {
     /// Whether a value matches, or does not.
     fn is_match(&self, value: &str, wanted: bool) -> bool
-        ensures { MatchBool result (IsMatch self.now wanted value.now) (IsMatch self.now (not wanted) value.now) }
+        requires { AreValuesOf self.now.condition.now self.now.values.now }
+        ensures { MatchBool result (IsMatch self.now.condition.now wanted value.now) (IsMatch self.now.condition.now (not wanted) value.now) }
     {
-        self.matches(value) == wanted
+        self.values.matches(self.condition, value) == wanted
     }
 
     /// Whether some of these values matches, or some does not.
     fn some_match(&self, values: &[Text], wanted: bool) -> bool
-        ensures { SomeMatch self.now wanted values.now result }
+        requires { AreValuesOf self.now.condition.now self.now.values.now }
+        ensures { SomeMatch self.now.condition.now wanted values.now result }
     {
         values
             .iter()
             .any(|value| self.is_match(value.as_str(), wanted))
     }
 
-    /// The same of a fact's values, where it has the condition's key.
-    fn has_match(&self, fact: &Fact, wanted: bool) -> bool
-        ensures { MatchBool result (HasMatch self.now wanted fact.now) (HasNoMatch self.now wanted fact.now) }
+    /// The same of the values of the request, where the condition's key is present.
+    fn look_up(&self, facts: &[Fact], wanted: bool) -> Option<bool>
+        requires { AreValuesOf self.now.condition.now self.now.values.now }
+        ensures { IsLookUp self.now.condition.now wanted facts.now result }
     {
-        fact.has_name(self.key.as_str()) && self.some_match(fact.values.as_slice(), wanted)
+        let mut is_present = false;
+        for fact in facts {
+            if fact.has_name(self.condition.key.as_str()) {
+                if self.some_match(fact.values.as_slice(), wanted) {
+                    return Some(true);
+                }
+                is_present = true;
+            }
+        }
+        if is_present { Some(false) } else { None }
     }
 
-    /// The same of some fact.
-    fn some_fact_match(&self, facts: &[Fact], wanted: bool) -> bool
-        ensures { MatchBool result (Any (HasMatch self.now wanted) facts.now) (All (HasNoMatch self.now wanted) facts.now) }
+    /// Whether the condition holds of the facts of a request. Each value of the request is read once.
+    pub fn holds(&self, facts: &[Fact]) -> bool
+        requires { AreValuesOf self.now.condition.now self.now.values.now }
+        ensures { IsTrue result ↔ HoldsOf self.now.condition.now facts.now }
     {
-        facts.iter().any(|fact| self.has_match(fact, wanted))
+        let condition = self.condition;
+        match self.look_up(facts, condition.wanted()) {
+            Some(found) => condition.holds_present(found),
+            None => condition.holds_missing(),
+        }
     }
+}
 
-    /// The same of the values of the request.
-    fn some_request_match(&self, facts: &[Fact], wanted: bool) -> bool
-        ensures { SomeMatch self.now wanted (request_values self.now.key facts.now) result }
+impl Condition {
+    /// Whether it is asked for a value that matches, or for one that does not.
+    fn wanted(&self) -> bool
+        ensures { result ≡ wanted_of self.now.qualifier (is_negated self.now.operator) }
     {
-        self.some_fact_match(facts, wanted)
-    }
-
-    /// Whether the condition holds of the values of a key that is present.
-    fn holds_of_values(&self, facts: &[Fact]) -> bool
-        ensures { IsTrue result ↔ HoldsOfValues self.now.qualifier (is_negated self.now.operator) (Matches self.now) (request_values self.now.key facts.now) }
-    {
-        let negated = self.operator.is_negated();
         match self.qualifier {
-            Qualifier::Plain => self.some_request_match(facts, true) != negated,
-            Qualifier::AllValues => !self.some_request_match(facts, negated),
-            Qualifier::AnyValue => self.some_request_match(facts, !negated),
+            Qualifier::Plain => true,
+            Qualifier::AllValues => self.operator.is_negated(),
+            Qualifier::AnyValue => !self.operator.is_negated(),
+        }
+    }
+
+    /// Whether the condition holds of the values of a key that is present, where such a value was found or none was.
+    fn holds_of_values(&self, found: bool) -> bool
+        ensures { (values : List (List ℕ)) → SomeMatch self.now (wanted_of self.now.qualifier (is_negated self.now.operator)) values found → IsTrue result ↔ HoldsOfValues self.now.qualifier (is_negated self.now.operator) (Matches self.now) values }
+    {
+        match self.qualifier {
+            Qualifier::Plain => found != self.operator.is_negated(),
+            Qualifier::AllValues => !found,
+            Qualifier::AnyValue => found,
         }
     }
 
@@ -101,13 +113,13 @@ impl Condition {
     }
 
     /// Whether the condition holds where its key is present.
-    fn holds_present(&self, facts: &[Fact]) -> bool
-        ensures { IsTrue result ↔ HoldsPresent self.now (request_values self.now.key facts.now) }
+    fn holds_present(&self, found: bool) -> bool
+        ensures { (values : List (List ℕ)) → SomeMatch self.now (wanted_of self.now.qualifier (is_negated self.now.operator)) values found → IsTrue result ↔ HoldsPresent self.now values }
     {
         if self.operator == Operator::NullIs {
             self.has_value("false")
         } else {
-            self.holds_of_values(facts)
+            self.holds_of_values(found)
         }
     }
 
@@ -136,13 +148,13 @@ impl Condition {
 /// and suffix. A value matches where it stands in the operator's relation to some value of the condition; one of
 /// another form matches nothing. No memory is taken. (IAM User Guide, "IAM JSON policy elements: Condition operators"
 /// and "Set operators for multivalued context keys".)
+#[tactic(auto, unfolding(crate::specs::Holds::Holds))]
 pub fn holds(condition: &Condition, facts: &RequestFacts) -> bool
     ensures { IsTrue result ↔ Holds condition.now facts.now }
 {
-    let facts = facts.facts.as_slice();
-    if is_present(condition.key.as_str(), facts) {
-        condition.holds_present(facts)
-    } else {
-        condition.holds_missing()
-    }
+    let reading = Reading {
+        condition,
+        values: &ReadValues::Written,
+    };
+    reading.holds(facts.facts.as_slice())
 }

@@ -1,6 +1,8 @@
 //! Conditions of policies: their operators, the values that these compare, and whether a condition holds of a request.
 #![tactic(auto)]
 
+mod arns;
+mod compiled;
 mod conditions;
 mod cuts;
 mod evaluation;
@@ -11,9 +13,11 @@ mod numbers;
 mod operators;
 mod patterns;
 mod qualified;
+mod read_values;
 mod truths;
 mod values;
 
+pub use compiled::CompiledCondition;
 pub use conditions::{Condition, ConditionList};
 pub use evaluation::holds;
 pub use facts::{Fact, FactList, RequestFacts};

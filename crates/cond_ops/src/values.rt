@@ -32,7 +32,7 @@ pub fn is_value(operator: Operator, text: &str) -> bool
 
 impl Order {
     /// Whether the left number is so to the right one.
-    fn compares(self, left: i64, right: i64) -> bool
+    pub fn compares(self, left: i64, right: i64) -> bool
         ensures { IsTrue result ↔ Compares self left right }
     {
         match self {

@@ -10,3 +10,5 @@ pub mod ReferenceLaws
 pub mod ReadingFacts
 pub mod PrincipalReading
 pub mod ReferenceReading
+pub mod ActionFacts
+pub mod PatternFacts

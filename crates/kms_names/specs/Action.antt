@@ -1,5 +1,5 @@
--- The names of actions and of grant operations.
-use Rattle.std.specs.Prelude.{ℕ, List, codes}
+-- Actions: their names, and their order.
+use Rattle.std.specs.Prelude.{ℕ, List, [], ◌∷◌, ◌++◌, codes}
 use Rattle.kms_names.specs.declared.actions.Action.{Action}
 use Rattle.kms_names.specs.declared.actions.Action.TheVariants as action
 
@@ -33,7 +33,51 @@ action_name action.RevokeGrant = codes "RevokeGrant"
 action_name action.Encrypt = codes "Encrypt"
 action_name action.Decrypt = codes "Decrypt"
 action_name action.ReEncryptFrom = codes "ReEncryptFrom"
-action_name action.ReEncryptTo = codes "ReEncryptTo"
 action_name action.GenerateDataKey = codes "GenerateDataKey"
 action_name action.GenerateDataKeyWithoutPlaintext = codes "GenerateDataKeyWithoutPlaintext"
 action_name action.GenerateRandom = codes "GenerateRandom"
+action_name action.ReEncryptTo = codes "ReEncryptTo"
+
+-- what the globs of policies are matched with
+abbrev pub action_text : Action → List ℕ
+action_text a = codes "kms:" ++ action_name a
+
+-- all actions in order: that of the table of operations, and then the second of the two of ReEncrypt
+abbrev pub all_actions : List Action
+all_actions =
+    action.CreateKey ∷ action.DescribeKey ∷ action.ListKeys ∷ action.EnableKey ∷ action.DisableKey ∷ action.ScheduleKeyDeletion ∷ action.CancelKeyDeletion ∷ action.EnableKeyRotation ∷ action.DisableKeyRotation ∷ action.GetKeyRotationStatus ∷ action.RotateKeyOnDemand ∷ action.ListKeyRotations ∷ action.PutKeyPolicy ∷ action.GetKeyPolicy ∷ action.ListKeyPolicies ∷ action.UpdateKeyDescription ∷ action.CreateAlias ∷ action.UpdateAlias ∷ action.DeleteAlias ∷ action.ListAliases ∷ action.CreateGrant ∷ action.ListGrants ∷ action.ListRetirableGrants ∷ action.RetireGrant ∷ action.RevokeGrant ∷ action.Encrypt ∷ action.Decrypt ∷ action.ReEncryptFrom ∷ action.GenerateDataKey ∷ action.GenerateDataKeyWithoutPlaintext ∷ action.GenerateRandom ∷ action.ReEncryptTo ∷ []
+
+-- the place in that order
+abbrev pub action_number : Action → ℕ
+action_number action.CreateKey = 0
+action_number action.DescribeKey = 1
+action_number action.ListKeys = 2
+action_number action.EnableKey = 3
+action_number action.DisableKey = 4
+action_number action.ScheduleKeyDeletion = 5
+action_number action.CancelKeyDeletion = 6
+action_number action.EnableKeyRotation = 7
+action_number action.DisableKeyRotation = 8
+action_number action.GetKeyRotationStatus = 9
+action_number action.RotateKeyOnDemand = 10
+action_number action.ListKeyRotations = 11
+action_number action.PutKeyPolicy = 12
+action_number action.GetKeyPolicy = 13
+action_number action.ListKeyPolicies = 14
+action_number action.UpdateKeyDescription = 15
+action_number action.CreateAlias = 16
+action_number action.UpdateAlias = 17
+action_number action.DeleteAlias = 18
+action_number action.ListAliases = 19
+action_number action.CreateGrant = 20
+action_number action.ListGrants = 21
+action_number action.ListRetirableGrants = 22
+action_number action.RetireGrant = 23
+action_number action.RevokeGrant = 24
+action_number action.Encrypt = 25
+action_number action.Decrypt = 26
+action_number action.ReEncryptFrom = 27
+action_number action.GenerateDataKey = 28
+action_number action.GenerateDataKeyWithoutPlaintext = 29
+action_number action.GenerateRandom = 30
+action_number action.ReEncryptTo = 31

@@ -1,5 +1,5 @@
 -- Patterns in which `*` stands for any run of characters and `?` for any one character.
-use Rattle.std.specs.Prelude.{◌≡◌, ◌⊎◌, ℕ, ◌+◌, ◌*◌, List, [], ◌∷◌, ◌++◌, map, length}
+use Rattle.std.specs.Prelude.{◌≡◌, ◌⊎◌, ℕ, ◌+◌, ◌*◌, ◌==◌, ◌||◌, Bool, not, List, [], ◌∷◌, ◌++◌, map, length}
 use Rattle.std.specs.Char.{to_ascii_lowercase}
 use Rattle.std.specs.Str.{chars}
 
@@ -9,6 +9,10 @@ star = 42
 
 abbrev pub question_mark : ℕ
 question_mark = 63
+
+-- neither of the two
+abbrev pub is_plain : ℕ → Bool
+is_plain c = not ((c == star) || (c == question_mark))
 
 -- a pattern matches a text, both as lists of characters: the empty pattern the empty text; `*` and then p any
 -- run and then what p matches; `?` and then p any one character, and a character and then p itself, and then

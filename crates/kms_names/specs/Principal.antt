@@ -25,3 +25,9 @@ abbrev pub principal_text : Principal → List ℕ
 principal_text (Root account) = codes "arn:aws:iam::" ++ (account ++ codes ":root")
 principal_text (User account name) = codes "arn:aws:iam::" ++ (account ++ (codes ":user/" ++ name))
 principal_text (Role account name) = codes "arn:aws:iam::" ++ (account ++ (codes ":role/" ++ name))
+
+-- its account
+abbrev pub account_of : Principal → List ℕ
+account_of (Root account) = account
+account_of (User account name) = account
+account_of (Role account name) = account

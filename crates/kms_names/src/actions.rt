@@ -1,8 +1,8 @@
 ghost use Rattle.std.specs.Prelude.{◌≡◌};
-ghost use Rattle.kms_names.specs.Action.{action_name};
+ghost use Rattle.kms_names.specs.Action.{action_name, action_number, action_text};
 
-/// The name of an operation, with `ReEncryptFrom` and `ReEncryptTo` in place of `ReEncrypt`. The order is
-/// that of the table of operations.
+/// The name of an operation, with `ReEncryptFrom` and `ReEncryptTo` for `ReEncrypt`. The order is that of the
+/// table of operations, with `ReEncryptFrom` in the place of `ReEncrypt`, and `ReEncryptTo` last.
 #[derive(Clone, Copy, Debug, PartialEq, Eq, PartialOrd, Ord)]
 pub enum Action {
     CreateKey,
@@ -33,13 +33,56 @@ pub enum Action {
     Encrypt,
     Decrypt,
     ReEncryptFrom,
-    ReEncryptTo,
     GenerateDataKey,
     GenerateDataKeyWithoutPlaintext,
     GenerateRandom,
+    ReEncryptTo,
 }
 
 impl Action {
+    /// All actions in order.
+    pub const ALL: [Action; 32] = [
+        Action::CreateKey,
+        Action::DescribeKey,
+        Action::ListKeys,
+        Action::EnableKey,
+        Action::DisableKey,
+        Action::ScheduleKeyDeletion,
+        Action::CancelKeyDeletion,
+        Action::EnableKeyRotation,
+        Action::DisableKeyRotation,
+        Action::GetKeyRotationStatus,
+        Action::RotateKeyOnDemand,
+        Action::ListKeyRotations,
+        Action::PutKeyPolicy,
+        Action::GetKeyPolicy,
+        Action::ListKeyPolicies,
+        Action::UpdateKeyDescription,
+        Action::CreateAlias,
+        Action::UpdateAlias,
+        Action::DeleteAlias,
+        Action::ListAliases,
+        Action::CreateGrant,
+        Action::ListGrants,
+        Action::ListRetirableGrants,
+        Action::RetireGrant,
+        Action::RevokeGrant,
+        Action::Encrypt,
+        Action::Decrypt,
+        Action::ReEncryptFrom,
+        Action::GenerateDataKey,
+        Action::GenerateDataKeyWithoutPlaintext,
+        Action::GenerateRandom,
+        Action::ReEncryptTo,
+    ];
+
+    /// The place in that order, counted from 0.
+    pub fn number(self) -> u32
+        ensures { result ≡ action_number self }
+    {
+        self as u32
+    }
+
     /// The printed name, as it stands behind `kms:`.
     pub fn name(self) -> &'static str
         ensures { result.now ≡ action_name self }
@@ -73,10 +116,50 @@ impl Action {
             Action::Encrypt => "Encrypt",
             Action::Decrypt => "Decrypt",
             Action::ReEncryptFrom => "ReEncryptFrom",
-            Action::ReEncryptTo => "ReEncryptTo",
             Action::GenerateDataKey => "GenerateDataKey",
             Action::GenerateDataKeyWithoutPlaintext => "GenerateDataKeyWithoutPlaintext",
             Action::GenerateRandom => "GenerateRandom",
+            Action::ReEncryptTo => "ReEncryptTo",
+        }
+    }
+
+    /// The text that the globs of policies are matched with: `kms:` and the name.
+    pub fn text(self) -> &'static str
+        ensures { result.now ≡ action_text self }
+    {
+        match self {
+            Action::CreateKey => "kms:CreateKey",
+            Action::DescribeKey => "kms:DescribeKey",
+            Action::ListKeys => "kms:ListKeys",
+            Action::EnableKey => "kms:EnableKey",
+            Action::DisableKey => "kms:DisableKey",
+            Action::ScheduleKeyDeletion => "kms:ScheduleKeyDeletion",
+            Action::CancelKeyDeletion => "kms:CancelKeyDeletion",
+            Action::EnableKeyRotation => "kms:EnableKeyRotation",
+            Action::DisableKeyRotation => "kms:DisableKeyRotation",
+            Action::GetKeyRotationStatus => "kms:GetKeyRotationStatus",
+            Action::RotateKeyOnDemand => "kms:RotateKeyOnDemand",
+            Action::ListKeyRotations => "kms:ListKeyRotations",
+            Action::PutKeyPolicy => "kms:PutKeyPolicy",
+            Action::GetKeyPolicy => "kms:GetKeyPolicy",
+            Action::ListKeyPolicies => "kms:ListKeyPolicies",
+            Action::UpdateKeyDescription => "kms:UpdateKeyDescription",
+            Action::CreateAlias => "kms:CreateAlias",
+            Action::UpdateAlias => "kms:UpdateAlias",
+            Action::DeleteAlias => "kms:DeleteAlias",
+            Action::ListAliases => "kms:ListAliases",
+            Action::CreateGrant => "kms:CreateGrant",
+            Action::ListGrants => "kms:ListGrants",
+            Action::ListRetirableGrants => "kms:ListRetirableGrants",
+            Action::RetireGrant => "kms:RetireGrant",
+            Action::RevokeGrant => "kms:RevokeGrant",
+            Action::Encrypt => "kms:Encrypt",
+            Action::Decrypt => "kms:Decrypt",
+            Action::ReEncryptFrom => "kms:ReEncryptFrom",
+            Action::GenerateDataKey => "kms:GenerateDataKey",
+            Action::GenerateDataKeyWithoutPlaintext => "kms:GenerateDataKeyWithoutPlaintext",
+            Action::GenerateRandom => "kms:GenerateRandom",
+            Action::ReEncryptTo => "kms:ReEncryptTo",
         }
     }
 }

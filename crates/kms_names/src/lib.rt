@@ -2,6 +2,7 @@
 #![tactic(auto)]
 
 mod accounts;
+mod action_sets;
 mod actions;
 mod aliases;
 mod counter;
@@ -12,12 +13,14 @@ mod keys;
 mod laws;
 mod operations;
 mod parts;
+mod patterns;
 mod principals;
 mod references;
 mod regions;
 mod texts;
 
 pub use accounts::AccountNumber;
+pub use action_sets::ActionSet;
 pub use actions::Action;
 pub use aliases::{AliasName, is_alias_name, read_alias};
 pub use counter::Steps;
@@ -31,6 +34,7 @@ pub use laws::{
     read_key_prints_back, refers_to_one,
 };
 pub use operations::{GrantOp, GrantOps};
+pub use patterns::Pattern;
 pub use principals::{Principal, principal_len, read_principal, write_principal};
 pub use references::{KeyRef, alias_arn, key_arn, read_key_ref};
 pub use regions::is_region;

@@ -1,6 +1,6 @@
 ghost use Rattle.std.specs.Prelude.{◌≡◌, ◌≢◌, ◌↔◌, ℕ, List, IsTrue, IfErr, IfOk, MatchOption, ◌⊎◌, ◌++◌, length};
 ghost use Rattle.kms_names.specs.Characters.{is_name_character};
-ghost use Rattle.kms_names.specs.Principal.{IsIamArn, IsPathAndName, IsPrincipal, principal_text};
+ghost use Rattle.kms_names.specs.Principal.{IsIamArn, IsPathAndName, IsPrincipal, principal_text, account_of};
 ghost use Rattle.kms_names.specs.declared.principals.Principal.{Principal};
 
 use crate::accounts::AccountNumber;
@@ -18,6 +18,16 @@ pub enum Principal {
 }
 
 impl Principal {
+    /// The account that the principal is of.
+    pub fn account(&self) -> AccountNumber
+        ensures { result ≡ account_of self.now }
+    {
+        match self {
+            Principal::Root(account) | Principal::User(account, _) | Principal::Role(account, _) =>
+                *account,
+        }
+    }
+
     /// A copy that equals its source.
     pub fn copy(&self) -> Result<Principal, NoMemory>
         ensures { IfOk result (λ p. p ≡ self.now) }

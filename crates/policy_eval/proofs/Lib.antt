@@ -1,0 +1,5 @@
+pub mod AnyFacts
+pub mod MatchingFacts
+pub mod GroupFacts
+pub mod OrderFacts
+pub mod VerdictFacts

@@ -1,0 +1,138 @@
+-- Verdicts of statements without conditions.
+use Rattle.std.proofs.Common.{◌≡◌, ◌≢◌, ◌⊎◌, ℕ, ◌<◌, List, [], ◌∷◌, length, refl, sym, subst, get_or}
+use Rattle.std.specs.Prelude.{All, Any}
+use Rattle.std.proofs.lemmas.List.Elements.{All-nil}
+use Rattle.cond_ops.specs.declared.facts.RequestFacts.{RequestFacts}
+use Rattle.cond_ops.specs.Holds.{Holds}
+use Rattle.policy_doc.specs.declared.policies.Policy.{Policy}
+use Rattle.policy_doc.specs.declared.policies.PolicyKind.{PolicyKind}
+use Rattle.policy_doc.specs.declared.policies.PolicyKind.TheVariants.{Key, Identity}
+use Rattle.policy_doc.specs.declared.policies.Statement.{Statement}
+use Rattle.policy_eval.specs.declared.verdicts.Verdict.{Verdict}
+use Rattle.policy_eval.specs.declared.verdicts.Verdict.TheVariants.{Deny, Direct, ByRoot, Silent}
+use Rattle.policy_eval.specs.Matching.{ActionMatches, ResourceMatches, ConditionsHold, Matches}
+use Rattle.policy_eval.specs.Naming.{NamesCaller, NamesAccount}
+use Rattle.policy_eval.specs.Verdict.{IsAllow, IsDeny, IsDenyOf, AllowsCaller, AllowsAccount, SomeDenies, SomeAllowsCaller, SomeAllowsAccount, IsKeyVerdict, IsIdentityVerdict, IsVerdictOf, IsVerdict, HasConditions, AskTheSame, GoesByQuestion}
+
+module _ {X : Type 0} (P Q : X → Type 0) where
+  any_so : (xs : List X) → ((x : X) (k : ℕ) → k < length xs → get_or xs k x ≡ x → P x → Q x) → Any P xs → Any Q xs
+  any_so xs so (k, x, lt, at, p) = (k, x, lt, at, so x k lt at p)
+
+-- a statement without conditions
+module _ (s : Statement) (none : s.conditions ≡ []) (a b : RequestFacts) (same : AskTheSame a b) where
+  matches_too : Matches s a → Matches s b
+  unfolding Matches ConditionsHold
+  matches_too (action, resource, conditions) = (
+    subst (ActionMatches s) same.1 action,
+    subst (ResourceMatches s) same.2 resource,
+    subst (All (λ condition. Holds condition b)) (sym none) (All-nil (λ condition. Holds condition b)),
+  )
+
+  allow_too : IsAllow s a → IsAllow s b
+  unfolding IsAllow
+  allow_too (effect, matches) = (effect, matches_too matches)
+
+  deny_too : IsDeny s a → IsDeny s b
+  unfolding IsDeny
+  deny_too (effect, matches) = (effect, matches_too matches)
+
+  deny_of_too : IsDenyOf s a → IsDenyOf s b
+  unfolding IsDenyOf
+  deny_of_too (deny, names) = (deny_too deny, subst (λ p. NamesCaller s.principals p ⊎ NamesAccount s.principals p) same.0 names)
+
+  allows_caller_too : AllowsCaller s a → AllowsCaller s b
+  unfolding AllowsCaller
+  allows_caller_too (allow, names) = (allow_too allow, subst (NamesCaller s.principals) same.0 names)
+
+  allows_account_too : AllowsAccount s a → AllowsAccount s b
+  unfolding AllowsAccount
+  allows_account_too (allow, names) = (allow_too allow, subst (NamesAccount s.principals) same.0 names)
+
+turned : (a b : RequestFacts) → AskTheSame a b → AskTheSame b a
+turned a b same = (sym same.0, sym same.1, sym same.2)
+
+-- statements without conditions
+module _ (ss : List Statement) (none : (s : Statement) (k : ℕ) → k < length ss → get_or ss k s ≡ s → s.conditions ≡ []) where
+  denies_too : (a b : RequestFacts) → AskTheSame a b → SomeDenies ss a → SomeDenies ss b
+  denies_too a b same = any_so (λ s. IsDenyOf s a) (λ s. IsDenyOf s b) ss (λ s k lt at. deny_of_too s (none s k lt at) a b same)
+
+  callers_too : (a b : RequestFacts) → AskTheSame a b → SomeAllowsCaller ss a → SomeAllowsCaller ss b
+  callers_too a b same = any_so (λ s. AllowsCaller s a) (λ s. AllowsCaller s b) ss (λ s k lt at. allows_caller_too s (none s k lt at) a b same)
+
+  accounts_too : (a b : RequestFacts) → AskTheSame a b → SomeAllowsAccount ss a → SomeAllowsAccount ss b
+  accounts_too a b same = any_so (λ s. AllowsAccount s a) (λ s. AllowsAccount s b) ss (λ s k lt at. allows_account_too s (none s k lt at) a b same)
+
+  some_deny_too : (a b : RequestFacts) → AskTheSame a b → Any (λ s. IsDeny s a) ss → Any (λ s. IsDeny s b) ss
+  some_deny_too a b same = any_so (λ s. IsDeny s a) (λ s. IsDeny s b) ss (λ s k lt at. deny_too s (none s k lt at) a b same)
+
+  some_allow_too : (a b : RequestFacts) → AskTheSame a b → Any (λ s. IsAllow s a) ss → Any (λ s. IsAllow s b) ss
+  some_allow_too a b same = any_so (λ s. IsAllow s a) (λ s. IsAllow s b) ss (λ s k lt at. allow_too s (none s k lt at) a b same)
+
+  module _ (a b : RequestFacts) (same : AskTheSame a b) where
+    key_too : (verdict : Verdict) → IsKeyVerdict ss a verdict → IsKeyVerdict ss b verdict
+    key_too Deny d = denies_too a b same d
+    key_too Direct (d, c) = (λ h. d (denies_too b a (turned a b same) h), callers_too a b same c)
+    key_too ByRoot (d, c, r) = (λ h. d (denies_too b a (turned a b same) h), λ h. c (callers_too b a (turned a b same) h), accounts_too a b same r)
+    key_too Silent (d, c, r) = (λ h. d (denies_too b a (turned a b same) h), λ h. c (callers_too b a (turned a b same) h), λ h. r (accounts_too b a (turned a b same) h))
+
+    identity_too : (verdict : Verdict) → IsIdentityVerdict ss a verdict → IsIdentityVerdict ss b verdict
+    identity_too Deny d = some_deny_too a b same d
+    identity_too Direct (d, c) = (λ h. d (some_deny_too b a (turned a b same) h), some_allow_too a b same c)
+    identity_too ByRoot h = h
+    identity_too Silent (d, c) = (λ h. d (some_deny_too b a (turned a b same) h), λ h. c (some_allow_too b a (turned a b same) h))
+
+    verdict_too : (kind : PolicyKind) (verdict : Verdict) → IsVerdictOf kind ss a verdict → IsVerdictOf kind ss b verdict
+    verdict_too Key verdict h = key_too verdict h
+    verdict_too Identity verdict h = identity_too verdict h
+
+no_conditions : (s : Statement) → ¬ (s.conditions ≢ []) → s.conditions ≡ []
+no_conditions s h = empty s.conditions h
+  where
+    empty : {X : Type 0} (xs : List X) → ¬ (xs ≢ []) → xs ≡ []
+    empty [] h = refl
+    empty (x ∷ xs) h = absurd (h (λ e. cc))
+
+pub goes_by_question : (policy : Policy) → ¬ (HasConditions policy) → GoesByQuestion policy
+goes_by_question policy none a b verdict same h =
+    verdict_too policy.statements (λ s k lt at. no_conditions s (λ some. none (k, s, lt, at, some))) a b same policy.kind verdict h
+
+-- a policy has one verdict
+one_key_verdict : (ss : List Statement) (r : RequestFacts) (v w : Verdict) → IsKeyVerdict ss r v → IsKeyVerdict ss r w → v ≡ w
+one_key_verdict ss r Deny Deny a b = refl
+one_key_verdict ss r Deny Direct a b = absurd (b.0 a)
+one_key_verdict ss r Deny ByRoot a b = absurd (b.0 a)
+one_key_verdict ss r Deny Silent a b = absurd (b.0 a)
+one_key_verdict ss r Direct Deny a b = absurd (a.0 b)
+one_key_verdict ss r Direct Direct a b = refl
+one_key_verdict ss r Direct ByRoot a b = absurd (b.1 a.1)
+one_key_verdict ss r Direct Silent a b = absurd (b.1 a.1)
+one_key_verdict ss r ByRoot Deny a b = absurd (a.0 b)
+one_key_verdict ss r ByRoot Direct a b = absurd (a.1 b.1)
+one_key_verdict ss r ByRoot ByRoot a b = refl
+one_key_verdict ss r ByRoot Silent a b = absurd (b.2 a.2)
+one_key_verdict ss r Silent Deny a b = absurd (a.0 b)
+one_key_verdict ss r Silent Direct a b = absurd (a.1 b.1)
+one_key_verdict ss r Silent ByRoot a b = absurd (a.2 b.2)
+one_key_verdict ss r Silent Silent a b = refl
+
+one_identity_verdict : (ss : List Statement) (r : RequestFacts) (v w : Verdict) → IsIdentityVerdict ss r v → IsIdentityVerdict ss r w → v ≡ w
+one_identity_verdict ss r ByRoot w a b = absurd a
+one_identity_verdict ss r Deny ByRoot a b = absurd b
+one_identity_verdict ss r Direct ByRoot a b = absurd b
+one_identity_verdict ss r Silent ByRoot a b = absurd b
+one_identity_verdict ss r Deny Deny a b = refl
+one_identity_verdict ss r Deny Direct a b = absurd (b.0 a)
+one_identity_verdict ss r Deny Silent a b = absurd (b.0 a)
+one_identity_verdict ss r Direct Deny a b = absurd (a.0 b)
+one_identity_verdict ss r Direct Direct a b = refl
+one_identity_verdict ss r Direct Silent a b = absurd (b.1 a.1)
+one_identity_verdict ss r Silent Deny a b = absurd (a.0 b)
+one_identity_verdict ss r Silent Direct a b = absurd (a.1 b.1)
+one_identity_verdict ss r Silent Silent a b = refl
+
+one_verdict_of : (kind : PolicyKind) (ss : List Statement) (r : RequestFacts) (v w : Verdict) → IsVerdictOf kind ss r v → IsVerdictOf kind ss r w → v ≡ w
+one_verdict_of Key ss r v w a b = one_key_verdict ss r v w a b
+one_verdict_of Identity ss r v w a b = one_identity_verdict ss r v w a b
+
+pub one_verdict : (policy : Policy) (r : RequestFacts) (v w : Verdict) → IsVerdict policy r v → IsVerdict policy r w → v ≡ w
+one_verdict policy r v w a b = one_verdict_of policy.kind policy.statements r v w a b

@@ -1,0 +1,161 @@
+//! Policies made ready to be asked.
+
+ghost use Rattle.std.specs.Prelude.{◌≡◌, ◌↔◌, IsTrue, Any, IfOk, false};
+ghost use Rattle.policy_eval.specs.Verdict.{IsAllow, IsDeny, SomeDenies, SomeAllowsCaller, SomeAllowsAccount, IsKeyVerdict, IsIdentityVerdict, IsVerdict, SomeHasConditions, HasConditions, GoesByQuestion};
+
+use crate::groups::Group;
+use crate::naming::Naming;
+use crate::statements::CompiledStatement;
+use crate::verdicts::Verdict;
+use cond_ops::RequestFacts;
+use kms_names::NoMemory;
+use policy_doc::{Policy, PolicyKind};
+use std::alloc::Global;
+use std::marker::Model;
+
+/// A policy made ready to be asked about many requests. Contracts see it as the policy that it was made of.
+#[derive(Debug, Drop)]
+pub struct Compiled {
+    kind: PolicyKind,
+    effects: Vec<bool>,
+    denies: Group,
+    allows: Group,
+}
+
+impl Model for Compiled {
+    ghost use Rattle.policy_doc.specs.declared.policies.Policy.{Policy as PolicyValue};
+    ghost use Rattle.policy_eval.specs.Order.{in_order, AreApart};
+
+    ghost Value = { PolicyValue };
+
+    ghost view = { λ c. record { kind = c.kind; statements = in_order c.effects.items c.denies c.allows } };
+
+    ghost invariant = { λ c. AreApart (in_order c.effects.items c.denies c.allows) c.denies c.allows };
+}
+
+impl Compiled {
+    /// A policy made ready to be asked.
+    pub fn new(alloc: Global, policy: &Policy) -> Result<Compiled, NoMemory>
+        ensures { IfOk result (λ compiled. compiled ≡ policy.now) }
+    {
+        let mut effects = Vec::new(alloc);
+        let mut denies = Group::new(alloc);
+        let mut allows = Group::new(alloc);
+        for statement in policy.statements.as_slice() {
+            let compiled = CompiledStatement::new(alloc, statement)?;
+            effects.push(statement.allow)?;
+            if statement.allow {
+                allows.push(compiled)?;
+            } else {
+                denies.push(compiled)?;
+            }
+        }
+        Ok(Compiled {
+            kind: policy.kind,
+            effects,
+            denies,
+            allows,
+        })
+    }
+
+    fn some_denies(&self, facts: &RequestFacts) -> bool
+        ensures { IsTrue result ↔ SomeDenies self.now.statements facts.now }
+    {
+        self.denies.hits(Naming::CallerOrAccount, facts)
+    }
+
+    fn some_allows_caller(&self, facts: &RequestFacts) -> bool
+        ensures { IsTrue result ↔ SomeAllowsCaller self.now.statements facts.now }
+    {
+        self.allows.hits(Naming::Caller, facts)
+    }
+
+    fn some_allows_account(&self, facts: &RequestFacts) -> bool
+        ensures { IsTrue result ↔ SomeAllowsAccount self.now.statements facts.now }
+    {
+        self.allows.hits(Naming::Account, facts)
+    }
+
+    fn some_denies_anyone(&self, facts: &RequestFacts) -> bool
+        ensures { IsTrue result ↔ Any (λ s. IsDeny s facts.now) self.now.statements }
+    {
+        self.denies.hits(Naming::Anyone, facts)
+    }
+
+    fn some_allows_anyone(&self, facts: &RequestFacts) -> bool
+        ensures { IsTrue result ↔ Any (λ s. IsAllow s facts.now) self.now.statements }
+    {
+        self.allows.hits(Naming::Anyone, facts)
+    }
+
+    /// The verdict of a key policy.
+    fn key_verdict(&self, facts: &RequestFacts) -> Verdict
+        ensures { IsKeyVerdict self.now.statements facts.now result }
+    {
+        if self.some_denies(facts) {
+            Verdict::Deny
+        } else if self.some_allows_caller(facts) {
+            Verdict::Direct
+        } else if self.some_allows_account(facts) {
+            Verdict::ByRoot
+        } else {
+            Verdict::Silent
+        }
+    }
+
+    /// The verdict of an identity policy.
+    fn identity_verdict(&self, facts: &RequestFacts) -> Verdict
+        ensures { IsIdentityVerdict self.now.statements facts.now result }
+    {
+        if self.some_denies_anyone(facts) {
+            Verdict::Deny
+        } else if self.some_allows_anyone(facts) {
+            Verdict::Direct
+        } else {
+            Verdict::Silent
+        }
+    }
+
+    /// What the policy says of a request. In a key policy a Deny statement that matches and names the caller,
+    /// everyone or the root of the caller's account gives `Deny`; else an Allow statement that matches and names the
+    /// caller or everyone gives `Direct`; else one that matches and names the root of the caller's account gives
+    /// `ByRoot`; else the verdict is `Silent`. In an identity policy, whose statements are about the caller, a Deny
+    /// statement that matches gives `Deny`; else an Allow statement that matches gives `Direct`; else it is `Silent`.
+    /// A statement matches where its action part, its resource part and all its conditions do. No memory is taken.
+    /// (IAM User Guide, "Policy evaluation logic"; AWS KMS Developer Guide, "Key policies".)
+    pub fn verdict(&self, facts: &RequestFacts) -> Verdict
+        ensures { IsVerdict self.now facts.now result }
+    {
+        match self.kind {
+            PolicyKind::Key => self.key_verdict(facts),
+            PolicyKind::Identity => self.identity_verdict(facts),
+        }
+    }
+
+    fn has_conditions(&self) -> bool
+        ensures { IsTrue result ↔ SomeHasConditions self.now.statements }
+    {
+        self.denies.has_conditions() || self.allows.has_conditions()
+    }
+
+    /// Whether some statement has a condition. Where none has, requests with the same caller, action and resource
+    /// have the same verdict, whatever their condition keys.
+    pub fn asks_facts(&self) -> bool
+        ensures conditions { IsTrue result ↔ HasConditions self.now }
+        ensures unasked { result ≡ false → GoesByQuestion self.now }
+    {
+        self.has_conditions()
+    }
+
+    /// A copy that equals its source.
+    pub fn copy(&self) -> Result<Compiled, NoMemory>
+        ensures { IfOk result (λ compiled. compiled ≡ self.now) }
+    {
+        Ok(Compiled {
+            kind: self.kind,
+            effects: self.effects.clone()?,
+            denies: self.denies.copy()?,
+            allows: self.allows.copy()?,
+        })
+    }
+}
