@@ -5,10 +5,10 @@ use crate::columns::{
     written_truth,
 };
 use kms_names::{
-    AccountNumber, Action, AliasName, Bytes, GrantId, GrantOp, GrantOps, KeyId, KeyRef, NameFault,
-    Principal, Text, alias_arn, grant_text, grant_text_into, is_alias_name, is_region, key_arn,
-    key_text, key_text_into, principal_len, read_alias, read_grant_id, read_key_id, read_key_ref,
-    read_principal, write_principal,
+    AccountNumber, Action, ActionSet, AliasName, Bytes, GrantId, GrantOp, GrantOps, KeyId, KeyRef,
+    NameFault, Principal, Text, alias_arn, grant_text, grant_text_into, is_alias_name, is_region,
+    key_arn, key_text, key_text_into, principal_len, read_alias, read_grant_id, read_key_id,
+    read_key_ref, read_principal, write_principal,
 };
 use std::alloc::Global;
 use std::cmp::Ordering;
@@ -20,7 +20,7 @@ pub fn names(alloc: Global, columns: &mut Columns<'_>) -> Option<String> {
         "account" | "is_region" | "is_alias_name" | "read_alias" | "read_key_ref" => {
             texts_read(alloc, call, columns)
         }
-        "read_principal" | "write_principal" | "principal_len" => {
+        "read_principal" | "write_principal" | "principal_len" | "account_of" => {
             principals(alloc, call, columns)
         }
         "read_key_id"
@@ -31,6 +31,7 @@ pub fn names(alloc: Global, columns: &mut Columns<'_>) -> Option<String> {
         | "grant_text_into" => ids(alloc, call, columns),
         "key_arn" | "alias_arn" => arns(alloc, call, columns),
         "action" | "grant_op" | "grant_ops" | "is_subset" => operations(alloc, call, columns),
+        "actions_like" | "is_like" | "complement" | "union" => action_sets(alloc, call, columns),
         "text" | "bytes" | "texts" | "order" => values(alloc, call, columns),
         _ => None,
     }
@@ -146,6 +147,10 @@ fn principals(alloc: Global, call: &str, columns: &mut Columns<'_>) -> Option<St
             let principal = read_parts(alloc, columns)?;
             written(alloc, write_principal(alloc, &principal).ok()?.as_str())
         }
+        "account_of" => {
+            let principal = read_parts(alloc, columns)?;
+            written(alloc, principal.account().as_str())
+        }
         "principal_len" => {
             let principal = read_parts(alloc, columns)?;
             let mut answer = String::new(alloc);
@@ -204,49 +209,70 @@ fn arns(alloc: Global, call: &str, columns: &mut Columns<'_>) -> Option<String> 
     }
 }
 
-/// All actions in their order.
-pub const ACTIONS: [Action; 32] = [
-    Action::CreateKey,
-    Action::DescribeKey,
-    Action::ListKeys,
-    Action::EnableKey,
-    Action::DisableKey,
-    Action::ScheduleKeyDeletion,
-    Action::CancelKeyDeletion,
-    Action::EnableKeyRotation,
-    Action::DisableKeyRotation,
-    Action::GetKeyRotationStatus,
-    Action::RotateKeyOnDemand,
-    Action::ListKeyRotations,
-    Action::PutKeyPolicy,
-    Action::GetKeyPolicy,
-    Action::ListKeyPolicies,
-    Action::UpdateKeyDescription,
-    Action::CreateAlias,
-    Action::UpdateAlias,
-    Action::DeleteAlias,
-    Action::ListAliases,
-    Action::CreateGrant,
-    Action::ListGrants,
-    Action::ListRetirableGrants,
-    Action::RetireGrant,
-    Action::RevokeGrant,
-    Action::Encrypt,
-    Action::Decrypt,
-    Action::ReEncryptFrom,
-    Action::ReEncryptTo,
-    Action::GenerateDataKey,
-    Action::GenerateDataKeyWithoutPlaintext,
-    Action::GenerateRandom,
-];
+/// The action of a name.
+pub fn action_of(name: &str) -> Option<Action> {
+    Action::ALL
+        .iter()
+        .find(|action| action.name() == name)
+        .copied()
+}
+
+/// The name of the action at a place, and the text that globs are matched with.
+fn action_at(alloc: Global, place: u64) -> Option<String> {
+    let action = Action::ALL
+        .iter()
+        .find(|action| u64::from(action.number()) == place)?;
+    let mut answer = written(alloc, action.name())?;
+    push(&mut answer, " ", action.text())?;
+    Some(answer)
+}
+
+/// The set of some actions, with `, ` between two: `-` are none.
+fn read_actions(word: &str) -> Option<ActionSet> {
+    let mut set = ActionSet::new();
+    if word != "-" {
+        for name in word.split(", ") {
+            set.insert(action_of(name)?);
+        }
+    }
+    Some(set)
+}
+
+/// The actions of a copy of a set in order: `-` are none.
+fn written_actions(alloc: Global, set: &ActionSet) -> Option<String> {
+    let set = set.copy().ok()?;
+    let mut words = String::new(alloc);
+    for action in Action::ALL {
+        if set.contains(action) {
+            push(&mut words, ", ", action.name())?;
+        }
+    }
+    if words.is_empty() {
+        words.push('-').ok()?;
+    }
+    Some(words)
+}
+
+fn action_sets(alloc: Global, call: &str, columns: &mut Columns<'_>) -> Option<String> {
+    match call {
+        "actions_like" => written_actions(alloc, &ActionSet::like(&columns.texts(alloc)?)),
+        "is_like" => {
+            let pattern = columns.text()?;
+            written_truth(alloc, action_of(columns.word()?)?.is_like(pattern))
+        }
+        "complement" => written_actions(alloc, &read_actions(columns.word()?)?.complement()),
+        "union" => {
+            let left = read_actions(columns.word()?)?;
+            let right = read_actions(columns.word()?)?;
+            written_actions(alloc, &left.union(right))
+        }
+        _ => None,
+    }
+}
 
 fn operations(alloc: Global, call: &str, columns: &mut Columns<'_>) -> Option<String> {
     match call {
-        "action" => {
-            let place = columns.number()?;
-            let action = ACTIONS.iter().find(|action| **action as u64 == place)?;
-            written(alloc, action.name())
-        }
+        "action" => action_at(alloc, columns.number()?),
         "grant_op" => grant_op(alloc, columns.text()?),
         "grant_ops" => {
             let set = read_set(columns.word()?)?;
