@@ -1,4 +1,4 @@
-"""Makes aes256.txt. Run: python3 tools/make_aes256.py (wants the package cryptography)."""
+"""Makes aes256.txt. Run: python3 -B tools/make_aes256.py (wants the package cryptography)."""
 
 from cryptography.hazmat.primitives.ciphers import Cipher, algorithms, modes
 

@@ -1,4 +1,4 @@
-"""Makes blobs.txt. Run: python3 tools/make_blobs.py (wants the package cryptography)."""
+"""Makes blobs.txt. Run: python3 -B tools/make_blobs.py (wants the package cryptography)."""
 
 import hashlib
 import hmac

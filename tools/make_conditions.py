@@ -1,4 +1,4 @@
-"""Makes the last cases of conditions.txt. Run: python3 tools/make_conditions.py.
+"""Makes the last cases of conditions.txt. Run: python3 -B tools/make_conditions.py.
 
 It is an evaluation of its own, from the rules at the head of that file, by Python's re, int and datetime.
 """

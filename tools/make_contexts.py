@@ -1,4 +1,4 @@
-"""Makes contexts.txt. Run: python3 tools/make_contexts.py."""
+"""Makes contexts.txt. Run: python3 -B tools/make_contexts.py."""
 
 import struct
 

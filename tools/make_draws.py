@@ -1,4 +1,4 @@
-"""Makes draws.txt. Run: python3 tools/make_draws.py (wants the package cryptography)."""
+"""Makes draws.txt. Run: python3 -B tools/make_draws.py (wants the package cryptography)."""
 
 from cryptography.hazmat.primitives.ciphers import Cipher, algorithms
 

@@ -1,4 +1,4 @@
-"""Makes gcm.txt. Run: python3 tools/make_gcm.py (wants the package cryptography)."""
+"""Makes gcm.txt. Run: python3 -B tools/make_gcm.py (wants the package cryptography)."""
 
 from cryptography.hazmat.primitives.ciphers.aead import AESGCM
 

@@ -1,4 +1,4 @@
-"""Makes ghash.txt. Run: python3 tools/make_ghash.py (wants the package cryptography, as a check)."""
+"""Makes ghash.txt. Run: python3 -B tools/make_ghash.py (wants the package cryptography, as a check)."""
 
 from cryptography.hazmat.primitives.ciphers import Cipher, algorithms, modes
 from cryptography.hazmat.primitives.ciphers.aead import AESGCM

@@ -1,4 +1,4 @@
-"""Makes globs.txt. Run: python3 tools/make_globs.py."""
+"""Makes globs.txt. Run: python3 -B tools/make_globs.py."""
 
 import re
 

@@ -1,4 +1,4 @@
-"""Makes hmac.txt. Run: python3 tools/make_hmac.py."""
+"""Makes hmac.txt. Run: python3 -B tools/make_hmac.py."""
 
 import hashlib
 import hmac

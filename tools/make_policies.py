@@ -1,4 +1,4 @@
-"""Makes the last cases of policies.txt. Run: python3 tools/make_policies.py.
+"""Makes the last cases of policies.txt. Run: python3 -B tools/make_policies.py.
 
 It is a reader of its own, from the rules at the head of that file, over the values of Python's json.
 """

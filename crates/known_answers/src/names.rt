@@ -1,8 +1,7 @@
 //! The cases of names: accounts, principals, keys, grants, aliases, references and operations.
 
 use crate::columns::{
-    Columns, push, push_bytes, push_number, written, written_bytes, written_text, written_texts,
-    written_truth,
+    Columns, push, push_bytes, written, written_bytes, written_text, written_texts, written_truth,
 };
 use kms_names::{
     AccountNumber, Action, ActionSet, AliasName, Bytes, GrantId, GrantOp, GrantOps, KeyId, KeyRef,
@@ -15,10 +14,29 @@ use std::cmp::Ordering;
 
 /// What a call of names answers.
 pub fn names(alloc: Global, columns: &mut Columns<'_>) -> Option<String> {
-    let call = columns.word()?;
+    match columns.word()? {
+        "account" => account(alloc, columns.text()?),
+        "is_region" => written_truth(alloc, is_region(columns.text()?)),
+        "is_alias_name" => written_truth(alloc, is_alias_name(columns.text()?)),
+        "read_alias" => alias(alloc, columns.text()?),
+        "read_key_ref" => reference(alloc, columns),
+        "read_principal" => principal(alloc, columns.text()?),
+        "write_principal" => principal_text(alloc, columns),
+        "principal_len" => length(alloc, columns),
+        "key_arn" => arn_of_key(alloc, columns),
+        "alias_arn" => arn_of_alias(alloc, columns),
+        call => ids(alloc, call, columns),
+    }
+}
+
+/// What a call of ids answers.
+fn ids(alloc: Global, call: &str, columns: &mut Columns<'_>) -> Option<String> {
     match call {
-        "account" | "is_region" | "is_alias_name" | "read_alias" | "read_key_ref" => {
-            texts_read(alloc, call, columns)
+        "read_key_id" => key_id(alloc, columns.text()?),
+        "key_text" => text_of_key(alloc, &KeyId::new(columns.array()?)),
+        "key_text_into" => {
+            let key = KeyId::new(columns.array()?);
+            written(alloc, key_text_into(&key, &mut [0; 36]))
         }
         "read_principal" | "write_principal" | "principal_len" | "account_of" => {
             principals(alloc, call, columns)
@@ -49,21 +67,6 @@ fn fault_name(fault: NameFault) -> Option<&'static str> {
 
 fn written_fault(alloc: Global, fault: NameFault) -> Option<String> {
     written(alloc, fault_name(fault)?)
-}
-
-fn texts_read(alloc: Global, call: &str, columns: &mut Columns<'_>) -> Option<String> {
-    let text = columns.text()?;
-    match call {
-        "account" => account(alloc, text),
-        "is_region" => written_truth(alloc, is_region(text)),
-        "is_alias_name" => written_truth(alloc, is_alias_name(text)),
-        "read_alias" => alias(alloc, text),
-        "read_key_ref" => {
-            let account = AccountNumber::read(columns.word()?)?;
-            reference(alloc, text, &account, columns.word()?)
-        }
-        _ => None,
-    }
 }
 
 fn account(alloc: Global, text: &str) -> Option<String> {
@@ -97,17 +100,21 @@ fn written_reference(alloc: Global, reference: &KeyRef) -> Option<String> {
     }
 }
 
-fn reference(alloc: Global, text: &str, account: &AccountNumber, region: &str) -> Option<String> {
-    match read_key_ref(alloc, text, account, region) {
-        Ok(reference) => {
-            let copied = reference.copy().ok()?;
-            if copied != reference {
-                return written(alloc, "another copy");
-            }
-            written_reference(alloc, &copied)
-        }
+fn reference(alloc: Global, columns: &mut Columns<'_>) -> Option<String> {
+    let text = columns.text()?;
+    let account = AccountNumber::read(columns.word()?)?;
+    match read_key_ref(alloc, text, &account, columns.word()?) {
+        Ok(reference) => copied_reference(alloc, &reference),
         Err(fault) => written_fault(alloc, fault),
     }
+}
+
+fn copied_reference(alloc: Global, reference: &KeyRef) -> Option<String> {
+    let copied = reference.copy().ok()?;
+    if copied != *reference {
+        return written(alloc, "another copy");
+    }
+    written_reference(alloc, &copied)
 }
 
 /// The principal of a kind, an account and a path and name: `root` has none of these.
@@ -161,52 +168,53 @@ fn principals(alloc: Global, call: &str, columns: &mut Columns<'_>) -> Option<St
     }
 }
 
-fn ids(alloc: Global, call: &str, columns: &mut Columns<'_>) -> Option<String> {
-    match call {
-        "read_key_id" => match read_key_id(columns.text()?) {
-            Some(key) => written_bytes(alloc, key.copy().ok()?.as_bytes()),
-            None => written(alloc, "none"),
-        },
-        "read_grant_id" => match read_grant_id(columns.text()?) {
-            Some(grant) => written_bytes(alloc, grant.copy().ok()?.as_bytes()),
-            None => written(alloc, "none"),
-        },
-        "key_text" => {
-            let key = KeyId::new(columns.array()?);
-            written(alloc, key_text(alloc, &key).ok()?.as_str())
-        }
-        "key_text_into" => {
-            let key = KeyId::new(columns.array()?);
-            written(alloc, key_text_into(&key, &mut [0; 36]))
-        }
-        "grant_text" => {
-            let grant = GrantId::new(columns.array()?);
-            written(alloc, grant_text(alloc, &grant).ok()?.as_str())
-        }
-        "grant_text_into" => {
-            let grant = GrantId::new(columns.array()?);
-            written(alloc, grant_text_into(&grant, &mut [0; 64]))
-        }
-        _ => None,
+fn principal_text(alloc: Global, columns: &mut Columns<'_>) -> Option<String> {
+    let principal = read_parts(alloc, columns)?;
+    written(alloc, write_principal(alloc, &principal).ok()?.as_str())
+}
+
+fn length(alloc: Global, columns: &mut Columns<'_>) -> Option<String> {
+    let principal = read_parts(alloc, columns)?;
+    (principal_len(&principal) as u64).to_string(alloc).ok()
+}
+
+fn key_id(alloc: Global, text: &str) -> Option<String> {
+    match read_key_id(text) {
+        Some(key) => written_bytes(alloc, key.copy().ok()?.as_bytes()),
+        None => written(alloc, "none"),
     }
 }
 
-fn arns(alloc: Global, call: &str, columns: &mut Columns<'_>) -> Option<String> {
+fn text_of_key(alloc: Global, key: &KeyId) -> Option<String> {
+    written(alloc, key_text(alloc, key).ok()?.as_str())
+}
+
+fn grant_id(alloc: Global, text: &str) -> Option<String> {
+    match read_grant_id(text) {
+        Some(grant) => written_bytes(alloc, grant.copy().ok()?.as_bytes()),
+        None => written(alloc, "none"),
+    }
+}
+
+fn text_of_grant(alloc: Global, grant: &GrantId) -> Option<String> {
+    written(alloc, grant_text(alloc, grant).ok()?.as_str())
+}
+
+fn arn_of_key(alloc: Global, columns: &mut Columns<'_>) -> Option<String> {
     let account = AccountNumber::read(columns.word()?)?;
     let region = columns.word()?;
-    match call {
-        "key_arn" => {
-            let key = KeyId::new(columns.array()?);
-            let arn = key_arn(alloc, &account, region, &key).ok()?;
-            written(alloc, arn.as_str())
-        }
-        "alias_arn" => {
-            let alias: AliasName = read_alias(alloc, columns.word()?).ok()?;
-            let arn = alias_arn(alloc, &account, region, &alias).ok()?;
-            written(alloc, arn.as_str())
-        }
-        _ => None,
-    }
+    let key = KeyId::new(columns.array()?);
+    written(alloc, key_arn(alloc, &account, region, &key).ok()?.as_str())
+}
+
+fn arn_of_alias(alloc: Global, columns: &mut Columns<'_>) -> Option<String> {
+    let account = AccountNumber::read(columns.word()?)?;
+    let region = columns.word()?;
+    let alias = read_alias(alloc, columns.word()?).ok()?;
+    written(
+        alloc,
+        alias_arn(alloc, &account, region, &alias).ok()?.as_str(),
+    )
 }
 
 /// The action of a name.
@@ -322,36 +330,28 @@ fn written_set(alloc: Global, set: &GrantOps) -> Option<String> {
     Some(words)
 }
 
-/// Copies of texts, of bytes and of lists of texts, and the order of texts.
-fn values(alloc: Global, call: &str, columns: &mut Columns<'_>) -> Option<String> {
-    match call {
-        "text" => {
-            let text = Text::from_str(alloc, columns.text()?).ok()?;
-            let copied = text.copy().ok()?;
-            if copied != text {
-                return written(alloc, "another copy");
-            }
-            written_text(alloc, copied.as_str())
-        }
-        "bytes" => {
-            let bytes = Bytes::new(columns.bytes(alloc)?);
-            let copied = Bytes::from_slice(alloc, bytes.copy().ok()?.as_slice()).ok()?;
-            if copied != bytes {
-                return written(alloc, "another copy");
-            }
-            written_bytes(alloc, copied.as_slice())
-        }
-        "texts" => {
-            let list = columns.texts(alloc)?;
-            written_texts(alloc, &list.copy().ok()?)
-        }
-        "order" => {
-            let left = Text::from_str(alloc, columns.text()?).ok()?;
-            let right = Text::from_string(written(alloc, columns.text()?)?);
-            written(alloc, order_name(left.cmp(&right)))
-        }
-        _ => None,
+fn copied_text(alloc: Global, text: &str) -> Option<String> {
+    let text = Text::from_str(alloc, text).ok()?;
+    let copied = text.copy().ok()?;
+    if copied != text {
+        return written(alloc, "another copy");
     }
+    written_text(alloc, copied.as_str())
+}
+
+fn copied_bytes(alloc: Global, items: Vec<u8>) -> Option<String> {
+    let bytes = Bytes::new(items);
+    let copied = Bytes::from_slice(alloc, bytes.copy().ok()?.as_slice()).ok()?;
+    if copied != bytes {
+        return written(alloc, "another copy");
+    }
+    written_bytes(alloc, copied.as_slice())
+}
+
+fn order(alloc: Global, columns: &mut Columns<'_>) -> Option<String> {
+    let left = Text::from_str(alloc, columns.text()?).ok()?;
+    let right = Text::from_string(written(alloc, columns.text()?)?);
+    written(alloc, order_name(left.cmp(&right)))
 }
 
 fn order_name(order: Ordering) -> &'static str {
