@@ -1,4 +1,4 @@
-"""Makes the last cases of verdicts.txt. Run: python3 tools/make_verdicts.py.
+"""Makes the last cases of verdicts.txt. Run: python3 -B tools/make_verdicts.py.
 
 It is an evaluation of its own, from the rules at the head of that file, over the values of Python's json.
 """

@@ -4,10 +4,10 @@ use crate::columns::{
     Columns, push, push_bytes, written, written_bytes, written_text, written_texts, written_truth,
 };
 use kms_names::{
-    AccountNumber, Action, ActionSet, AliasName, Bytes, GrantId, GrantOp, GrantOps, KeyId, KeyRef,
-    NameFault, Principal, Text, alias_arn, grant_text, grant_text_into, is_alias_name, is_region,
-    key_arn, key_text, key_text_into, principal_len, read_alias, read_grant_id, read_key_id,
-    read_key_ref, read_principal, write_principal,
+    AccountNumber, Action, ActionSet, Bytes, GrantId, GrantOp, GrantOps, KeyId, KeyRef, NameFault,
+    Principal, Text, alias_arn, grant_text, grant_text_into, is_alias_name, is_region, key_arn,
+    key_text, key_text_into, principal_len, read_alias, read_grant_id, read_key_id, read_key_ref,
+    read_principal, write_principal,
 };
 use std::alloc::Global;
 use std::cmp::Ordering;
@@ -23,6 +23,10 @@ pub fn names(alloc: Global, columns: &mut Columns<'_>) -> Option<String> {
         "read_principal" => principal(alloc, columns.text()?),
         "write_principal" => principal_text(alloc, columns),
         "principal_len" => length(alloc, columns),
+        "account_of" => {
+            let principal = read_parts(alloc, columns)?;
+            written(alloc, principal.account().as_str())
+        }
         "key_arn" => arn_of_key(alloc, columns),
         "alias_arn" => arn_of_alias(alloc, columns),
         call => ids(alloc, call, columns),
@@ -38,19 +42,41 @@ fn ids(alloc: Global, call: &str, columns: &mut Columns<'_>) -> Option<String> {
             let key = KeyId::new(columns.array()?);
             written(alloc, key_text_into(&key, &mut [0; 36]))
         }
-        "read_principal" | "write_principal" | "principal_len" | "account_of" => {
-            principals(alloc, call, columns)
+        "read_grant_id" => grant_id(alloc, columns.text()?),
+        "grant_text" => text_of_grant(alloc, &GrantId::new(columns.array()?)),
+        "grant_text_into" => {
+            let grant = GrantId::new(columns.array()?);
+            written(alloc, grant_text_into(&grant, &mut [0; 64]))
         }
-        "read_key_id"
-        | "key_text"
-        | "key_text_into"
-        | "read_grant_id"
-        | "grant_text"
-        | "grant_text_into" => ids(alloc, call, columns),
-        "key_arn" | "alias_arn" => arns(alloc, call, columns),
-        "action" | "grant_op" | "grant_ops" | "is_subset" => operations(alloc, call, columns),
-        "actions_like" | "is_like" | "complement" | "union" => action_sets(alloc, call, columns),
-        "text" | "bytes" | "texts" | "order" => values(alloc, call, columns),
+        _ => operations(alloc, call, columns),
+    }
+}
+
+/// What a call of operations answers.
+fn operations(alloc: Global, call: &str, columns: &mut Columns<'_>) -> Option<String> {
+    match call {
+        "action" => action(alloc, columns.number()?),
+        "grant_op" => grant_op(alloc, columns.text()?),
+        "grant_ops" => {
+            let set = read_set(columns.word()?)?;
+            written_set(alloc, &set.copy().ok()?)
+        }
+        "is_subset" => {
+            let inner = read_set(columns.word()?)?;
+            let outer = read_set(columns.word()?)?;
+            written_truth(alloc, inner.is_subset(&outer))
+        }
+        _ => action_sets(alloc, call, columns),
+    }
+}
+
+/// What a call of texts, of bytes and of lists of texts answers.
+fn values(alloc: Global, call: &str, columns: &mut Columns<'_>) -> Option<String> {
+    match call {
+        "text" => copied_text(alloc, columns.text()?),
+        "bytes" => copied_bytes(alloc, columns.bytes(alloc)?),
+        "texts" => written_texts(alloc, &columns.texts(alloc)?.copy().ok()?),
+        "order" => order(alloc, columns),
         _ => None,
     }
 }
@@ -144,27 +170,10 @@ fn written_parts(alloc: Global, principal: &Principal) -> Option<String> {
     Some(answer)
 }
 
-fn principals(alloc: Global, call: &str, columns: &mut Columns<'_>) -> Option<String> {
-    match call {
-        "read_principal" => match read_principal(alloc, columns.text()?) {
-            Ok(principal) => written_parts(alloc, &principal.copy().ok()?),
-            Err(fault) => written_fault(alloc, fault),
-        },
-        "write_principal" => {
-            let principal = read_parts(alloc, columns)?;
-            written(alloc, write_principal(alloc, &principal).ok()?.as_str())
-        }
-        "account_of" => {
-            let principal = read_parts(alloc, columns)?;
-            written(alloc, principal.account().as_str())
-        }
-        "principal_len" => {
-            let principal = read_parts(alloc, columns)?;
-            let mut answer = String::new(alloc);
-            push_number(alloc, &mut answer, principal_len(&principal) as u64)?;
-            Some(answer)
-        }
-        _ => None,
+fn principal(alloc: Global, text: &str) -> Option<String> {
+    match read_principal(alloc, text) {
+        Ok(principal) => written_parts(alloc, &principal.copy().ok()?),
+        Err(fault) => written_fault(alloc, fault),
     }
 }
 
@@ -226,7 +235,7 @@ pub fn action_of(name: &str) -> Option<Action> {
 }
 
 /// The name of the action at a place, and the text that globs are matched with.
-fn action_at(alloc: Global, place: u64) -> Option<String> {
+fn action(alloc: Global, place: u64) -> Option<String> {
     let action = Action::ALL
         .iter()
         .find(|action| u64::from(action.number()) == place)?;
@@ -261,6 +270,7 @@ fn written_actions(alloc: Global, set: &ActionSet) -> Option<String> {
     Some(words)
 }
 
+/// What a call of sets of actions answers.
 fn action_sets(alloc: Global, call: &str, columns: &mut Columns<'_>) -> Option<String> {
     match call {
         "actions_like" => written_actions(alloc, &ActionSet::like(&columns.texts(alloc)?)),
@@ -274,24 +284,7 @@ fn action_sets(alloc: Global, call: &str, columns: &mut Columns<'_>) -> Option<S
             let right = read_actions(columns.word()?)?;
             written_actions(alloc, &left.union(right))
         }
-        _ => None,
-    }
-}
-
-fn operations(alloc: Global, call: &str, columns: &mut Columns<'_>) -> Option<String> {
-    match call {
-        "action" => action_at(alloc, columns.number()?),
-        "grant_op" => grant_op(alloc, columns.text()?),
-        "grant_ops" => {
-            let set = read_set(columns.word()?)?;
-            written_set(alloc, &set.copy().ok()?)
-        }
-        "is_subset" => {
-            let inner = read_set(columns.word()?)?;
-            let outer = read_set(columns.word()?)?;
-            written_truth(alloc, inner.is_subset(&outer))
-        }
-        _ => None,
+        _ => values(alloc, call, columns),
     }
 }
 
