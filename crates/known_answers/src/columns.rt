@@ -67,11 +67,6 @@ impl<'a> Columns<'a> {
     pub fn short_number(&mut self) -> Option<u32> {
         self.word()?.parse().ok()
     }
-
-    /// The next column as `true` or `false`.
-    pub fn truth(&mut self) -> Option<bool> {
-        self.word()?.parse().ok()
-    }
 }
 
 /// The text that a word stands for: `''` is the empty one.
