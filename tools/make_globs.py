@@ -9,6 +9,7 @@ Patterns with `*`, which matches any run of characters, and `?`, which matches a
 matches itself. A text is written as it is, and the empty one as `''`.
 
 glob | pattern | text | whether it matches
+pattern | pattern | text | the same, of the pattern read once
 glob_nocase | pattern | text | the same, with ASCII letters in lower case on both sides
 size_of_steps | the size in bytes of a counter of comparisons
 
@@ -135,6 +136,8 @@ def main():
         answer = matches(*sides)
         assert want in (None, answer), (pattern, text)
         file.case(call, pattern or "''", text or "''", str(answer).lower())
+        if call == "glob":
+            file.case("pattern", pattern or "''", text or "''", str(answer).lower())
 
     file.note("The earlier tests.")
     for pattern, text, want in EXACT:
@@ -143,7 +146,7 @@ def main():
         case("glob_nocase", pattern, text, want)
 
     file.note("200 stars in a pattern, and 400 characters: the answers come soon.")
-    for call in ["glob", "glob_nocase"]:
+    for call in ["glob", "pattern", "glob_nocase"]:
         file.case(call, "a*" * 200 + "b", "aa" * 200, "false")
         file.case(call, "a*" * 200, "aa" * 200, "true")
         file.case(call, "*a" * 200 + "?", "a" * 400, "true")

@@ -2,8 +2,8 @@
 
 use crate::columns::{Columns, push, texts_of, written, written_texts, written_truth};
 use cond_ops::{
-    Condition, ConditionList, Fact, FactList, Operator, QualifiedOperator, Qualifier, RequestFacts,
-    holds, is_value, read_operator, write_operator,
+    CompiledCondition, Condition, ConditionList, Fact, FactList, Operator, QualifiedOperator,
+    Qualifier, RequestFacts, holds, is_value, read_operator, write_operator,
 };
 use kms_names::{AccountNumber, Action, Principal, Text, TextList};
 use std::alloc::Global;
@@ -25,12 +25,22 @@ pub fn conditions(alloc: Global, columns: &mut Columns<'_>) -> Option<String> {
         "holds" => {
             let condition = read_condition(alloc, columns)?;
             let request = request_of(alloc, facts_of(alloc, columns.word()?)?)?;
-            written_truth(alloc, holds(&condition, &request))
+            asked(alloc, &condition, &request)
         }
         "condition" => copied_condition(alloc, columns),
         "facts" => written_facts(alloc, &facts_of(alloc, columns.word()?)?.copy().ok()?),
         _ => None,
     }
+}
+
+/// Whether a condition holds, or that it is answered otherwise where it is made ready to be asked.
+fn asked(alloc: Global, condition: &Condition, request: &RequestFacts) -> Option<String> {
+    let answer = holds(condition, request);
+    let compiled = CompiledCondition::new(alloc, condition).ok()?.copy().ok()?;
+    if compiled.holds(request) != answer {
+        return written(alloc, "otherwise compiled");
+    }
+    written_truth(alloc, answer)
 }
 
 /// The name of an operator, what it compares values as, and whether it is a negation.

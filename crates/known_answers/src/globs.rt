@@ -3,7 +3,7 @@
 ghost use Rattle.std.specs.Prelude.{◌≡◌, ◌<◌};
 
 use crate::columns::{Columns, push_number, written_truth};
-use kms_names::{Steps, glob, glob_nocase};
+use kms_names::{Pattern, Steps, glob, glob_nocase};
 use std::alloc::Global;
 use std::marker::Brand;
 use std::sync::ledger::{Blank, Ledger};
@@ -18,6 +18,11 @@ pub fn globs(alloc: Global, columns: &mut Columns<'_>) -> Option<String> {
         "glob_nocase" => {
             let question = Question::read(columns)?;
             written_truth(alloc, nocase(&question))
+        }
+        "pattern" => {
+            let question = Question::read(columns)?;
+            let pattern = Pattern::new(alloc, question.pattern).ok()?.copy().ok()?;
+            written_truth(alloc, pattern.matches(question.text))
         }
         "size_of_steps" => {
             let mut answer = String::new(alloc);

@@ -19,6 +19,7 @@ mod parts;
 mod policies;
 mod report;
 mod threads;
+mod verdicts;
 
 use parts::Part;
 use std::io;

@@ -4,9 +4,9 @@ use crate::columns::{
     Columns, push, push_bytes, written, written_bytes, written_text, written_texts, written_truth,
 };
 use kms_names::{
-    AccountNumber, Action, Bytes, GrantId, GrantOp, GrantOps, KeyId, KeyRef, NameFault, Principal,
-    Text, alias_arn, grant_text, grant_text_into, is_alias_name, is_region, key_arn, key_text,
-    key_text_into, principal_len, read_alias, read_grant_id, read_key_id, read_key_ref,
+    AccountNumber, Action, ActionSet, Bytes, GrantId, GrantOp, GrantOps, KeyId, KeyRef, NameFault,
+    Principal, Text, alias_arn, grant_text, grant_text_into, is_alias_name, is_region, key_arn,
+    key_text, key_text_into, principal_len, read_alias, read_grant_id, read_key_id, read_key_ref,
     read_principal, write_principal,
 };
 use std::alloc::Global;
@@ -23,6 +23,10 @@ pub fn names(alloc: Global, columns: &mut Columns<'_>) -> Option<String> {
         "read_principal" => principal(alloc, columns.text()?),
         "write_principal" => principal_text(alloc, columns),
         "principal_len" => length(alloc, columns),
+        "account_of" => {
+            let principal = read_parts(alloc, columns)?;
+            written(alloc, principal.account().as_str())
+        }
         "key_arn" => arn_of_key(alloc, columns),
         "alias_arn" => arn_of_alias(alloc, columns),
         call => ids(alloc, call, columns),
@@ -62,7 +66,7 @@ fn operations(alloc: Global, call: &str, columns: &mut Columns<'_>) -> Option<St
             let outer = read_set(columns.word()?)?;
             written_truth(alloc, inner.is_subset(&outer))
         }
-        _ => values(alloc, call, columns),
+        _ => action_sets(alloc, call, columns),
     }
 }
 
@@ -222,46 +226,66 @@ fn arn_of_alias(alloc: Global, columns: &mut Columns<'_>) -> Option<String> {
     )
 }
 
-/// All actions in their order.
-pub const ACTIONS: [Action; 32] = [
-    Action::CreateKey,
-    Action::DescribeKey,
-    Action::ListKeys,
-    Action::EnableKey,
-    Action::DisableKey,
-    Action::ScheduleKeyDeletion,
-    Action::CancelKeyDeletion,
-    Action::EnableKeyRotation,
-    Action::DisableKeyRotation,
-    Action::GetKeyRotationStatus,
-    Action::RotateKeyOnDemand,
-    Action::ListKeyRotations,
-    Action::PutKeyPolicy,
-    Action::GetKeyPolicy,
-    Action::ListKeyPolicies,
-    Action::UpdateKeyDescription,
-    Action::CreateAlias,
-    Action::UpdateAlias,
-    Action::DeleteAlias,
-    Action::ListAliases,
-    Action::CreateGrant,
-    Action::ListGrants,
-    Action::ListRetirableGrants,
-    Action::RetireGrant,
-    Action::RevokeGrant,
-    Action::Encrypt,
-    Action::Decrypt,
-    Action::ReEncryptFrom,
-    Action::ReEncryptTo,
-    Action::GenerateDataKey,
-    Action::GenerateDataKeyWithoutPlaintext,
-    Action::GenerateRandom,
-];
+/// The action of a name.
+pub fn action_of(name: &str) -> Option<Action> {
+    Action::ALL
+        .iter()
+        .find(|action| action.name() == name)
+        .copied()
+}
 
-/// The name of the action at a place.
+/// The name of the action at a place, and the text that globs are matched with.
 fn action(alloc: Global, place: u64) -> Option<String> {
-    let action = ACTIONS.iter().find(|action| **action as u64 == place)?;
-    written(alloc, action.name())
+    let action = Action::ALL
+        .iter()
+        .find(|action| u64::from(action.number()) == place)?;
+    let mut answer = written(alloc, action.name())?;
+    push(&mut answer, " ", action.text())?;
+    Some(answer)
+}
+
+/// The set of some actions, with `, ` between two: `-` are none.
+fn read_actions(word: &str) -> Option<ActionSet> {
+    let mut set = ActionSet::new();
+    if word != "-" {
+        for name in word.split(", ") {
+            set.insert(action_of(name)?);
+        }
+    }
+    Some(set)
+}
+
+/// The actions of a copy of a set in order: `-` are none.
+fn written_actions(alloc: Global, set: &ActionSet) -> Option<String> {
+    let set = set.copy().ok()?;
+    let mut words = String::new(alloc);
+    for action in Action::ALL {
+        if set.contains(action) {
+            push(&mut words, ", ", action.name())?;
+        }
+    }
+    if words.is_empty() {
+        words.push('-').ok()?;
+    }
+    Some(words)
+}
+
+/// What a call of sets of actions answers.
+fn action_sets(alloc: Global, call: &str, columns: &mut Columns<'_>) -> Option<String> {
+    match call {
+        "actions_like" => written_actions(alloc, &ActionSet::like(&columns.texts(alloc)?)),
+        "is_like" => {
+            let pattern = columns.text()?;
+            written_truth(alloc, action_of(columns.word()?)?.is_like(pattern))
+        }
+        "complement" => written_actions(alloc, &read_actions(columns.word()?)?.complement()),
+        "union" => {
+            let left = read_actions(columns.word()?)?;
+            let right = read_actions(columns.word()?)?;
+            written_actions(alloc, &left.union(right))
+        }
+        _ => values(alloc, call, columns),
+    }
 }
 
 /// The name of an operation of grants and of its action.

@@ -1,7 +1,7 @@
 //! The parts whose answers are known.
 
 use crate::columns::Columns;
-use crate::{blobs, ciphers, conditions, contexts, draws, globs, macs, names, policies};
+use crate::{blobs, ciphers, conditions, contexts, draws, globs, macs, names, policies, verdicts};
 use std::alloc::Global;
 
 /// A part, with a file of cases.
@@ -18,11 +18,12 @@ pub enum Part {
     Globs,
     Conditions,
     Policies,
+    Verdicts,
 }
 
 impl Part {
     /// All parts.
-    pub const ALL: [Part; 11] = [
+    pub const ALL: [Part; 12] = [
         Part::Aes256,
         Part::Ghash,
         Part::Gcm,
@@ -34,6 +35,7 @@ impl Part {
         Part::Globs,
         Part::Conditions,
         Part::Policies,
+        Part::Verdicts,
     ];
 
     /// The name of the part's file.
@@ -50,6 +52,7 @@ impl Part {
             Part::Globs => "globs.txt",
             Part::Conditions => "conditions.txt",
             Part::Policies => "policies.txt",
+            Part::Verdicts => "verdicts.txt",
         }
     }
 
@@ -68,6 +71,7 @@ impl Part {
             Part::Globs => globs::globs(alloc, columns),
             Part::Conditions => conditions::conditions(alloc, columns),
             Part::Policies => policies::policies(alloc, columns),
+            Part::Verdicts => verdicts::verdicts(alloc, columns),
         }
     }
 }

@@ -36,7 +36,7 @@ pub fn policies(alloc: Global, columns: &mut Columns<'_>) -> Option<String> {
 }
 
 /// What a policy is attached to: `key` or `identity`.
-fn read_kind(columns: &mut Columns<'_>) -> Option<PolicyKind> {
+pub fn read_kind(columns: &mut Columns<'_>) -> Option<PolicyKind> {
     match columns.word()? {
         "key" => Some(PolicyKind::Key),
         "identity" => Some(PolicyKind::Identity),
