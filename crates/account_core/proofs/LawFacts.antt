@@ -1,11 +1,15 @@
 -- The laws of sealing.
-use Rattle.std.proofs.Common.{◌≡◌, ℕ, List, ◌∷◌, ◌++◌, length, take, drop, Bool, false, Option, Some, None, Result, Ok, refl, sym, ap, ◌∙◌, subst, if◌then◌else◌, append_assoc, arith, length-append}
+use Rattle.std.proofs.Common.{◌≡◌, ℕ, ◌-◌, ◌<◌, ◌≤◌, ◌^◌, max, List, [], ◌∷◌, ◌++◌, length, take, drop, get_or, codes, Bool, false, Option, Some, None, Result, Ok, refl, sym, ap, ◌∙◌, subst, if◌then◌else◌, append_assoc, arith, length-append, length-take}
 use Rattle.std.specs.Prelude.{option_and_then, ok_or}
-use Rattle.std.specs.Int.{w32, to_be_bytes}
-use Rattle.std.proofs.lemmas.List.{take_at, drop_at}
+use Rattle.std.specs.Int.{w16, w32, to_be_bytes}
+use Rattle.std.specs.List.Sorted.{IsNonDecreasingBy}
+use Rattle.std.proofs.lemmas.List.Sorted.{IsNonDecreasingBy-push}
+use Rattle.std.proofs.lemmas.List.{take_at, drop_at, get_or_push}
 use Rattle.std.proofs.lemmas.Slice.Eq.{bytes_eq-Decides}
 use Rattle.draw_lines.specs.Iv.{iv_at}
 use Rattle.draw_lines.proofs.IvFacts.{count_told}
+use Rattle.mac_sha.specs.Hmac.{hmac_sha256}
+use Rattle.mac_sha.proofs.HmacFacts.{hmac_length}
 use Rattle.blob_format.specs.Blob.{blob_text}
 use Rattle.blob_format.proofs.BlobFacts.{told}
 use Rattle.enc_context.specs.declared.pairs.Pair.{Pair}
@@ -15,10 +19,10 @@ use Rattle.crypto_ops.specs.Sealed.{blob_head, additional_data, sealed, opened}
 use Rattle.crypto_ops.specs.Laws.{CanSeal}
 use Rattle.crypto_ops.proofs.OpeningFacts.{sealed_form, opened_blob}
 use Rattle.kms_names.specs.declared.actions.Action.TheVariants as action
-use Rattle.kms_names.specs.declared.principals.Principal.{Principal}
 use Rattle.kms_json.specs.declared.asks.Ask.{Ask}
 use Rattle.kms_json.specs.declared.asks.AskBody.{AskBody}
 use Rattle.kms_json.specs.declared.asks.AskBody.TheVariants as ask
+use Rattle.kms_json.specs.declared.asks.Reading.TheVariants as reading
 use Rattle.kms_json.specs.declared.asks.Decrypt.{Decrypt}
 use Rattle.kms_json.specs.declared.replies.Reply.{Reply}
 use Rattle.kms_json.specs.declared.replies.Reply.TheVariants as reply
@@ -29,18 +33,24 @@ use Rattle.kms_json.specs.declared.replies.Unsupported.TheVariants.{Recipient}
 use Rattle.account_core.specs.declared.facts.RealmFacts.{RealmFacts}
 use Rattle.account_core.specs.declared.entries.Entry.{Entry}
 use Rattle.account_core.specs.declared.rows.KeyRow.{KeyRow}
-use Rattle.account_core.specs.Places.{Places, IsUpTo}
+use Rattle.account_core.specs.Ids.{key_id_at, be32, be48}
+use Rattle.account_core.specs.Places.{Places, IsUpTo, nothing_used}
 use Rattle.account_core.specs.Blobs.{BlobName, name_in, named_in}
-use Rattle.account_core.specs.History.{replay, key_with}
-use Rattle.account_core.specs.Steps.{Source, unless, and_then, unfit, unsupported, only_asked, key_if_given, other_key, blob_name, source_in, source_of, opens, decided_by, seals, arn_of}
-use Rattle.account_core.specs.Crypto.{decrypted}
-use Rattle.account_core.specs.Decide.{unless_refused, lacking, decide_body, decide}
-use Rattle.account_core.specs.Laws.{reply_to, NoneOrNames, PassGoesOn, no_request, one_more, iv_in, SealedIsDecryptedAgain, OnePassRepeatsNoIv}
+use Rattle.account_core.specs.History.{replay, latest_of, key_with}
+use Rattle.account_core.specs.Source.{Source}
+use Rattle.account_core.specs.View.{View, view_of}
+use Rattle.account_core.specs.Steps.{unless, and_then, unfit, unsupported, key_if_given, other_key, blob_name, source_in, source_of, opens, seals, arn_of}
+use Rattle.account_core.specs.Parts.{Outcome, takes, outcome, decided_by, only_asked}
+use Rattle.account_core.specs.Crypto.{decrypts}
+use Rattle.account_core.specs.Decide.{lacking, body_outcome, decide, IsNext, appended, kept, IsLawful, empty, longer}
+use Rattle.account_core.specs.Laws.{reply_to, NoneOrNames, PassGoesOn, no_request, one_more, wants_memory, iv_in, SealedIsDecryptedAgain, OnePassRepeatsNoIv, TimesNeverFall, KeysDiffer}
 use Rattle.account_core.proofs.BlobNames.{named_blob}
 use Rattle.account_core.proofs.GoingOn.{decide_goes_on}
+use Rattle.account_core.proofs.EntryFacts.{next_entry}
+use Rattle.account_core.proofs.Histories.{latest-push}
 use Rattle.account_core.proofs.LawRows.{key_size, key_stays}
-use Rattle.account_core.proofs.LawSteps.{IsText}
-use Rattle.account_core.proofs.LawSealings.{is_sealed}
+use Rattle.account_core.proofs.LawSealings.{IsText, is_sealed}
+use Rattle.account_core.proofs.Passing.{goes_through}
 
 -- ---- the initialization vectors of a pass
 
@@ -50,6 +60,9 @@ goes_up facts from to (one_more {to = before} history x on) =
     let first = goes_up facts from before on in
     let last = decide_goes_on facts history x before in
     record { number = last.number ∙ first.number; words_from = omega arith; words_to = omega arith; ivs_from = omega arith; ivs_to = omega arith }
+goes_up facts from to (wants_memory {to = before} history x left on within) =
+    let first = goes_up facts from before on in
+    record { number = within.number ∙ first.number; words_from = omega arith; words_to = omega arith; ivs_from = omega arith; ivs_to = omega arith }
 
 iv_size : (boot number count : ℕ) → length (iv_at boot number count) ≡ 12
 unfolding iv_at
@@ -108,53 +121,51 @@ sealed_opens facts row context text places id_is size =
       opens_to = opened_blob facts.root _ row.key 1 iv _ _ context form ∙ opens_sealed key iv (additional_data (blob_head row.key 1) context) text;
     }
 
-module _ (facts : RealmFacts) (keys : List KeyRow) (caller : Principal) (row : KeyRow) (there : key_with keys row.key ≡ Some row) where
+module _ (view : View) (row : KeyRow) (there : key_with view.keys row.key ≡ Some row) where
   record Given (reference : Option (List ℕ)) : Type 0 where
     given : Option KeyRow
-    is : key_if_given keys reference ≡ Ok given
+    is : key_if_given view.keys reference ≡ Ok given
     same : other_key given row.key ≡ None
 
   given_is : (reference : Option (List ℕ)) → NoneOrNames reference row.key → Given reference
   given_is None named = record { given = None; is = refl; same = refl }
   given_is (Some reference) named = record {
     given = Some row;
-    is = ap (λ (id : Option (List ℕ)). and_then (ok_or (option_and_then (key_with keys) id) (refusal.NotFound missing.Key)) (λ r. Ok (Some r))) named
+    is = ap (λ (id : Option (List ℕ)). and_then (ok_or (option_and_then (key_with view.keys) id) (refusal.NotFound missing.Key)) (λ r. Ok (Some r))) named
         ∙ ap (λ (found : Option KeyRow). and_then (ok_or found (refusal.NotFound missing.Key)) (λ r. Ok (Some r))) there;
     same = ap (λ (b : Bool). if b then None else Some refusal.IncorrectKey) ((bytes_eq-Decides row.key row.key).1 refl);
   }
 
-  abbrev source : Source
-  source = record { row = row; version = 1 }
+  abbrev source : List ℕ → Source
+  source blob = record { row = row; version = 1; bytes = blob }
 
   source_is : (reference : Option (List ℕ)) (blob : List ℕ) → NoneOrNames reference row.key → named_in blob ≡ Some (record { key = row.key; version = 1 })
-      → source_of facts keys caller action.Decrypt reference blob ≡ Ok source
+      → source_of view action.Decrypt reference blob ≡ Ok (source blob)
   source_is reference blob right named =
       let given = given_is reference right in
-      let compared : Option KeyRow → BlobName → Result Source Refusal = λ o name. unless (other_key o name.key) (source_in facts keys caller action.Decrypt name) in
+      let compared : Option KeyRow → BlobName → Result Source Refusal = λ o name. unless (other_key o name.key) (source_in view action.Decrypt blob name) in
       ap (λ (r : Result (Option KeyRow) Refusal). and_then r (λ o. and_then (blob_name blob) (compared o))) given.is
       ∙ ap (λ (o : Option BlobName). and_then (ok_or o refusal.InvalidCiphertext) (compared given.given)) named
-      ∙ ap (λ (o : Option Refusal). unless o (source_in facts keys caller action.Decrypt (record { key = row.key; version = 1 }))) given.same
-      ∙ ap (λ (o : Option KeyRow). and_then (ok_or o (refusal.AccessDenied caller action.Decrypt (arn_of facts row.key))) (λ r. Ok (record { row = r; version = 1 }))) there
+      ∙ ap (λ (o : Option Refusal). unless o (source_in view action.Decrypt blob (record { key = row.key; version = 1 }))) given.same
+      ∙ ap (λ (o : Option KeyRow). and_then (ok_or o (refusal.AccessDenied view.caller action.Decrypt (arn_of view.facts row.key))) (λ r. Ok (record { row = r; version = 1; bytes = blob }))) there
 
   decrypted_is : (d : Decrypt) (plaintext : List ℕ) → NoneOrNames d.key_id row.key → named_in d.blob ≡ Some (record { key = row.key; version = 1 })
-      → opened facts.root d.blob d.context ≡ Some plaintext → unfit d.algorithm ≡ None → d.recipient ≡ false → d.dry_run ≡ false
-      → decrypted facts keys caller d ≡ Ok (reply.Decrypted plaintext (arn_of facts row.key))
+      → opened view.facts.root d.blob d.context ≡ Some plaintext → unfit d.algorithm ≡ None → d.recipient ≡ false → d.dry_run ≡ false
+      → outcome view (decrypts view d) ≡ Ok (record { reply = reply.Decrypted plaintext (arn_of view.facts row.key); effect = takes nothing_used })
   decrypted_is d plaintext right named opens_to fit no_recipient no_dry_run =
-      let answer : Source → List ℕ → Result Reply Refusal = λ s text. unless (only_asked d.dry_run) (Ok (reply.Decrypted text (arn_of facts s.row.key))) in
-      ap (λ (r : Result Source Refusal). and_then (and_then r (λ s. unless (unfit d.algorithm) (unless (unsupported d.recipient Recipient) (Ok s)))) (λ s. and_then (opens facts s d.blob d.context) (answer s)))
-      (source_is d.key_id d.blob right named)
-      ∙ ap (λ (o : Option Refusal). and_then (unless o (unless (unsupported d.recipient Recipient) (Ok source))) (λ s. and_then (opens facts s d.blob d.context) (answer s))) fit
-      ∙ ap (λ (b : Bool). and_then (unless (unsupported b Recipient) (Ok source)) (λ s. and_then (opens facts s d.blob d.context) (answer s))) no_recipient
-      ∙ ap (λ (o : Option (List ℕ)). and_then (ok_or o refusal.InvalidCiphertext) (answer source)) opens_to
-      ∙ ap (λ (b : Bool). unless (only_asked b) (Ok (reply.Decrypted plaintext (arn_of facts row.key)))) no_dry_run
+      let own : (decrypts view d).own (source d.blob) ≡ Ok plaintext =
+      ap (λ (o : Option Refusal). unless o (unless (unsupported d.recipient Recipient) (opens view.facts (source d.blob) d.context))) fit
+      ∙ ap (λ (b : Bool). unless (unsupported b Recipient) (opens view.facts (source d.blob) d.context)) no_recipient
+      ∙ ap (λ (o : Option (List ℕ)). ok_or o refusal.InvalidCiphertext) opens_to in
+      goes_through view (decrypts view d) (source d.blob) plaintext (source_is d.key_id d.blob right named) own refl (ap only_asked no_dry_run)
 
-decrypt_reply : (facts : RealmFacts) (history : List Entry) (y : Ask) (places : Places) (d : Decrypt) (r : Reply) → lacking (length history) y.after ≡ None → y.body ≡ ask.Decrypt d
-    → decrypted facts (replay history).keys y.caller d ≡ Ok r → reply_to facts history y places ≡ r
+decrypt_reply : (facts : RealmFacts) (history : List Entry) (y : Ask) (places : Places) (d : Decrypt) (o : Outcome) → lacking (length history) y.after ≡ None → y.body ≡ ask.Read (reading.Decrypt d)
+    → outcome (view_of facts history y places) (decrypts (view_of facts history y places) d) ≡ Ok o → reply_to facts history y places ≡ o.reply
 unfolding decide
-decrypt_reply facts history y places d r enough body is =
-    ap (λ (o : Option Refusal). (unless_refused o places (decide_body facts history y y.body places)).reply) enough
-    ∙ ap (λ (b : AskBody). (decide_body facts history y b places).reply) body
-    ∙ ap (λ (outcome : Result Reply Refusal). (decided_by outcome places places).reply) is
+decrypt_reply facts history y places d o enough body is =
+    ap (λ (first : Option Refusal). (decided_by (unless first (body_outcome facts history y places y.body)) places).reply) enough
+    ∙ ap (λ (b : AskBody). (decided_by (body_outcome facts history y places b) places).reply) body
+    ∙ ap (λ (wanted : Result Outcome Refusal). (decided_by wanted places).reply) is
 
 pub decrypted_again : SealedIsDecryptedAgain
 decrypted_again facts history more x y places other_places s lawful proper sealed asks =
@@ -164,10 +175,55 @@ decrypted_again facts history more x y places other_places s lawful proper seale
     let made = sealed_opens facts is.row s.context s.plaintext places (key_size facts (history ++ more) is.row.key is.row lawful there) (is.size proper) in
     let blob_is : d.blob ≡ seals facts is.row s.context s.plaintext places = asks.same_blob ∙ is.blob in
     let key_is : (name_in s.blob).key ≡ is.row.key = ap (λ (b : List ℕ). (name_in b).key) is.blob ∙ made.key in
-    let answer = decrypted_is facts (replay (history ++ more)).keys y.caller is.row there d s.plaintext
+    let answer = decrypted_is (view_of facts (history ++ more) y other_places) is.row there d s.plaintext
     (subst (NoneOrNames d.key_id) key_is asks.right_key)
     (ap named_in blob_is ∙ made.named)
     (ap (λ (b : List ℕ). opened facts.root b d.context) blob_is ∙ ap (opened facts.root (seals facts is.row s.context s.plaintext places)) asks.same_context ∙ made.opens_to)
     asks.fit asks.no_recipient asks.no_dry_run in
     decrypt_reply facts (history ++ more) y other_places d _ asks.there asks.body answer
     ∙ ap (reply.Decrypted s.plaintext) (sym is.arn)
+
+-- ---- times
+
+record IsInOrder (history : List Entry) : Type 0 where
+  falls_never : IsNonDecreasingBy (λ (e : Entry). e.time) history
+  last : (d : Entry) → 0 < length history → (get_or history (length history - 1) d).time ≡ latest_of history
+
+not_before : (facts : RealmFacts) (history : List Entry) (entry : Entry) → IsNext facts history entry → latest_of history ≤ entry.time
+not_before facts history entry (appended x proper is) =
+    let time : entry.time ≡ max x.moment (latest_of history) = (next_entry facts history x entry is).time in
+    omega arith
+not_before facts history entry (kept clock bound is) = cc
+
+in_order : (facts : RealmFacts) (history : List Entry) → IsLawful facts history → IsInOrder history
+in_order facts history empty = record { falls_never = λ i j d up within. absurd (omega arith); last = λ d some. absurd (omega arith) }
+in_order facts history (longer {history = before} entry lawful next) =
+    let so_far = in_order facts before lawful in
+    let later = not_before facts before entry next in
+    record {
+      falls_never = IsNonDecreasingBy-push (λ (e : Entry). e.time) before entry so_far.falls_never (λ d some. subst (λ (n : ℕ). n ≤ entry.time) (sym (so_far.last d some)) later);
+      last = λ d some.
+          let at : length (before ++ entry ∷ []) - 1 ≡ length before = omega (arith, length-append before (entry ∷ [])) in
+          ap (λ (n : ℕ). (get_or (before ++ entry ∷ []) n d).time) at
+          ∙ ap (λ (e : Entry). e.time) (get_or_push before entry d (length before) refl) ∙ sym (latest-push before entry);
+    }
+
+pub times_never_fall : TimesNeverFall
+times_never_fall facts history lawful = (in_order facts history lawful).falls_never
+
+-- ---- ids
+
+place_told : (p q : ℕ) → p < 2 ^ 48 → q < 2 ^ 48 → be48 p ≡ be48 q → p ≡ q
+unfolding iv_at
+place_told p q p_fits q_fits same =
+    let iv : iv_at 0 0 p ≡ iv_at 0 0 q = ap (λ (bytes : List ℕ). to_be_bytes w32 0 ++ to_be_bytes w16 0 ++ bytes) same in
+    count_told 0 0 0 0 p q p_fits q_fits iv
+
+id_ends : (facts : RealmFacts) (place : ℕ) → drop 10 (key_id_at facts place) ≡ be48 place
+id_ends facts place =
+    let text : List ℕ = codes "key" ++ be32 facts.boot ++ be48 place in
+    let digest : List ℕ = hmac_sha256 facts.root text in
+    drop_at (take 10 digest) (be48 place) 10 (omega (arith, length-take 10 digest, hmac_length facts.root text))
+
+pub keys_differ : KeysDiffer
+keys_differ facts p q p_fits q_fits same = place_told p q p_fits q_fits (sym (id_ends facts p) ∙ ap (drop 10) same ∙ id_ends facts q)

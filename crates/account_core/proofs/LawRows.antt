@@ -8,21 +8,15 @@ use Rattle.std.proofs.lemmas.List.Sums.{fold-append}
 use Rattle.std.proofs.lemmas.Slice.Eq.{bytes_eq-Decides}
 use Rattle.mac_sha.specs.Hmac.{hmac_sha256}
 use Rattle.mac_sha.proofs.HmacFacts.{hmac_length}
-use Rattle.kms_json.specs.declared.asks.Ask.{Ask}
-use Rattle.kms_json.specs.declared.asks.AskBody.{AskBody}
-use Rattle.kms_json.specs.declared.asks.AskBody.TheVariants as ask
-use Rattle.kms_json.specs.declared.replies.Reply.{Reply}
-use Rattle.kms_json.specs.declared.replies.Refusal.{Refusal}
 use Rattle.account_core.specs.declared.facts.RealmFacts.{RealmFacts}
 use Rattle.account_core.specs.declared.entries.Entry.{Entry}
 use Rattle.account_core.specs.declared.entries.What.{What}
 use Rattle.account_core.specs.declared.entries.What.TheVariants.{CreateKey}
 use Rattle.account_core.specs.declared.rows.KeyRow.{KeyRow}
 use Rattle.account_core.specs.Ids.{key_id_at, be32, be48}
-use Rattle.account_core.specs.Places.{Places}
-use Rattle.account_core.specs.History.{State, step, nothing_yet, replay, keys_after, moment_of, key_with}
-use Rattle.account_core.specs.Steps.{Decided, decided_by}
-use Rattle.account_core.specs.Decide.{unless_refused, lacking, keys_full, makes_key, decide_body, decide, no_places, IsLawful, empty, longer}
+use Rattle.account_core.specs.History.{State, step, nothing_yet, replay, keys_after, key_with}
+use Rattle.account_core.specs.Decide.{IsNext, appended, kept, IsLawful, empty, longer}
+use Rattle.account_core.proofs.EntryFacts.{next_entry}
 use Rattle.account_core.proofs.Histories.{replay-push}
 
 -- ---- a row that is found
@@ -72,35 +66,10 @@ id_size facts place =
     let digest : List ℕ = hmac_sha256 facts.root (codes "key" ++ be32 facts.boot ++ be48 place) in
     omega (arith, length-append (take 10 digest) (be48 place), length-take 10 digest, hmac_length facts.root (codes "key" ++ be32 facts.boot ++ be48 place))
 
-entry_of : (o : Option Refusal) (places : Places) (next : Decided) (entry : Entry) → (unless_refused o places next).entry ≡ Some entry → next.entry ≡ Some entry
-entry_of (Some why) places next entry e = cc
-entry_of None places next entry e = e
-
-no_entry : {P : Type 0} (outcome : Result Reply Refusal) (places after : Places) (entry : Entry) → (decided_by outcome places after).entry ≡ Some entry → P
-no_entry (Ok reply) places after entry e = cc
-no_entry (Err why) places after entry e = cc
-
-module _ (facts : RealmFacts) (history : List Entry) (x : Ask) (entry : Entry) where
-  abbrev IsOfKeyHere : Type 0
-  IsOfKeyHere = entry.what ≡ CreateKey (key_id_at facts (length history))
-
-  body_entry : (body : AskBody) → (decide_body facts history x body no_places).entry ≡ Some entry → IsOfKeyHere
-  body_entry ask.CreateKey e =
-      let made : Some (record { time = moment_of history x.moment; what = CreateKey (key_id_at facts (length history)) }) ≡ Some entry =
-      entry_of (keys_full (length (replay history).keys)) no_places (makes_key facts (length history) (moment_of history x.moment) no_places) entry e in
-      let same : ◌≡◌ {A = Entry} (record { time = moment_of history x.moment; what = CreateKey (key_id_at facts (length history)) }) entry = cc in
-      sym (ap (λ (made : Entry). made.what) same)
-  body_entry (ask.DescribeKey key_id) e = no_entry _ no_places _ entry e
-  body_entry (ask.Encrypt fields) e = no_entry _ no_places _ entry e
-  body_entry (ask.Decrypt fields) e = no_entry _ no_places _ entry e
-  body_entry (ask.ReEncrypt fields) e = no_entry _ no_places _ entry e
-  body_entry (ask.GenerateDataKey key recipient) e = no_entry _ no_places _ entry e
-  body_entry (ask.GenerateDataKeyWithoutPlaintext fields) e = no_entry _ no_places _ entry e
-  body_entry (ask.GenerateRandom size custom_key_store recipient) e = no_entry _ no_places _ entry e
-
-  next_entry : (decide facts history x no_places).entry ≡ Some entry → IsOfKeyHere
-  unfolding decide
-  next_entry e = body_entry x.body (entry_of (lacking (length history) x.after) no_places (decide_body facts history x x.body no_places) entry e)
+-- the key that an entry makes has the id of its place
+key_here : (facts : RealmFacts) (history : List Entry) (entry : Entry) → IsNext facts history entry → entry.what ≡ CreateKey (key_id_at facts (length history))
+key_here facts history entry (appended x proper is) = (next_entry facts history x entry is).what_is
+key_here facts history entry (kept clock bound is) = cc
 
 only_one : (b : Bool) (made row : KeyRow) → (if b then Some made else None) ≡ Some row → made ≡ row
 only_one true made row e = cc
@@ -128,4 +97,4 @@ sized_push facts history entry id row is before e =
 pub key_size : (facts : RealmFacts) (history : List Entry) (id : List ℕ) (row : KeyRow) → IsLawful facts history → key_with (replay history).keys id ≡ Some row → length id ≡ 16
 key_size facts history id row empty e = cc
 key_size facts history id row (longer entry lawful next) e =
-    sized_push facts _ entry id row (next_entry facts _ next.request entry next.appended) (key_size facts _ id row lawful) e
+    sized_push facts _ entry id row (key_here facts _ entry next) (key_size facts _ id row lawful) e

@@ -1,64 +1,131 @@
 -- What a served sealing says: its key, its blob, its initialization vector and where it leaves the pass.
-use Rattle.std.proofs.Common.{◌≡◌, ◌≢◌, ℕ, ◌+◌, ◌<◌, ◌^◌, List, length, Bool, true, false, Option, Some, None, Result, Ok, Err, refl, sym, ap, ◌∙◌, subst, if◌then◌else◌, nat_le}
-use Rattle.std.specs.Prelude.{ok_or}
+use Rattle.std.proofs.Common.{◌≡◌, ℕ, ◌+◌, ◌-◌, ◌<◌, ◌≤◌, ◌^◌, ◌&&◌, List, length, Bool, true, false, Option, Some, None, Result, Ok, Err, refl, sym, ap, ◌∙◌, subst, if◌then◌else◌, nat_le, nat_lt, leb-true, arith, inl, inr, length-take, length-drop}
+use Rattle.std.specs.Prelude.{slice_range, option_and_then, ok_or}
+use Rattle.std.proofs.lemmas.Bool.{cases_lt, both_ways}
+use Rattle.std.proofs.lemmas.Bool.Decides.{nat_tests}
+use Rattle.uuid.specs.Text.{parsed_hyphenated}
+use Rattle.draw_lines.specs.Draw.{words_for}
+use Rattle.draw_lines.proofs.DrawFacts.{draw_length}
+use Rattle.enc_context.specs.declared.pairs.Pair.{Pair}
 use Rattle.crypto_ops.specs.Sealed.{opened}
+use Rattle.kms_names.specs.declared.actions.Action.{Action}
 use Rattle.kms_names.specs.declared.actions.Action.TheVariants as action
-use Rattle.kms_names.specs.declared.principals.Principal.{Principal}
 use Rattle.kms_json.specs.declared.asks.Ask.{Ask}
-use Rattle.kms_json.specs.declared.asks.AskBody.{AskBody}
 use Rattle.kms_json.specs.declared.asks.AskBody.TheVariants as ask
-use Rattle.kms_json.specs.declared.asks.Encrypt.{Encrypt}
+use Rattle.kms_json.specs.declared.asks.Reading.{Reading}
+use Rattle.kms_json.specs.declared.asks.Reading.TheVariants as reading
 use Rattle.kms_json.specs.declared.asks.ReEncrypt.{ReEncrypt}
-use Rattle.kms_json.specs.declared.asks.DataKey.{DataKey}
 use Rattle.kms_json.specs.declared.replies.Reply.{Reply}
 use Rattle.kms_json.specs.declared.replies.Reply.TheVariants as reply
 use Rattle.kms_json.specs.declared.replies.Refusal.{Refusal}
 use Rattle.kms_json.specs.declared.replies.Refusal.TheVariants as refusal
-use Rattle.kms_json.specs.declared.replies.Unsupported.TheVariants.{Recipient}
-use Rattle.kms_json.specs.Asks.{IsSized}
+use Rattle.kms_json.specs.declared.replies.Missing.TheVariants as missing
+use Rattle.kms_json.specs.Asks.{IsSized, IsSizedReading}
 use Rattle.kms_json.proofs.Sizes.{asked_sized}
 use Rattle.account_core.specs.declared.facts.RealmFacts.{RealmFacts}
 use Rattle.account_core.specs.declared.entries.Entry.{Entry}
 use Rattle.account_core.specs.declared.rows.KeyRow.{KeyRow}
-use Rattle.account_core.specs.Places.{Places, one_iv}
-use Rattle.account_core.specs.Blobs.{BlobName, named_in}
-use Rattle.account_core.specs.History.{replay, key_with}
-use Rattle.account_core.specs.Steps.{Decided, Source, unless, and_then, unfit, unsupported, no_more_ivs, no_more_draws, only_asked, key_of, source_of, opens, seals, draws, arn_of, decided_by}
-use Rattle.account_core.specs.Crypto.{encrypting_key, encrypted as encrypted_reply, turning_keys, turned_text, Turns, re_encrypted as re_encrypted_reply, data_key_key, data_key as data_key_reply, sealed_data_key as sealed_data_key_reply, after_data_key}
-use Rattle.account_core.specs.Decide.{unless_refused, lacking, decide_body, decide, IsProper}
+use Rattle.account_core.specs.declared.re_encrypt.Turning.{Turning}
+use Rattle.account_core.specs.declared.places.Uses.{Uses}
+use Rattle.account_core.specs.Places.{Places}
+use Rattle.account_core.specs.Blobs.{BlobName, name_in, named_in, has_form}
+use Rattle.account_core.specs.History.{replay, key_with, key_named}
+use Rattle.account_core.specs.Source.{Source}
+use Rattle.account_core.specs.View.{View, view_of}
+use Rattle.account_core.specs.Steps.{unless, and_then, unfit, key_of, key_if_given, blob_name, other_key, held_key, source_in, source_of, opens, seals, draws, arn_of}
+use Rattle.account_core.specs.Parts.{Outcome, Effect, takes, limited, spent, no_more_draws, no_more_ivs, or_else, after}
+use Rattle.account_core.specs.Crypto.{one_iv, words_and_iv, encrypts, re_encrypts, generates_data_key, generates_sealed_data_key}
+use Rattle.account_core.specs.Decide.{decide, IsProper}
 use Rattle.account_core.specs.Laws.{Sealing, reply_to, HasSealed, encrypted, re_encrypted, data_key, sealed_data_key}
-use Rattle.account_core.proofs.LawSteps.{found_of, none_of, next_of, few_of, ok_same, key_there, source_named, IsText, opened_size, sized_draw}
+use Rattle.account_core.proofs.Openings.{size_of_opened}
+use Rattle.account_core.proofs.LawRows.{found_id}
+use Rattle.account_core.proofs.Passing.{found_of, none_of, next_of, ok_of, ok_same, Passed, passed, Serves, serves_of}
 
--- ---- a request that is served
+-- ---- the keys
 
-record Outcome (outcome : Result Reply Refusal) (after : Places) (r : Reply) (places : Places) : Type 0 where
-  reply_is : outcome ≡ Ok r
-  places_are : places ≡ after
+there_of : {A B : Type 0} (f : A → Option B) (o : Option A) (wanted : B) → option_and_then f o ≡ Some wanted → (v : A) × (f v ≡ Some wanted)
+there_of f (Some v) wanted e = (v, e)
+there_of f None wanted e = cc
 
-outcome_of : (outcome : Result Reply Refusal) (places after : Places) (r : Reply) → ((why : Refusal) → r ≢ reply.Refused why)
-    → (decided_by outcome places after).reply ≡ r → Outcome outcome after r (decided_by outcome places after).places
-outcome_of (Ok given) places after r served e = record { reply_is = ap Ok e; places_are = refl }
-outcome_of (Err why) places after r served e = absurd (served why (sym e))
+key_there : (keys : List KeyRow) (reference : List ℕ) (row : KeyRow) → key_of keys reference ≡ Ok row → key_with keys row.key ≡ Some row
+key_there keys reference row e =
+    let found = there_of (key_with keys) (parsed_hyphenated reference) row (ok_of (key_named keys reference) (refusal.NotFound missing.Key) row e) in
+    subst (λ (id : List ℕ). key_with keys id ≡ Some row) (sym (found_id keys found.0 row found.1)) found.1
 
-module _ (outcome : Result Reply Refusal) (places after : Places) (r : Reply) (served : (why : Refusal) → r ≢ reply.Refused why) where
-  outcome_there : (o : Option Refusal) (d : Decided) → d ≡ decided_by outcome places after → (unless_refused o places d).reply ≡ r
-      → Outcome outcome after r (unless_refused o places d).places
-  outcome_there (Some why) d is e = absurd (served why (sym e))
-  outcome_there None d is e = subst (λ (v : Decided). Outcome outcome after r v.places) (sym is) (outcome_of outcome places after r served (sym (ap (λ (v : Decided). v.reply) is) ∙ e))
+-- ---- an initialization vector that is left
 
--- the outcome of a request that is served, and where it leaves the pass
-outcome_is : (facts : RealmFacts) (history : List Entry) (x : Ask) (places : Places) (body : AskBody) (outcome : Result Reply Refusal) (after : Places) (r : Reply)
-    → x.body ≡ body → decide_body facts history x body places ≡ decided_by outcome places after
-    → ((why : Refusal) → r ≢ reply.Refused why) → reply_to facts history x places ≡ r
-    → Outcome outcome after r (decide facts history x places).places
-unfolding decide
-outcome_is facts history x places body outcome after r is same served e =
-    outcome_there outcome places after r served (lacking (length history) x.after) (decide_body facts history x x.body places)
-    (ap (λ (b : AskBody). decide_body facts history x b places) is ∙ same) e
+below_of : (b : Bool) (why : Refusal) → (if b then Some why else None) ≡ None → b ≡ false
+below_of true why e = cc
+below_of false why e = refl
 
--- ---- its key
+second_of : (first second : Option Refusal) → or_else first second ≡ None → second ≡ None
+second_of (Some why) second e = cc
+second_of None second e = e
 
--- what was sealed, under which key, with which initialization vector
+few_of : (places : Places) (uses : Uses) → uses.ivs ≡ 1 → spent places uses ≡ None → places.ivs < 2 ^ 48
+few_of places uses one e =
+    let ivs : no_more_ivs places uses.ivs ≡ None = second_of (no_more_draws places uses.words) (no_more_ivs places uses.ivs) e in
+    let first : no_more_ivs places 1 ≡ None = subst (λ (n : ℕ). no_more_ivs places n ≡ None) one ivs in
+    let below : nat_lt (2 ^ 48) (places.ivs + 1) ≡ false = below_of (nat_lt (2 ^ 48) (places.ivs + 1)) _ first in
+    grind (arith, nat_tests, below)
+
+-- ---- the sizes of plaintexts
+
+-- the text has a size that can be sealed
+abbrev pub IsText : List ℕ → Type 0
+IsText text = (1 ≤ length text) × (length text ≤ 4096)
+
+form_of : (b : Bool) (name found : BlobName) → (if b then Some name else None) ≡ Some found → b ≡ true
+form_of true name found e = refl
+form_of false name found e = cc
+
+first_two : (a b c d : Bool) → (a && b && c && d) ≡ true → (a ≡ true) × (b ≡ true)
+first_two true true c d e = (refl, refl)
+first_two true false c d e = cc
+first_two false b c d e = cc
+
+-- a blob has 49 bytes beside its text
+opened_size : (root bytes : List ℕ) (pairs : List Pair) (name : BlobName) (text : List ℕ) → named_in bytes ≡ Some name → opened root bytes pairs ≡ Some text
+    → IsText text
+unfolding opened named_in
+opened_size root bytes pairs name text named e =
+    let form = first_two (nat_le 50 (length bytes)) (nat_le (length bytes) 4145) _ _ (form_of (has_form bytes) (name_in bytes) name named) in
+    let from : 50 ≤ length bytes = leb-true 50 (length bytes) form.0 in
+    let to : length bytes ≤ 4145 = leb-true (length bytes) 4145 form.1 in
+    let size : length text ≡ length (slice_range bytes 33 (length bytes - 16)) = size_of_opened _ _ _ (slice_range bytes 33 (length bytes - 16)) _ text e in
+    (omega (arith, size, length-take {A = ℕ}, length-drop {A = ℕ}), omega (arith, size, length-take {A = ℕ}, length-drop {A = ℕ}))
+
+-- a sealed text that was looked up has the form of a blob, and its bytes are those that were given
+record IsSourceOf (blob : List ℕ) (source : Source) : Type 0 where
+  name : BlobName
+  named : named_in blob ≡ Some name
+  bytes : source.bytes ≡ blob
+
+source_named : (view : View) (op : Action) (reference : Option (List ℕ)) (blob : List ℕ) (source : Source)
+    → source_of view op reference blob ≡ Ok source → IsSourceOf blob source
+source_named view op reference blob source e =
+    let compared : Option KeyRow → BlobName → Result Source Refusal = λ named name. unless (other_key named name.key) (source_in view op blob name) in
+    let given = found_of (key_if_given view.keys reference) (λ (named : Option KeyRow). and_then (blob_name blob) (compared named)) source e in
+    let name = found_of (blob_name blob) (compared given.value) source given.came in
+    let same = next_of (other_key given.value name.value.key) (source_in view op blob name.value) source name.came in
+    let held = found_of (held_key view op name.value.key) (λ (row : KeyRow). Ok (record { row = row; version = name.value.version; bytes = blob })) source same in
+    record {
+      name = name.value;
+      named = ok_of (named_in blob) refusal.InvalidCiphertext name.value name.is;
+      bytes = sym (ap (λ (s : Source). s.bytes) (ok_same (record { row = held.value; version = name.value.version; bytes = blob }) source held.came));
+    }
+
+draws_size : (facts : RealmFacts) (size : ℕ) (places : Places) → length (draws facts size places) ≡ size
+unfolding draws
+draws_size facts size places = draw_length _ places.words size
+
+sized_draw : (facts : RealmFacts) (size : ℕ) (places : Places) (text : List ℕ) → text ≡ draws facts size places → (1 ≤ size) × (size ≤ 1024) → IsText text
+sized_draw facts size places text is sized =
+    let size_is : length text ≡ size = ap length is ∙ draws_size facts size places in
+    (omega (arith, sized.0), omega (arith, sized.1))
+
+-- ---- what was sealed, under which key, with which initialization vector
+
 pub record IsSealed (facts : RealmFacts) (history : List Entry) (x : Ask) (places : Places) (s : Sealing) : Type 0 where
   pub row : KeyRow
   pub there : key_with (replay history).keys row.key ≡ Some row
@@ -69,195 +136,132 @@ pub record IsSealed (facts : RealmFacts) (history : List Entry) (x : Ask) (place
   pub ivs : (decide facts history x places).places.ivs ≡ places.ivs + 1
   pub size : IsProper facts x → IsText s.plaintext
 
--- the key that a sealing is by is there, and an initialization vector is left
-record IsKey (keys : List KeyRow) (places : Places) (row : KeyRow) : Type 0 where
-  there : key_with keys row.key ≡ Some row
-  few : places.ivs < 2 ^ 48
-
-same_row : (keys : List KeyRow) (places : Places) (first row : KeyRow) → ◌≡◌ {A = Result KeyRow Refusal} (Ok first) (Ok row) → IsKey keys places first → IsKey keys places row
-same_row keys places first row e is = let same : first ≡ row = cc in subst (IsKey keys places) same is
-
-encrypt_key : (keys : List KeyRow) (e : Encrypt) (places : Places) (row : KeyRow) → encrypting_key keys e places ≡ Ok row → IsKey keys places row
-encrypt_key keys e places row is =
-    let found = found_of (key_of keys e.key_id) (λ r. unless (unfit e.algorithm) (unless (no_more_ivs places) (unless (only_asked e.dry_run) (Ok r)))) row is in
-    let fit = next_of (unfit e.algorithm) (unless (no_more_ivs places) (unless (only_asked e.dry_run) (Ok found.value))) row found.came in
-    let left = next_of (no_more_ivs places) (unless (only_asked e.dry_run) (Ok found.value)) row fit in
-    same_row keys places found.value row (next_of (only_asked e.dry_run) (Ok found.value) row left) (record {
-      there = key_there keys e.key_id found.value found.is;
-      few = few_of places (none_of (no_more_ivs places) (unless (only_asked e.dry_run) (Ok found.value)) row fit);
-    })
-
-data_key_is : (keys : List KeyRow) (key : DataKey) (recipient : Bool) (places : Places) (row : KeyRow) → data_key_key keys key recipient places ≡ Ok row → IsKey keys places row
-data_key_is keys key recipient places row is =
-    let asked : KeyRow → Result KeyRow Refusal = λ r. unless (only_asked key.dry_run) (Ok r) in
-    let sealing : KeyRow → Result KeyRow Refusal = λ r. unless (no_more_ivs places) (asked r) in
-    let drawing : KeyRow → Result KeyRow Refusal = λ r. unless (no_more_draws key.size places) (sealing r) in
-    let found = found_of (key_of keys key.key_id) (λ r. unless (unsupported recipient Recipient) (drawing r)) row is in
-    let drawn = next_of (unsupported recipient Recipient) (drawing found.value) row found.came in
-    let left = next_of (no_more_draws key.size places) (sealing found.value) row drawn in
-    let served = next_of (no_more_ivs places) (asked found.value) row left in
-    same_row keys places found.value row (next_of (only_asked key.dry_run) (Ok found.value) row served) (record {
-      there = key_there keys key.key_id found.value found.is;
-      few = few_of places (none_of (no_more_ivs places) (asked found.value) row left);
-    })
-
--- ---- ReEncrypt
-
 opened_is : (b : Bool) (o : Option (List ℕ)) (text plaintext : List ℕ) → (if b then ok_or o refusal.InvalidCiphertext else Err refusal.InvalidCiphertext) ≡ Ok text
     → o ≡ Some plaintext → plaintext ≡ text
 opened_is true (Some found) text plaintext e is = cc
 opened_is true None text plaintext e is = cc
 opened_is false o text plaintext e is = cc
 
--- what it opens to is the text that it seals
-record IsTurned (facts : RealmFacts) (keys : List KeyRow) (places : Places) (r : ReEncrypt) (turning : Turns) (text plaintext : List ℕ) : Type 0 where
-  key : IsKey keys places turning.row
-  same : plaintext ≡ text
-  size : IsText plaintext
-
-module _ (facts : RealmFacts) (keys : List KeyRow) (caller : Principal) (places : Places) (r : ReEncrypt) where
-  -- the keys of its steps
-  record HasTurned (turning : Turns) : Type 0 where
-    there : key_with keys turning.row.key ≡ Some turning.row
-    name : BlobName
-    named : named_in r.blob ≡ Some name
-
-  turning_is : (turning : Turns) → turning_keys facts keys caller r ≡ Ok turning → HasTurned turning
-  turning_is turning is =
-      let fit : Source → KeyRow → Result Turns Refusal = λ source row. unless (unfit r.algorithm) (Ok (record { source = source; row = row })) in
-      let whole : Source → KeyRow → Result Turns Refusal = λ source row. unless (unfit r.source_algorithm) (fit source row) in
-      let source = found_of (source_of facts keys caller action.ReEncryptFrom r.source_key_id r.blob) (λ source. and_then (key_of keys r.key_id) (whole source)) turning is in
-      let row = found_of (key_of keys r.key_id) (whole source.value) turning source.came in
-      let first = next_of (unfit r.source_algorithm) (fit source.value row.value) turning row.came in
-      let second = next_of (unfit r.algorithm) (Ok (record { source = source.value; row = row.value })) turning first in
-      let same : row.value ≡ turning.row = ap (λ (t : Turns). t.row) (ok_same (record { source = source.value; row = row.value }) turning second) in
-      let name = source_named facts keys caller action.ReEncryptFrom r.source_key_id r.blob source.value source.is in
-      record {
-        there = subst (λ (found : KeyRow). key_with keys found.key ≡ Some found) same (key_there keys r.key_id row.value row.is);
-        name = name.0;
-        named = name.1;
-      }
-
-  turned : (turning : Turns) (text plaintext : List ℕ) → turning_keys facts keys caller r ≡ Ok turning → turned_text facts turning r places ≡ Ok text
-      → opened facts.root r.blob r.source_context ≡ Some plaintext → IsTurned facts keys places r turning text plaintext
-  turned turning text plaintext keys_are is opens_to =
-      let turns = turning_is turning keys_are in
-      let asked : List ℕ → Result (List ℕ) Refusal = λ t. unless (only_asked r.dry_run) (Ok t) in
-      let found = found_of (opens facts turning.source r.blob r.source_context) (λ t. unless (no_more_ivs places) (asked t)) text is in
-      let left = next_of (no_more_ivs places) (asked found.value) text found.came in
-      record {
-        key = record { there = turns.there; few = few_of places (none_of (no_more_ivs places) (asked found.value) text found.came) };
-        same = opened_is (nat_le turning.source.version 1) (opened facts.root r.blob r.source_context) found.value plaintext found.is opens_to
-            ∙ ok_same found.value text (next_of (only_asked r.dry_run) (Ok found.value) text left);
-        size = opened_size facts.root r.blob r.source_context turns.name plaintext turns.named opens_to;
-      }
-
--- ---- each operation that seals, from its key on
-
 module _ (facts : RealmFacts) (history : List Entry) (x : Ask) (places : Places) where
-  abbrev keys : List KeyRow
-  keys = (replay history).keys
+  abbrev view : View
+  view = view_of facts history x places
 
-  abbrev places_left : Places
-  places_left = (decide facts history x places).places
+  -- where a request that is served, and takes one initialization vector, leaves the pass
+  record LeavesOne (uses : Uses) : Type 0 where
+    few : places.ivs < 2 ^ 48
+    number : (decide facts history x places).places.number ≡ places.number
+    ivs : (decide facts history x places).places.ivs ≡ places.ivs + 1
 
-  encrypt_seals : (e : Encrypt) (row : KeyRow) (blob arn : List ℕ) → x.body ≡ ask.Encrypt e → IsKey keys places row → places_left ≡ one_iv places
-      → ◌≡◌ {A = Result Reply Refusal} (Ok (reply.Encrypted (seals facts row e.context e.plaintext places) (arn_of facts row.key))) (Ok (reply.Encrypted blob arn))
-      → IsSealed facts history x places (record { blob = blob; plaintext = e.plaintext; context = e.context; arn = arn })
-  encrypt_seals e row blob arn body key uses came = record {
-    row = row;
-    there = key.there;
-    blob = cc;
-    arn = cc;
-    few = key.few;
-    number = ap (λ (p : Places). p.number) uses;
-    ivs = ap (λ (p : Places). p.ivs) uses;
-    size = λ proper. subst IsSized body (asked_sized proper.target proper.text x.body proper.body);
-  }
-
-  re_encrypt_seals : (r : ReEncrypt) (turning : Turns) (text blob plaintext arn source_arn : List ℕ) → IsTurned facts keys places r turning text plaintext → places_left ≡ one_iv places
-      → ◌≡◌ {A = Result Reply Refusal} (Ok (reply.ReEncrypted (seals facts turning.row r.context text places) (arn_of facts turning.row.key) (arn_of facts turning.source.row.key)))
-      (Ok (reply.ReEncrypted blob arn source_arn))
-      → IsSealed facts history x places (record { blob = blob; plaintext = plaintext; context = r.context; arn = arn })
-  re_encrypt_seals r turning text blob plaintext arn source_arn turned uses came =
-      let blob_is : blob ≡ seals facts turning.row r.context text places = cc in
+  leaves_one : (body : Reading) (r : Reply) (uses : Uses) (served : Serves facts history x places body r) → uses.ivs ≡ 1 → limited view (takes uses) ≡ None
+      → takes uses ≡ served.out.effect → LeavesOne uses
+  leaves_one body r uses served one left effect =
+      let at : (decide facts history x places).places ≡ after places (takes uses) = served.places_are ∙ sym (ap (after places) effect) in
       record {
-        row = turning.row;
-        there = turned.key.there;
-        blob = blob_is ∙ ap (λ (t : List ℕ). seals facts turning.row r.context t places) (sym turned.same);
-        arn = cc;
-        few = turned.key.few;
-        number = ap (λ (p : Places). p.number) uses;
-        ivs = ap (λ (p : Places). p.ivs) uses;
-        size = λ proper. turned.size;
+        few = few_of places uses one left;
+        number = ap (λ (p : Places). p.number) at;
+        ivs = ap (λ (p : Places). p.ivs) at ∙ ap (λ (n : ℕ). places.ivs + n) one;
       }
 
-  data_key_seals : (key : DataKey) (recipient : Bool) (row : KeyRow) (blob plaintext arn : List ℕ) → x.body ≡ ask.GenerateDataKey key recipient → IsKey keys places row
-      → places_left ≡ after_data_key key places
-      → ◌≡◌ {A = Result Reply Refusal} (Ok (reply.DataKey (seals facts row key.context (draws facts key.size places) places) (draws facts key.size places) (arn_of facts row.key)))
-      (Ok (reply.DataKey blob plaintext arn))
-      → IsSealed facts history x places (record { blob = blob; plaintext = plaintext; context = key.context; arn = arn })
-  data_key_seals key recipient row blob plaintext arn body is uses came =
-      let blob_is : blob ≡ seals facts row key.context (draws facts key.size places) places = cc in
-      let drawn : plaintext ≡ draws facts key.size places = cc in
-      record {
-        row = row;
-        there = is.there;
-        blob = blob_is ∙ ap (λ (t : List ℕ). seals facts row key.context t places) (sym drawn);
-        arn = cc;
-        few = is.few;
-        number = ap (λ (p : Places). p.number) uses;
-        ivs = ap (λ (p : Places). p.ivs) uses;
-        size = λ proper.
-            let sized : IsSized (ask.GenerateDataKey key recipient) = subst IsSized body (asked_sized proper.target proper.text x.body proper.body) in
-            sized_draw facts key.size places plaintext drawn sized;
-      }
+  sized : (body : Reading) → x.body ≡ ask.Read body → IsProper facts x → IsSizedReading body
+  sized body is proper = subst IsSized is (asked_sized proper.target proper.text x.body proper.body)
 
-  sealed_data_key_seals : (key : DataKey) (row : KeyRow) (blob arn : List ℕ) → x.body ≡ ask.GenerateDataKeyWithoutPlaintext key → IsKey keys places row
-      → places_left ≡ after_data_key key places
-      → ◌≡◌ {A = Result Reply Refusal} (Ok (reply.SealedDataKey (seals facts row key.context (draws facts key.size places) places) (arn_of facts row.key))) (Ok (reply.SealedDataKey blob arn))
-      → IsSealed facts history x places (record { blob = blob; plaintext = draws facts key.size places; context = key.context; arn = arn })
-  sealed_data_key_seals key row blob arn body is uses came = record {
-    row = row;
-    there = is.there;
-    blob = cc;
-    arn = cc;
-    few = is.few;
-    number = ap (λ (p : Places). p.number) uses;
-    ivs = ap (λ (p : Places). p.ivs) uses;
-    size = λ proper.
-        let sized : IsSized (ask.GenerateDataKeyWithoutPlaintext key) = subst IsSized body (asked_sized proper.target proper.text x.body proper.body) in
-        sized_draw facts key.size places (draws facts key.size places) refl sized;
-  }
+  -- the turning's keys, and what it opens to
+  record HasTurned (r : ReEncrypt) (turning : Turning) : Type 0 where
+    there : key_with view.keys turning.row.key ≡ Some turning.row
+    source : IsSourceOf r.blob turning.source
+
+  turning_is : (r : ReEncrypt) (turning : Turning) → (re_encrypts view r).found ≡ Ok turning → HasTurned r turning
+  turning_is r turning e =
+      let made : Source → KeyRow → Result Turning Refusal = λ source row. Ok (record { source = source; row = row }) in
+      let source = found_of (source_of view action.ReEncryptFrom r.source_key_id r.blob) (λ (s : Source). and_then (key_of view.keys r.key_id) (made s)) turning e in
+      let row = found_of (key_of view.keys r.key_id) (made source.value) turning source.came in
+      let same : ◌≡◌ {A = Turning} (record { source = source.value; row = row.value }) turning = ok_same (record { source = source.value; row = row.value }) turning row.came in
+      subst (HasTurned r) same (record {
+        there = key_there view.keys r.key_id row.value row.is;
+        source = source_named view action.ReEncryptFrom r.source_key_id r.blob source.value source.is;
+      })
+
+  turned : (r : ReEncrypt) (turning : Turning) (text plaintext : List ℕ) → HasTurned r turning → (re_encrypts view r).own turning ≡ Ok text
+      → opened facts.root r.blob r.source_context ≡ Some plaintext → plaintext ≡ text
+  turned r turning text plaintext turns own opens_to =
+      let second = next_of (unfit r.source_algorithm) (unless (unfit r.algorithm) (opens facts turning.source r.source_context)) text own in
+      let third = next_of (unfit r.algorithm) (opens facts turning.source r.source_context) text second in
+      opened_is (nat_le turning.source.version 1) (opened facts.root turning.source.bytes r.source_context) text plaintext third
+      (ap (λ (bytes : List ℕ). opened facts.root bytes r.source_context) turns.source.bytes ∙ opens_to)
 
 -- ---- a request that was answered with a sealed text
 
 pub is_sealed : (facts : RealmFacts) (history : List Entry) (x : Ask) (places : Places) (s : Sealing) → HasSealed facts history x places s → IsSealed facts history x places s
 is_sealed facts history x places s (encrypted e blob arn body replied) =
-    let keys : List KeyRow = (replay history).keys in
-    let answer : KeyRow → Result Reply Refusal = λ row. Ok (reply.Encrypted (seals facts row e.context e.plaintext places) (arn_of facts row.key)) in
-    let out = outcome_is facts history x places (ask.Encrypt e) (encrypted_reply facts keys e places) (one_iv places) (reply.Encrypted blob arn) body refl (λ why same. cc) replied in
-    let found = found_of (encrypting_key keys e places) answer (reply.Encrypted blob arn) out.reply_is in
-    encrypt_seals facts history x places e found.value blob arn body (encrypt_key keys e places found.value found.is) out.places_are found.came
+    let seen = view_of facts history x places in
+    let served = serves_of facts history x places (reading.Encrypt e) (reply.Encrypted blob arn) body (λ why same. cc) replied in
+    let p = passed seen (encrypts seen e) served.out served.is in
+    let came : reply.Encrypted (seals facts p.found e.context e.plaintext places) (arn_of facts p.found.key) ≡ reply.Encrypted blob arn =
+    ap (λ (o : Outcome). o.reply) p.outcome_is ∙ served.reply_is in
+    let one = leaves_one facts history x places (reading.Encrypt e) (reply.Encrypted blob arn) one_iv served refl p.left (ap (λ (o : Outcome). o.effect) p.outcome_is) in
+    record {
+      row = p.found;
+      there = key_there seen.keys e.key_id p.found p.found_is;
+      blob = cc;
+      arn = cc;
+      few = one.few;
+      number = one.number;
+      ivs = one.ivs;
+      size = λ proper. sized facts history x places (reading.Encrypt e) body proper;
+    }
 is_sealed facts history x places s (re_encrypted r blob plaintext arn source_arn body opens_to replied) =
-    let keys : List KeyRow = (replay history).keys in
-    let answer : Turns → List ℕ → Result Reply Refusal =
-    λ turning text. Ok (reply.ReEncrypted (seals facts turning.row r.context text places) (arn_of facts turning.row.key) (arn_of facts turning.source.row.key)) in
-    let out = outcome_is facts history x places (ask.ReEncrypt r) (re_encrypted_reply facts keys x.caller r places) (one_iv places) (reply.ReEncrypted blob arn source_arn) body refl (λ why same. cc) replied in
-    let found = found_of (turning_keys facts keys x.caller r) (λ turning. and_then (turned_text facts turning r places) (answer turning)) (reply.ReEncrypted blob arn source_arn) out.reply_is in
-    let text = found_of (turned_text facts found.value r places) (answer found.value) (reply.ReEncrypted blob arn source_arn) found.came in
-    re_encrypt_seals facts history x places r found.value text.value blob plaintext arn source_arn
-    (turned facts keys x.caller places r found.value text.value plaintext found.is text.is opens_to) out.places_are text.came
+    let seen = view_of facts history x places in
+    let served = serves_of facts history x places (reading.ReEncrypt r) (reply.ReEncrypted blob arn source_arn) body (λ why same. cc) replied in
+    let p = passed seen (re_encrypts seen r) served.out served.is in
+    let came : reply.ReEncrypted (seals facts p.found.row r.context p.ready places) (arn_of facts p.found.row.key) (arn_of facts p.found.source.row.key) ≡ reply.ReEncrypted blob arn source_arn =
+    ap (λ (o : Outcome). o.reply) p.outcome_is ∙ served.reply_is in
+    let one = leaves_one facts history x places (reading.ReEncrypt r) (reply.ReEncrypted blob arn source_arn) one_iv served refl p.left (ap (λ (o : Outcome). o.effect) p.outcome_is) in
+    let turns = turning_is facts history x places r p.found p.found_is in
+    let same = turned facts history x places r p.found p.ready plaintext turns p.own_is opens_to in
+    let blob_is : blob ≡ seals facts p.found.row r.context p.ready places = cc in
+    record {
+      row = p.found.row;
+      there = turns.there;
+      blob = blob_is ∙ ap (λ (t : List ℕ). seals facts p.found.row r.context t places) (sym same);
+      arn = cc;
+      few = one.few;
+      number = one.number;
+      ivs = one.ivs;
+      size = λ proper. opened_size facts.root r.blob r.source_context turns.source.name plaintext turns.source.named opens_to;
+    }
 is_sealed facts history x places s (data_key key recipient blob plaintext arn body replied) =
-    let keys : List KeyRow = (replay history).keys in
-    let answer : KeyRow → Result Reply Refusal =
-    λ row. Ok (reply.DataKey (seals facts row key.context (draws facts key.size places) places) (draws facts key.size places) (arn_of facts row.key)) in
-    let out = outcome_is facts history x places (ask.GenerateDataKey key recipient) (data_key_reply facts keys key recipient places) (after_data_key key places) (reply.DataKey blob plaintext arn) body refl (λ why same. cc) replied in
-    let found = found_of (data_key_key keys key recipient places) answer (reply.DataKey blob plaintext arn) out.reply_is in
-    data_key_seals facts history x places key recipient found.value blob plaintext arn body (data_key_is keys key recipient places found.value found.is) out.places_are found.came
+    let seen = view_of facts history x places in
+    let served = serves_of facts history x places (reading.GenerateDataKey key recipient) (reply.DataKey blob plaintext arn) body (λ why same. cc) replied in
+    let p = passed seen (generates_data_key seen key recipient) served.out served.is in
+    let came : reply.DataKey (seals facts p.found key.context (draws facts key.size places) places) (draws facts key.size places) (arn_of facts p.found.key) ≡ reply.DataKey blob plaintext arn =
+    ap (λ (o : Outcome). o.reply) p.outcome_is ∙ served.reply_is in
+    let one = leaves_one facts history x places (reading.GenerateDataKey key recipient) (reply.DataKey blob plaintext arn) (words_and_iv key.size) served refl p.left (ap (λ (o : Outcome). o.effect) p.outcome_is) in
+    let blob_is : blob ≡ seals facts p.found key.context (draws facts key.size places) places = cc in
+    let drawn : plaintext ≡ draws facts key.size places = cc in
+    record {
+      row = p.found;
+      there = key_there seen.keys key.key_id p.found p.found_is;
+      blob = blob_is ∙ ap (λ (t : List ℕ). seals facts p.found key.context t places) (sym drawn);
+      arn = cc;
+      few = one.few;
+      number = one.number;
+      ivs = one.ivs;
+      size = λ proper. sized_draw facts key.size places plaintext drawn (sized facts history x places (reading.GenerateDataKey key recipient) body proper);
+    }
 is_sealed facts history x places s (sealed_data_key key blob arn body replied) =
-    let keys : List KeyRow = (replay history).keys in
-    let answer : KeyRow → Result Reply Refusal = λ row. Ok (reply.SealedDataKey (seals facts row key.context (draws facts key.size places) places) (arn_of facts row.key)) in
-    let out = outcome_is facts history x places (ask.GenerateDataKeyWithoutPlaintext key) (sealed_data_key_reply facts keys key places) (after_data_key key places) (reply.SealedDataKey blob arn) body refl (λ why same. cc) replied in
-    let found = found_of (data_key_key keys key false places) answer (reply.SealedDataKey blob arn) out.reply_is in
-    sealed_data_key_seals facts history x places key found.value blob arn body (data_key_is keys key false places found.value found.is) out.places_are found.came
+    let seen = view_of facts history x places in
+    let served = serves_of facts history x places (reading.GenerateDataKeyWithoutPlaintext key) (reply.SealedDataKey blob arn) body (λ why same. cc) replied in
+    let p = passed seen (generates_sealed_data_key seen key) served.out served.is in
+    let came : reply.SealedDataKey (seals facts p.found key.context (draws facts key.size places) places) (arn_of facts p.found.key) ≡ reply.SealedDataKey blob arn =
+    ap (λ (o : Outcome). o.reply) p.outcome_is ∙ served.reply_is in
+    let one = leaves_one facts history x places (reading.GenerateDataKeyWithoutPlaintext key) (reply.SealedDataKey blob arn) (words_and_iv key.size) served refl p.left (ap (λ (o : Outcome). o.effect) p.outcome_is) in
+    record {
+      row = p.found;
+      there = key_there seen.keys key.key_id p.found p.found_is;
+      blob = cc;
+      arn = cc;
+      few = one.few;
+      number = one.number;
+      ivs = one.ivs;
+      size = λ proper. sized_draw facts key.size places (draws facts key.size places) refl (sized facts history x places (reading.GenerateDataKeyWithoutPlaintext key) body proper);
+    }

@@ -1,12 +1,12 @@
 mod Histories
-mod Decisions
 mod KeyIds
 mod BlobNames
 mod Openings
-mod Settling
 mod Drawing
+mod Decisions
 pub mod GoingOn
+mod Passing
+pub mod EntryFacts
 mod LawRows
-mod LawSteps
 mod LawSealings
-mod LawFacts
+pub mod LawFacts

@@ -1,11 +1,13 @@
 -- Laws of what the account seals.
-use Rattle.std.specs.Prelude.{◌≡◌, ◌≢◌, ℕ, ◌<◌, List, ◌++◌, length, slice_index, slice_range, Bool, false, Option, Some, None}
+use Rattle.std.specs.Prelude.{◌≡◌, ◌≢◌, ◌^◌, ℕ, ◌<◌, List, ◌++◌, length, slice_index, slice_range, Bool, false, Option, Some, None}
+use Rattle.std.specs.List.Sorted.{IsNonDecreasingBy}
 use Rattle.uuid.specs.Text.{parsed_hyphenated}
 use Rattle.blob_format.specs.Blob.{IsBlobText}
 use Rattle.enc_context.specs.declared.pairs.Pair.{Pair}
 use Rattle.crypto_ops.specs.Sealed.{opened}
 use Rattle.kms_json.specs.declared.asks.Ask.{Ask}
 use Rattle.kms_json.specs.declared.asks.AskBody.TheVariants as ask
+use Rattle.kms_json.specs.declared.asks.Reading.TheVariants as reading
 use Rattle.kms_json.specs.declared.asks.Encrypt.{Encrypt}
 use Rattle.kms_json.specs.declared.asks.Decrypt.{Decrypt}
 use Rattle.kms_json.specs.declared.asks.ReEncrypt.{ReEncrypt}
@@ -14,7 +16,8 @@ use Rattle.kms_json.specs.declared.replies.Reply.{Reply}
 use Rattle.kms_json.specs.declared.replies.Reply.TheVariants as reply
 use Rattle.account_core.specs.declared.facts.RealmFacts.{RealmFacts}
 use Rattle.account_core.specs.declared.entries.Entry.{Entry}
-use Rattle.account_core.specs.Places.{Places}
+use Rattle.account_core.specs.Ids.{key_id_at}
+use Rattle.account_core.specs.Places.{Places, IsUpTo}
 use Rattle.account_core.specs.Blobs.{BlobName, name_in, named_in}
 use Rattle.account_core.specs.Steps.{unfit, draws}
 use Rattle.account_core.specs.Decide.{lacking, decide, IsProper, IsLawful}
@@ -32,15 +35,15 @@ reply_to facts history x places = (decide facts history x places).reply
 -- the reply to the request holds this sealed text: that of an Encrypt is what it gives, that of a ReEncrypt what its blob opens
 -- to, and that of a data key what is drawn for it, whether the reply shows it or not
 pub data HasSealed (facts : RealmFacts) (history : List Entry) (x : Ask) (places : Places) : Sealing → Type 0 where
-  encrypted : (e : Encrypt) (blob arn : List ℕ) → x.body ≡ ask.Encrypt e → reply_to facts history x places ≡ reply.Encrypted blob arn
+  encrypted : (e : Encrypt) (blob arn : List ℕ) → x.body ≡ ask.Read (reading.Encrypt e) → reply_to facts history x places ≡ reply.Encrypted blob arn
       → HasSealed facts history x places (record { blob = blob; plaintext = e.plaintext; context = e.context; arn = arn })
-  re_encrypted : (r : ReEncrypt) (blob plaintext arn source_arn : List ℕ) → x.body ≡ ask.ReEncrypt r
+  re_encrypted : (r : ReEncrypt) (blob plaintext arn source_arn : List ℕ) → x.body ≡ ask.Read (reading.ReEncrypt r)
       → opened facts.root r.blob r.source_context ≡ Some plaintext → reply_to facts history x places ≡ reply.ReEncrypted blob arn source_arn
       → HasSealed facts history x places (record { blob = blob; plaintext = plaintext; context = r.context; arn = arn })
-  data_key : (key : DataKey) (recipient : Bool) (blob plaintext arn : List ℕ) → x.body ≡ ask.GenerateDataKey key recipient
+  data_key : (key : DataKey) (recipient : Bool) (blob plaintext arn : List ℕ) → x.body ≡ ask.Read (reading.GenerateDataKey key recipient)
       → reply_to facts history x places ≡ reply.DataKey blob plaintext arn
       → HasSealed facts history x places (record { blob = blob; plaintext = plaintext; context = key.context; arn = arn })
-  sealed_data_key : (key : DataKey) (blob arn : List ℕ) → x.body ≡ ask.GenerateDataKeyWithoutPlaintext key
+  sealed_data_key : (key : DataKey) (blob arn : List ℕ) → x.body ≡ ask.Read (reading.GenerateDataKeyWithoutPlaintext key)
       → reply_to facts history x places ≡ reply.SealedDataKey blob arn
       → HasSealed facts history x places (record { blob = blob; plaintext = draws facts key.size places; context = key.context; arn = arn })
 
@@ -53,7 +56,7 @@ NoneOrNames (Some reference) key = parsed_hyphenated reference ≡ Some key
 -- blob's, any algorithm is that of symmetric keys, it has no Recipient and no DryRun, and waits for no more entries
 pub record AsksToOpen (y : Ask) (entries : ℕ) (blob : List ℕ) (context : List Pair) : Type 0 where
   pub fields : Decrypt
-  pub body : y.body ≡ ask.Decrypt fields
+  pub body : y.body ≡ ask.Read (reading.Decrypt fields)
   pub same_blob : fields.blob ≡ blob
   pub same_context : fields.context ≡ context
   pub right_key : NoneOrNames fields.key_id (name_in blob).key
@@ -71,10 +74,11 @@ SealedIsDecryptedAgain =
     → AsksToOpen y (length (history ++ more)) sealing.blob sealing.context
     → reply_to facts (history ++ more) y other_places ≡ reply.Decrypted sealing.plaintext sealing.arn
 
--- where a pass's requests, each at some history, leave its places
+-- where a pass's requests, each at some history, leave its places: where their decisions say, or for want of memory at most there
 pub data PassGoesOn (facts : RealmFacts) : Places → Places → Type 0 where
   no_request : (places : Places) → PassGoesOn facts places places
   one_more : {from to : Places} (history : List Entry) (x : Ask) → PassGoesOn facts from to → PassGoesOn facts from (decide facts history x to).places
+  wants_memory : {from to : Places} (history : List Entry) (x : Ask) (left : Places) → PassGoesOn facts from to → IsUpTo to left (decide facts history x to).places → PassGoesOn facts from left
 
 -- the initialization vector that a blob says
 abbrev pub iv_in : List ℕ → List ℕ
@@ -100,3 +104,11 @@ abbrev pub NamedAreBlobs : Type 0
 NamedAreBlobs =
     (bytes : List ℕ) (name : BlobName) → ((i : ℕ) → slice_index bytes i < 256) → named_in bytes ≡ Some name
     → (iv : List ℕ) × (text : List ℕ) × (tag : List ℕ) × IsBlobText bytes name.key name.version iv text tag
+
+-- along a lawful history times never fall
+abbrev pub TimesNeverFall : Type 0
+TimesNeverFall = (facts : RealmFacts) (history : List Entry) → IsLawful facts history → IsNonDecreasingBy (λ entry. entry.time) history
+
+-- keys that entries at different places make have different ids
+abbrev pub KeysDiffer : Type 0
+KeysDiffer = (facts : RealmFacts) (p q : ℕ) → p < 2 ^ 48 → q < 2 ^ 48 → key_id_at facts p ≡ key_id_at facts q → p ≡ q

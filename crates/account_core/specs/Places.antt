@@ -1,22 +1,18 @@
 -- What a pass has used of its random stream and of its initialization vectors.
-use Rattle.std.specs.Prelude.{◌≡◌, ℕ, ◌+◌, ◌≤◌}
-use Rattle.draw_lines.specs.Draw.{words_for}
+use Rattle.std.specs.Prelude.{◌≡◌, ℕ, ◌≤◌}
 use Rattle.draw_lines.specs.Line.{Line}
 use Rattle.account_core.specs.declared.facts.RealmFacts.{RealmFacts}
+pub use Rattle.account_core.specs.declared.places.Places.{Places}
+use Rattle.account_core.specs.declared.places.Uses.{Uses}
 use Rattle.account_core.specs.Ids.{draw_seed}
 
--- the pass's number, and how many words and initialization vectors it has used
-pub record Places : Type 0 where
-  pub number : ℕ
-  pub words : ℕ
-  pub ivs : ℕ
+-- nothing of the pass
+abbrev pub nothing_used : Uses
+nothing_used = record { words = 0; ivs = 0 }
 
-abbrev pub one_iv : Places → Places
-one_iv places = record { number = places.number; words = places.words; ivs = places.ivs + 1 }
-
--- the whole words that hold so many bytes
-abbrev pub more_words : ℕ → Places → Places
-more_words size places = record { number = places.number; words = places.words + words_for size; ivs = places.ivs }
+-- the first pass, which has used nothing
+abbrev pub no_places : Places
+no_places = record { number = 1; words = 0; ivs = 0 }
 
 -- where a line of draws stands
 abbrev pub places_of : Line → Places

@@ -1,54 +1,28 @@
--- The steps of a decision that operations share. The first that refuses decides.
-use Rattle.std.specs.Prelude.{◌≡◌, ℕ, ◌+◌, ◌^◌, List, codes, nat_le, nat_lt, Bool, if◌then◌else◌, Option, Some, None, Result, Ok, Err, ok_or, ⊤}
+-- The steps that operations share. The first that refuses decides.
+use Rattle.std.specs.Prelude.{◌≡◌, ℕ, ◌+◌, List, codes, nat_le, Bool, if◌then◌else◌, Option, Some, None, Result, Ok, Err, ok_or, ⊤}
 use Rattle.std.specs.Str.{bytes_eq}
-use Rattle.draw_lines.specs.Draw.{words_for, draw_at}
+use Rattle.draw_lines.specs.Draw.{draw_at}
 use Rattle.draw_lines.specs.Iv.{iv_at}
-use Rattle.draw_lines.specs.Line.{Line}
 use Rattle.enc_context.specs.declared.pairs.Pair.{Pair}
 use Rattle.crypto_ops.specs.Sealed.{sealed, opened}
 use Rattle.kms_names.specs.Reference.{key_arn_text}
 use Rattle.kms_names.specs.declared.actions.Action.{Action}
 use Rattle.kms_names.specs.declared.principals.Principal.{Principal}
-use Rattle.kms_json.specs.declared.replies.Reply.{Reply}
-use Rattle.kms_json.specs.declared.replies.Reply.TheVariants.{Refused}
 use Rattle.kms_json.specs.declared.replies.Refusal.{Refusal}
 use Rattle.kms_json.specs.declared.replies.Refusal.TheVariants as refusal
 use Rattle.kms_json.specs.declared.replies.Missing.TheVariants as missing
-use Rattle.kms_json.specs.declared.replies.Limit.TheVariants as limit
 use Rattle.kms_json.specs.declared.replies.Unsupported.{Unsupported}
 use Rattle.account_core.specs.declared.facts.RealmFacts.{RealmFacts}
-use Rattle.account_core.specs.declared.entries.Entry.{Entry}
 use Rattle.account_core.specs.declared.rows.KeyRow.{KeyRow}
-use Rattle.blob_format.specs.declared.reading.Blob.{Blob}
-use Rattle.account_core.specs.declared.sources.Sealed.{Sealed}
 use Rattle.account_core.specs.declared.stops.Stop.{Stop}
 use Rattle.account_core.specs.declared.stops.Stop.TheVariants as stop
+use Rattle.blob_format.specs.declared.reading.Blob.{Blob}
 use Rattle.account_core.specs.Blobs.{BlobName, named_in}
 use Rattle.account_core.specs.Ids.{draw_seed}
 use Rattle.account_core.specs.History.{key_named, key_with}
-use Rattle.account_core.specs.Places.{Places, places_of, line_at, IsWithin}
-
--- ---- what is decided
-
--- the reply, the entry that the request appends, if any, and the places after it
-pub record Decided : Type 0 where
-  pub reply : Reply
-  pub entry : Option Entry
-  pub places : Places
-
-abbrev pub refuses : Refusal → Places → Decided
-refuses why places = record { reply = Refused why; entry = None; places = places }
-
-abbrev pub serves : Reply → Places → Decided
-serves reply places = record { reply = reply; entry = None; places = places }
-
-abbrev pub appends : Reply → Entry → Places → Decided
-appends reply entry places = record { reply = reply; entry = Some entry; places = places }
-
--- an answer that is served alone uses places
-abbrev pub decided_by : Result Reply Refusal → Places → Places → Decided
-decided_by (Err why) places after = refuses why places
-decided_by (Ok reply) places after = serves reply after
+use Rattle.account_core.specs.Places.{Places}
+use Rattle.account_core.specs.Source.{Source}
+use Rattle.account_core.specs.View.{View}
 
 -- ---- one step after another
 
@@ -79,13 +53,6 @@ abbrev pub stopping : Option Refusal → Result ⊤ Stop
 stopping (Some why) = Err (stop.Refused why)
 stopping None = Ok tt
 
--- the answer is the one that is asked for, and the line of draws has gone on by what it uses; a refusal uses nothing, and
--- without memory at most what the answer would use is used
-abbrev pub Settles : Result Reply Refusal → Line → Places → Result Reply Stop → Line → Type 0
-Settles wanted old after (Ok reply) new = (wanted ≡ Ok reply) × (new ≡ line_at old after)
-Settles wanted old after (Err (stop.Refused why)) new = (wanted ≡ Err why) × (new ≡ old)
-Settles wanted old after (Err stop.NoMemory) new = IsWithin old new (decided_by wanted (places_of old) after).places
-
 -- ---- the steps
 
 -- an algorithm that is given is that of symmetric keys
@@ -95,17 +62,6 @@ unfit (Some name) = if bytes_eq name (codes "SYMMETRIC_DEFAULT") then None else 
 
 abbrev pub unsupported : Bool → Unsupported → Option Refusal
 unsupported given field = if given then Some (refusal.UnsupportedOperation field) else None
-
--- a pass gives 2^48 initialization vectors
-abbrev pub no_more_ivs : Places → Option Refusal
-no_more_ivs places = if nat_le (2 ^ 48) places.ivs then Some (refusal.LimitExceeded limit.Ivs) else None
-
--- a pass draws 2^48 words
-abbrev pub no_more_draws : ℕ → Places → Option Refusal
-no_more_draws size places = if nat_lt (2 ^ 48) (places.words + words_for size) then Some (refusal.LimitExceeded limit.Draws) else None
-
-abbrev pub only_asked : Bool → Option Refusal
-only_asked dry_run = if dry_run then Some refusal.DryRun else None
 
 -- the key that a reference names
 abbrev pub key_of : List KeyRow → List ℕ → Result KeyRow Refusal
@@ -125,46 +81,37 @@ other_key (Some row) key = if bytes_eq row.key key then None else Some refusal.I
 abbrev pub arn_of : RealmFacts → List ℕ → List ℕ
 arn_of facts key = key_arn_text facts.account facts.region key
 
--- the key of a sealed text, and the version that it was sealed under
-pub record Source : Type 0 where
-  pub row : KeyRow
-  pub version : ℕ
+-- the key of a blob; one that isn't there is refused as to a caller who may not use it
+abbrev pub held_key : View → Action → List ℕ → Result KeyRow Refusal
+held_key view action key = ok_or (key_with view.keys key) (refusal.AccessDenied view.caller action (arn_of view.facts key))
 
--- what the code's values say
+-- what a blob that was read names
 abbrev pub name_of : Blob → BlobName
 name_of blob = record { key = blob.key; version = blob.version }
-
-abbrev pub source_seen : Sealed → Source
-source_seen sealed = record { row = sealed.row; version = sealed.blob.version }
-
--- the key of a blob; one that isn't there is refused as to a caller who may not use it
-abbrev pub held_key : RealmFacts → List KeyRow → Principal → Action → List ℕ → Result KeyRow Refusal
-held_key facts keys caller action key = ok_or (key_with keys key) (refusal.AccessDenied caller action (arn_of facts key))
-
-abbrev pub source_in : RealmFacts → List KeyRow → Principal → Action → BlobName → Result Source Refusal
-source_in facts keys caller action name =
-    and_then (held_key facts keys caller action name.key)
-    (λ row. Ok (record { row = row; version = name.version }))
 
 -- the form of a blob
 abbrev pub blob_name : List ℕ → Result BlobName Refusal
 blob_name blob = ok_or (named_in blob) refusal.InvalidCiphertext
 
+abbrev pub source_in : View → Action → List ℕ → BlobName → Result Source Refusal
+source_in view action blob name =
+    and_then (held_key view action name.key) (λ row. Ok (record { row = row; version = name.version; bytes = blob }))
+
 -- the reference is looked up, then the blob is read, then the two are compared, then the blob's key is looked up
-abbrev pub source_of : RealmFacts → List KeyRow → Principal → Action → Option (List ℕ) → List ℕ → Result Source Refusal
-source_of facts keys caller action reference blob =
-    and_then (key_if_given keys reference)
+abbrev pub source_of : View → Action → Option (List ℕ) → List ℕ → Result Source Refusal
+source_of view action reference blob =
+    and_then (key_if_given view.keys reference)
     (λ named. and_then (blob_name blob)
-    (λ name. unless (other_key named name.key) (source_in facts keys caller action name)))
+    (λ name. unless (other_key named name.key) (source_in view action blob name)))
 
 -- every key has the one version 1
 abbrev pub newest_version : KeyRow → ℕ
 newest_version row = 1
 
 -- the version is one of the key's, and the blob opens under the context
-abbrev pub opens : RealmFacts → Source → List ℕ → List Pair → Result (List ℕ) Refusal
-opens facts source blob pairs =
-    if nat_le source.version (newest_version source.row) then ok_or (opened facts.root blob pairs) refusal.InvalidCiphertext else Err refusal.InvalidCiphertext
+abbrev pub opens : RealmFacts → Source → List Pair → Result (List ℕ) Refusal
+opens facts source pairs =
+    if nat_le source.version (newest_version source.row) then ok_or (opened facts.root source.bytes pairs) refusal.InvalidCiphertext else Err refusal.InvalidCiphertext
 
 -- a text sealed under the newest version of a key, with the pass's next initialization vector
 unfoldable pub seals : RealmFacts → KeyRow → List Pair → List ℕ → Places → List ℕ

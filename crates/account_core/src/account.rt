@@ -2,9 +2,11 @@
 ghost use Rattle.std.specs.Prelude.{◌≡◌, ◌++◌, ◌∷◌, [], length, true, false, IfOk};
 ghost use Rattle.account_core.specs.History.{keys_after};
 
-use crate::decide::{lacking_entries, make_key, no_more_keys};
-use crate::reads::read_body;
+use crate::decide::{decision_from, lacking_entries};
+use crate::operations::{change_body, read_body};
+use crate::places::Places;
 use crate::stops::Stop;
+use crate::view::View;
 use crate::{Decision, Entry, KeyRow, RealmFacts, What};
 use draw_lines::DrawLine;
 use kms_json::{Ask, AskBody, Reply};
@@ -77,6 +79,7 @@ impl Account {
     ghost use Rattle.account_core.specs.History.{latest_of, housekeeping_of};
     ghost use Rattle.std.specs.Prelude.{OnOk, OnErr};
     ghost use Rattle.account_core.specs.Places.{places_of, line_at, IsLineOf, IsWithin};
+    ghost use Rattle.account_core.specs.View.{view_of};
     ghost use Rattle.account_core.specs.Decide.{decide, decision_of, IsProper, IsNext, IsLawful};
 
     /// The account of these facts with no entries.
@@ -133,7 +136,11 @@ impl Account {
         if let Some(refusal) = lacking_entries(self.entries.len() as u64, ask.after) {
             return Ok(Reply::Refused(refusal));
         }
-        match read_body(alloc, &self.facts, &self.keys, ask, places) {
+        let AskBody::Read(body) = &ask.body else {
+            unreachable!()
+        };
+        let view = self.view(ask, Places::of(places));
+        match read_body(alloc, &view, body, places) {
             Ok(reply) => Ok(reply),
             Err(Stop::Refused(refusal)) => Ok(Reply::Refused(refusal)),
             Err(Stop::NoMemory) => Err(NoMemory),
@@ -145,25 +152,32 @@ impl Account {
         requires { changes_account ask.now.body ≡ true }
         ensures { IfOk result (λ decision. decision ≡ decision_of self.now.facts self.now.entries ask.now) }
     {
-        let place = self.entries.len() as u64;
-        if let Some(refusal) = lacking_entries(place, ask.after) {
+        if let Some(refusal) = lacking_entries(self.entries.len() as u64, ask.after) {
             return Ok(Decision::Refused(Reply::Refused(refusal)));
         }
-        match &ask.body {
-            AskBody::CreateKey => {
-                if let Some(refusal) = no_more_keys(self.keys.len()) {
-                    return Ok(Decision::Refused(Reply::Refused(refusal)));
-                }
-                make_key(alloc, &self.facts, place, ask.moment.max(self.latest))
-            }
-            AskBody::DescribeKey { .. }
-            | AskBody::Encrypt(_)
-            | AskBody::Decrypt(_)
-            | AskBody::ReEncrypt(_)
-            | AskBody::GenerateDataKey { .. }
-            | AskBody::GenerateDataKeyWithoutPlaintext(_)
-            | AskBody::GenerateRandom { .. } => unreachable!(),
+        let AskBody::Change(body) = &ask.body else {
+            unreachable!()
+        };
+        let view = self.view(ask, Places::NONE);
+        match change_body(alloc, &view, body) {
+            Ok(made) => Ok(decision_from(made)),
+            Err(Stop::Refused(refusal)) => Ok(Decision::Refused(Reply::Refused(refusal))),
+            Err(Stop::NoMemory) => Err(NoMemory),
         }
+    }
+
+    // What the steps of a request's decision go by.
+    fn view<'a>(&'a self, ask: &'a Ask, places: Places) -> View<'a>
+        ensures { result ≡ view_of self.now.facts self.now.entries ask.now places }
+    {
+        View::new(
+            &self.facts,
+            &self.keys,
+            self.entries.len() as u64,
+            ask.moment.max(self.latest),
+            &ask.caller,
+            places,
+        )
     }
 
     /// The account with one more entry, which a request appends. This one stays as it is.

@@ -1,6 +1,6 @@
 //! Laws of what the account seals. Each stands as the contract of a function that does nothing.
 
-ghost use Rattle.account_core.specs.Laws.{SealedIsDecryptedAgain, OnePassRepeatsNoIv, BlobsAreNamed, NamedAreBlobs};
+ghost use Rattle.account_core.specs.Laws.{SealedIsDecryptedAgain, OnePassRepeatsNoIv, BlobsAreNamed, NamedAreBlobs, TimesNeverFall, KeysDiffer};
 
 /// What Encrypt, ReEncrypt or a data key call answered as sealed under a context, Decrypt opens to the
 /// text that was sealed, at that history and at every lawful one that goes on from it: under an equal
@@ -22,4 +22,14 @@ pub fn one_pass_repeats_no_iv()
 pub fn blobs_name_their_keys()
     ensures named { BlobsAreNamed }
     ensures blobs { NamedAreBlobs }
+{}
+
+/// Along a lawful history times never fall, whatever the clock answers.
+pub fn times_never_fall()
+    ensures { TimesNeverFall }
+{}
+
+/// Keys that are made at different places of a history have different ids. A place is below 2^48.
+pub fn keys_differ()
+    ensures { KeysDiffer }
 {}

@@ -7,20 +7,32 @@
 mod account;
 mod checks;
 mod crypto;
+mod data_keys;
 mod decide;
+mod decrypt;
+mod encrypt;
 mod entries;
 mod facts;
 mod ids;
+mod keys;
 mod laws;
-mod reads;
+mod operations;
+mod parts;
+mod places;
+mod random;
+mod re_encrypt;
 mod rows;
 mod sources;
 mod stops;
+mod view;
 
 pub use account::Account;
 pub use decide::Decision;
 pub use entries::{Entry, What};
 pub use facts::RealmFacts;
 pub use ids::draw_line;
-pub use laws::{blobs_name_their_keys, one_pass_repeats_no_iv, sealed_is_decrypted_again};
+pub use laws::{
+    blobs_name_their_keys, keys_differ, one_pass_repeats_no_iv, sealed_is_decrypted_again,
+    times_never_fall,
+};
 pub use rows::KeyRow;

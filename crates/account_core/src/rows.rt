@@ -5,6 +5,7 @@ ghost use Rattle.std.specs.Str.{bytes_eq};
 ghost use Rattle.account_core.specs.History.{key_named, key_with};
 
 use kms_names::{KeyId, read_key_id};
+use std::marker::Model;
 
 /// A key of the account.
 #[derive(Clone, Copy, Debug, PartialEq, Eq)]
@@ -15,6 +16,36 @@ pub struct KeyRow {
     pub born: u64,
     /// When it was made, in seconds since 1970.
     pub made: u64,
+}
+
+/// A row that is lent. Contracts see the row.
+#[derive(Drop)]
+pub struct Lent<'a> {
+    row: &'a KeyRow,
+}
+
+impl<'a> Model for Lent<'a> {
+    ghost use Rattle.account_core.specs.declared.rows.KeyRow.{KeyRow};
+
+    ghost Value = { KeyRow };
+
+    ghost view = { λ lent. lent.row.now };
+}
+
+impl<'a> Lent<'a> {
+    /// The row, lent.
+    pub fn new(row: &'a KeyRow) -> Lent<'a>
+        ensures { result ≡ row.now }
+    {
+        Lent { row }
+    }
+
+    /// The row.
+    pub fn row(&self) -> &'a KeyRow
+        ensures { result.now ≡ self.now }
+    {
+        self.row
+    }
 }
 
 /// Whether two ids are the same. It takes no memory.

@@ -109,6 +109,13 @@ impl DrawLine {
         Some(iv)
     }
 
+    /// The number of the pass.
+    pub fn pass_number(&self) -> u16
+        ensures { result ≡ self.now.pass_number }
+    {
+        self.pass_number
+    }
+
     /// How many words were given, at most 2^48.
     pub fn words(&self) -> u64
         ensures value { result ≡ self.now.words }

@@ -8,7 +8,7 @@ use Rattle.kms_io.specs.NewLinks.{is_empty_where_told, is_new_wire, are_new_link
 use Rattle.kms_io.specs.Ear.{IsNewWire}
 use Rattle.kms_io.specs.declared.memory_link.MemoryLink.{MemoryLink}
 
-empty_where_told : (told : Option (List ℕ)) → IsTrue (is_empty_where_told told) → IfSome told (λ all. all ≡ [])
+empty_where_told : {X : Type 0} (told : Option (List X)) → IsTrue (is_empty_where_told told) → IfSome told (λ all. all ≡ [])
 empty_where_told None h = tt
 empty_where_told (Some []) h = refl
 empty_where_told (Some (x ∷ xs)) h = absurd (cc)
@@ -17,6 +17,7 @@ pub new_wire : (wire : Wire) → IsTrue (is_new_wire wire) → IsNewWire wire
 new_wire wire h = record {
   taken = empty_where_told wire.taken (grind (arith, nat_tests));
   written = empty_where_told wire.written (grind (arith, nat_tests));
+  moves = empty_where_told wire.moves (grind (arith, nat_tests));
   read_faults = grind (arith, nat_tests);
   write_faults = grind (arith, nat_tests);
 }

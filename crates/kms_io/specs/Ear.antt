@@ -9,6 +9,7 @@ use Rattle.kms_io.specs.declared.ear.Next.TheVariants.{Conn, Failed}
 pub record IsNewWire (wire : Wire) : Type 0 where
   pub taken : IfSome wire.taken (λ taken. taken ≡ [])
   pub written : IfSome wire.written (λ written. written ≡ [])
+  pub moves : IfSome wire.moves (λ moves. moves ≡ [])
   pub read_faults : wire.read_faults ≡ 0
   pub write_faults : wire.write_faults ≡ 0
 

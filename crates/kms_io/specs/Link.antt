@@ -1,6 +1,7 @@
 -- What the calls of a connection do.
-use Rattle.std.specs.Prelude.{◌≡◌, ◌<◌, ◌≤◌, ℕ, List, [], length, take, IfSome}
-use Rattle.kms_io.specs.Wire.{Wire, with_more, with_first, RoseBy}
+use Rattle.std.specs.Prelude.{◌≡◌, ◌<◌, ◌≤◌, ℕ, List, [], ◌∷◌, length, take, IfSome}
+use Rattle.kms_io.specs.Wire.{Wire, with_more, with_first, RoseBy, TellsMore}
+use Rattle.kms_io.specs.declared.link.Move.TheVariants as move
 use Rattle.kms_io.specs.declared.link.Took.{Took}
 use Rattle.kms_io.specs.declared.link.Took.TheVariants.{Got, End, Failed}
 use Rattle.kms_io.specs.declared.link.Put.{Put}
@@ -28,11 +29,11 @@ IsAtEnd wire = IfSome wire.left (λ left. left ≡ [])
 
 -- a read into this room
 abbrev pub Reads : Wire → List ℕ → Took → Wire → Type 0
-Reads old room (Got n) new = (0 < n) × (n ≤ length room) × Takes old new (take n room)
-Reads old room End new = IsAtEnd old × Takes old new []
-Reads old room Failed new = RoseBy 1 old.read_faults new.read_faults × Takes old new []
+Reads old room (Got n) new = (0 < n) × (n ≤ length room) × Takes old new (take n room) × TellsMore old.moves (move.In n ∷ []) new.moves
+Reads old room End new = IsAtEnd old × Takes old new [] × TellsMore old.moves [] new.moves
+Reads old room Failed new = RoseBy 1 old.read_faults new.read_faults × Takes old new [] × TellsMore old.moves [] new.moves
 
 -- a write of a front of this piece
 abbrev pub Writes : Wire → List ℕ → Put → Wire → Type 0
-Writes old piece (put.Wrote n) new = (0 < n) × (n ≤ length piece) × Sends old new (take n piece)
-Writes old piece put.Failed new = RoseBy 1 old.write_faults new.write_faults × Sends old new []
+Writes old piece (put.Wrote n) new = (0 < n) × (n ≤ length piece) × Sends old new (take n piece) × TellsMore old.moves (move.Out n ∷ []) new.moves
+Writes old piece put.Failed new = RoseBy 1 old.write_faults new.write_faults × Sends old new [] × TellsMore old.moves [] new.moves

@@ -9,6 +9,7 @@ wire_of m = record {
   taken = Some (take m.at m.input.items);
   written = Some m.output.items;
   left = Some (drop m.at m.input.items);
+  moves = m.moves;
   read_faults = m.read_faults;
   write_faults = m.write_faults;
 }

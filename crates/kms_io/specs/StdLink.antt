@@ -9,6 +9,7 @@ counts_of link = record {
   taken = None;
   written = None;
   left = None;
+  moves = None;
   read_faults = link.read_faults;
   write_faults = link.write_faults;
 }

@@ -1,11 +1,14 @@
 -- What a connection shows of itself.
 use Rattle.std.specs.Prelude.{◌≡◌, ◌≤◌, ◌+◌, ◌-◌, ◌^◌, ℕ, min, List, ◌++◌, Option, option_map, Some, IfSome}
+use Rattle.kms_io.specs.declared.link.Move.{Move}
 
--- the bytes taken from it, written to it and still to come, each where it is told, and how often it has failed
+-- the bytes taken from it, written to it and still to come, and the calls that moved them, in order, each where it is told, and
+-- how often it has failed
 pub record Wire : Type 0 where
   pub taken : Option (List ℕ)
   pub written : Option (List ℕ)
   pub left : Option (List ℕ)
+  pub moves : Option (List Move)
   pub read_faults : ℕ
   pub write_faults : ℕ
 

@@ -13,6 +13,7 @@ mod memory_door;
 mod memory_ear;
 mod memory_files;
 mod memory_link;
+mod moves;
 mod standard;
 mod system;
 #[cfg(test)]
@@ -23,7 +24,7 @@ pub use door::{Door, Opened};
 pub use ear::{Ear, Next};
 pub use files::{FileAnswer, Files};
 pub use gate::{Gate, NoGate, Point};
-pub use link::{Link, Put, Took};
+pub use link::{Link, Move, Put, Took};
 pub use memory_clock::{MemoryClock, StepClock};
 pub use memory_door::MemoryDoor;
 pub use memory_ear::MemoryEar;

@@ -22,12 +22,22 @@ pub enum Put {
     Failed,
 }
 
+/// A call of a connection that moved bytes.
+#[derive(Clone, Copy, Debug, PartialEq, Eq)]
+pub enum Move {
+    /// A read took so many bytes.
+    In(usize),
+    /// A write wrote so many bytes.
+    Out(usize),
+}
+
 /// A stream of bytes in two directions, with a count of faults for each. A count never falls, and
 /// one that stands at the last value of a u64 stays there.
 pub trait Link {
     ghost use Rattle.kms_io.specs.Link.{Reads, Writes};
 
-    /// The bytes taken, written and still to come, each where it is told, and both counts of faults.
+    /// The bytes taken, written and still to come and the calls that moved them, each where it is told,
+    /// and both counts of faults.
     ghost shows: { Self → Wire };
 
     /// Takes some bytes to the front of the room, which isn't empty.

@@ -3,10 +3,12 @@ ghost use Rattle.std.specs.Prelude.{◌≡◌, ◌+◌, ◌<◌, ◌≤◌, [], 
 ghost use Rattle.kms_io.specs.Script.{piece_of};
 ghost use Rattle.kms_io.specs.Wire.{Wire};
 
-use crate::{Link, Put, Took};
+use crate::moves::Moves;
+use crate::{Link, Move, Put, Took};
 use std::alloc::Global;
 
-/// A connection over bytes in memory, which tells all its bytes. Its reads give the input in pieces,
+/// A connection over bytes in memory, which tells all its bytes, and its calls that moved any as long as
+/// there is memory to keep them. Its reads give the input in pieces,
 /// and its writes are kept. Calls are numbered from 0, reads and writes apart, and fail where their
 /// number stands in a list; a write fails too where there isn't memory enough to keep its bytes.
 #[derive(Drop)]
@@ -19,6 +21,7 @@ pub struct MemoryLink {
     reads: u64,
     writes: u64,
     output: Vec<u8>,
+    moves: Moves,
     read_faults: u64,
     write_faults: u64,
     ghost in_range: { at ≤ length input.items },
@@ -41,6 +44,7 @@ impl MemoryLink {
           taken = Some [];
           written = Some [];
           left = Some input.items;
+          moves = Some [];
           read_faults = 0;
           write_faults = 0;
         } }
@@ -59,6 +63,7 @@ impl MemoryLink {
             reads: 0,
             writes: 0,
             output: Vec::new(alloc),
+            moves: Moves::new(alloc),
             read_faults: 0,
             write_faults: 0,
         }
@@ -99,6 +104,7 @@ impl Link for MemoryLink {
         let count = piece_at(&self.pieces, call, room.len().min(rest));
         give(&self.input, self.at, room, count);
         self.at += count;
+        self.moves.add(Move::In(count));
         Took::Got(count)
     }
 
@@ -114,6 +120,7 @@ impl Link for MemoryLink {
             self.write_faults = self.write_faults.saturating_add(1);
             return Put::Failed;
         }
+        self.moves.add(Move::Out(piece.len()));
         Put::Wrote(piece.len())
     }
 }

@@ -6,6 +6,7 @@ use Rattle.kms_json.specs.declared.given.Given.{Given}
 use Rattle.kms_json.specs.declared.fields.Kind.TheVariants as kind
 use Rattle.kms_json.specs.declared.asks.AskBody.{AskBody}
 use Rattle.kms_json.specs.declared.asks.AskBody.TheVariants as ask
+use Rattle.kms_json.specs.declared.asks.Reading.TheVariants as reading
 use Rattle.kms_json.specs.declared.operations.Operation.{Operation}
 use Rattle.kms_json.specs.declared.operations.Operation.TheVariants as operation
 use Rattle.kms_json.specs.Operations.{fields_of}
@@ -31,35 +32,35 @@ IsAsked op body values = values_of (fields_of op) body ≡ Some values → asked
 described : (body : Data) (values : List Given) → IsAsked operation.DescribeKey body values
 described body values e =
     let at = gives_at (fields_of operation.DescribeKey) body values e in
-    ap ask.DescribeKey (text_is 1 2048 _ _ (at 0 (omega arith)))
+    ap (λ (reference : List ℕ). ask.Read (reading.DescribeKey reference)) (text_is 1 2048 _ _ (at 0 (omega arith)))
 
 encrypted : (body : Data) (values : List Given) → IsAsked operation.Encrypt body values
 encrypted body values e =
     let at = gives_at (fields_of operation.Encrypt) body values e in
-    λ i. ask.Encrypt (record {
+    λ i. ask.Read (reading.Encrypt (record {
       key_id = text_is 1 2048 _ _ (at 0 (omega arith)) i;
       plaintext = bytes_is 1 4096 _ _ (at 1 (omega arith)) i;
       context = pairs_is (get (codes "EncryptionContext") body) _ (at 2 (omega arith)) i;
       algorithm = some_text_is _ _ (at 4 (omega arith)) i;
       dry_run = flag_is _ _ (at 5 (omega arith)) i;
-    })
+    }))
 
 decrypted : (body : Data) (values : List Given) → IsAsked operation.Decrypt body values
 decrypted body values e =
     let at = gives_at (fields_of operation.Decrypt) body values e in
-    λ i. ask.Decrypt (record {
+    λ i. ask.Read (reading.Decrypt (record {
       blob = bytes_is 1 6144 _ _ (at 0 (omega arith)) i;
       context = pairs_is (get (codes "EncryptionContext") body) _ (at 1 (omega arith)) i;
       key_id = some_reference_is 1 2048 _ _ (at 3 (omega arith)) i;
       algorithm = some_text_is _ _ (at 4 (omega arith)) i;
       recipient = given_is kind.Object _ _ (at 5 (omega arith)) i;
       dry_run = flag_is _ _ (at 6 (omega arith)) i;
-    })
+    }))
 
 re_encrypted : (body : Data) (values : List Given) → IsAsked operation.ReEncrypt body values
 re_encrypted body values e =
     let at = gives_at (fields_of operation.ReEncrypt) body values e in
-    λ i. ask.ReEncrypt (record {
+    λ i. ask.Read (reading.ReEncrypt (record {
       blob = bytes_is 1 6144 _ _ (at 0 (omega arith)) i;
       source_context = pairs_is (get (codes "SourceEncryptionContext") body) _ (at 1 (omega arith)) i;
       source_key_id = some_reference_is 1 2048 _ _ (at 2 (omega arith)) i;
@@ -68,32 +69,32 @@ re_encrypted body values e =
       source_algorithm = some_text_is _ _ (at 5 (omega arith)) i;
       algorithm = some_text_is _ _ (at 6 (omega arith)) i;
       dry_run = flag_is _ _ (at 8 (omega arith)) i;
-    })
+    }))
 
 data_key : (body : Data) (values : List Given) → IsAsked operation.GenerateDataKey body values
 data_key body values e =
     let at = gives_at (fields_of operation.GenerateDataKey) body values e in
-    λ i. ask.GenerateDataKey (record {
+    λ i. ask.Read (reading.GenerateDataKey (record {
       key_id = text_is 1 2048 _ _ (at 0 (omega arith)) i;
       context = pairs_is (get (codes "EncryptionContext") body) _ (at 1 (omega arith)) i;
       size = size_is body _ _ (at 3 (omega arith)) (at 2 (omega arith)) i;
       dry_run = flag_is _ _ (at 6 (omega arith)) i;
-    }) (given_is kind.Object _ _ (at 5 (omega arith)) i)
+    }) (given_is kind.Object _ _ (at 5 (omega arith)) i))
 
 sealed_data_key : (body : Data) (values : List Given) → IsAsked operation.GenerateDataKeyWithoutPlaintext body values
 sealed_data_key body values e =
     let at = gives_at (fields_of operation.GenerateDataKeyWithoutPlaintext) body values e in
-    λ i. ask.GenerateDataKeyWithoutPlaintext (record {
+    λ i. ask.Read (reading.GenerateDataKeyWithoutPlaintext (record {
       key_id = text_is 1 2048 _ _ (at 0 (omega arith)) i;
       context = pairs_is (get (codes "EncryptionContext") body) _ (at 1 (omega arith)) i;
       size = size_is body _ _ (at 2 (omega arith)) (at 3 (omega arith)) i;
       dry_run = flag_is _ _ (at 5 (omega arith)) i;
-    })
+    }))
 
 random : (body : Data) (values : List Given) → IsAsked operation.GenerateRandom body values
 random body values e =
     let at = gives_at (fields_of operation.GenerateRandom) body values e in
-    λ i. ask.GenerateRandom (number_is 1 1024 _ _ (at 0 (omega arith)) i) (given_is kind.AnyText _ _ (at 1 (omega arith)) i) (given_is kind.Object _ _ (at 2 (omega arith)) i)
+    λ i. ask.Read (reading.GenerateRandom (number_is 1 1024 _ _ (at 0 (omega arith)) i) (given_is kind.AnyText _ _ (at 1 (omega arith)) i) (given_is kind.Object _ _ (at 2 (omega arith)) i))
 
 pub asked_is : (op : Operation) (body : Data) (values : List Given) → values_of (fields_of op) body ≡ Some values → asked_from op values ≡ body_of op body
 asked_is operation.CreateKey body values e = refl

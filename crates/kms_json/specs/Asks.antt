@@ -6,6 +6,9 @@ use Rattle.serde_json.specs.Find.{get}
 use Rattle.serde_json.specs.Read.{read as read_text}
 use Rattle.kms_json.specs.declared.asks.AskBody.{AskBody}
 use Rattle.kms_json.specs.declared.asks.AskBody.TheVariants as ask
+use Rattle.kms_json.specs.declared.asks.Changing.TheVariants as changing
+use Rattle.kms_json.specs.declared.asks.Reading.{Reading}
+use Rattle.kms_json.specs.declared.asks.Reading.TheVariants as reading
 use Rattle.kms_json.specs.declared.asks.JsonFault.{JsonFault}
 use Rattle.kms_json.specs.declared.asks.JsonFault.TheVariants as fault
 use Rattle.kms_json.specs.declared.given.Given.{Given}
@@ -18,14 +21,8 @@ use Rattle.kms_json.specs.Fields.{is_given, values_of, first_invalid, text_at, t
 
 -- the operations that change the account
 abbrev pub changes_account : AskBody → Bool
-changes_account ask.CreateKey = true
-changes_account (ask.DescribeKey key_id) = false
-changes_account (ask.Encrypt fields) = false
-changes_account (ask.Decrypt fields) = false
-changes_account (ask.ReEncrypt fields) = false
-changes_account (ask.GenerateDataKey key recipient) = false
-changes_account (ask.GenerateDataKeyWithoutPlaintext fields) = false
-changes_account (ask.GenerateRandom size custom_key_store recipient) = false
+changes_account (ask.Change body) = true
+changes_account (ask.Read body) = false
 
 -- the JSON value of a body; no bytes stand for an object without members
 abbrev pub body_data : List ℕ → Option Data
@@ -50,24 +47,24 @@ data_key_size body = if is_given (get (codes "KeySpec") body) then spec_size (te
 
 -- the operation with the fields that a body gives it
 abbrev pub body_of : Operation → Data → AskBody
-body_of CreateKey body = ask.CreateKey
-body_of DescribeKey body = ask.DescribeKey (text_at (codes "KeyId") body)
-body_of Encrypt body = ask.Encrypt (record {
+body_of CreateKey body = ask.Change changing.CreateKey
+body_of DescribeKey body = ask.Read (reading.DescribeKey (text_at (codes "KeyId") body))
+body_of Encrypt body = ask.Read (reading.Encrypt (record {
   key_id = text_at (codes "KeyId") body;
   plaintext = bytes_at (codes "Plaintext") body;
   context = pairs_at (codes "EncryptionContext") body;
   algorithm = text_if_given (codes "EncryptionAlgorithm") body;
   dry_run = flag_at (codes "DryRun") body;
-})
-body_of Decrypt body = ask.Decrypt (record {
+}))
+body_of Decrypt body = ask.Read (reading.Decrypt (record {
   blob = bytes_at (codes "CiphertextBlob") body;
   context = pairs_at (codes "EncryptionContext") body;
   key_id = text_if_given (codes "KeyId") body;
   algorithm = text_if_given (codes "EncryptionAlgorithm") body;
   recipient = is_given (get (codes "Recipient") body);
   dry_run = flag_at (codes "DryRun") body;
-})
-body_of ReEncrypt body = ask.ReEncrypt (record {
+}))
+body_of ReEncrypt body = ask.Read (reading.ReEncrypt (record {
   blob = bytes_at (codes "CiphertextBlob") body;
   source_context = pairs_at (codes "SourceEncryptionContext") body;
   source_key_id = text_if_given (codes "SourceKeyId") body;
@@ -76,20 +73,20 @@ body_of ReEncrypt body = ask.ReEncrypt (record {
   source_algorithm = text_if_given (codes "SourceEncryptionAlgorithm") body;
   algorithm = text_if_given (codes "DestinationEncryptionAlgorithm") body;
   dry_run = flag_at (codes "DryRun") body;
-})
-body_of GenerateDataKey body = ask.GenerateDataKey (record {
+}))
+body_of GenerateDataKey body = ask.Read (reading.GenerateDataKey (record {
   key_id = text_at (codes "KeyId") body;
   context = pairs_at (codes "EncryptionContext") body;
   size = data_key_size body;
   dry_run = flag_at (codes "DryRun") body;
-}) (is_given (get (codes "Recipient") body))
-body_of GenerateDataKeyWithoutPlaintext body = ask.GenerateDataKeyWithoutPlaintext (record {
+}) (is_given (get (codes "Recipient") body)))
+body_of GenerateDataKeyWithoutPlaintext body = ask.Read (reading.GenerateDataKeyWithoutPlaintext (record {
   key_id = text_at (codes "KeyId") body;
   context = pairs_at (codes "EncryptionContext") body;
   size = data_key_size body;
   dry_run = flag_at (codes "DryRun") body;
-})
-body_of GenerateRandom body = ask.GenerateRandom (number_at (codes "NumberOfBytes") body) (is_given (get (codes "CustomKeyStoreId") body)) (is_given (get (codes "Recipient") body))
+}))
+body_of GenerateRandom body = ask.Read (reading.GenerateRandom (number_at (codes "NumberOfBytes") body) (is_given (get (codes "CustomKeyStoreId") body)) (is_given (get (codes "Recipient") body)))
 
 -- the first field that isn't valid is named
 abbrev pub asked_unless : Option (List ℕ) → AskBody → Result AskBody Refusal
@@ -116,15 +113,18 @@ abbrev pub asked : List ℕ → List ℕ → Result AskBody Refusal
 asked target body = asked_where (operation_named target) body
 
 -- plaintexts have 1 to 4,096 bytes, and data keys and random bytes are 1 to 1,024; this is so of all that is asked
+abbrev pub IsSizedReading : Reading → Type 0
+IsSizedReading (reading.DescribeKey key_id) = Unit {0}
+IsSizedReading (reading.Encrypt fields) = (1 ≤ length fields.plaintext) × (length fields.plaintext ≤ 4096)
+IsSizedReading (reading.Decrypt fields) = Unit {0}
+IsSizedReading (reading.ReEncrypt fields) = Unit {0}
+IsSizedReading (reading.GenerateDataKey key recipient) = (1 ≤ key.size) × (key.size ≤ 1024)
+IsSizedReading (reading.GenerateDataKeyWithoutPlaintext key) = (1 ≤ key.size) × (key.size ≤ 1024)
+IsSizedReading (reading.GenerateRandom size custom_key_store recipient) = (1 ≤ size) × (size ≤ 1024)
+
 abbrev pub IsSized : AskBody → Type 0
-IsSized ask.CreateKey = Unit {0}
-IsSized (ask.DescribeKey key_id) = Unit {0}
-IsSized (ask.Encrypt fields) = (1 ≤ length fields.plaintext) × (length fields.plaintext ≤ 4096)
-IsSized (ask.Decrypt fields) = Unit {0}
-IsSized (ask.ReEncrypt fields) = Unit {0}
-IsSized (ask.GenerateDataKey key recipient) = (1 ≤ key.size) × (key.size ≤ 1024)
-IsSized (ask.GenerateDataKeyWithoutPlaintext key) = (1 ≤ key.size) × (key.size ≤ 1024)
-IsSized (ask.GenerateRandom size custom_key_store recipient) = (1 ≤ size) × (size ≤ 1024)
+IsSized (ask.Change body) = Unit {0}
+IsSized (ask.Read body) = IsSizedReading body
 
 -- the refusal that a fault stands for, if it isn't want of memory
 abbrev pub refusal_of : JsonFault → Option Refusal

@@ -9,6 +9,9 @@ use Rattle.kms_json.specs.declared.asks.ReEncrypt.{ReEncrypt}
 use Rattle.kms_json.specs.declared.asks.DataKey.{DataKey}
 use Rattle.kms_json.specs.declared.asks.AskBody.{AskBody}
 use Rattle.kms_json.specs.declared.asks.AskBody.TheVariants as ask
+use Rattle.kms_json.specs.declared.asks.Changing.TheVariants as changing
+use Rattle.kms_json.specs.declared.asks.Reading.{Reading}
+use Rattle.kms_json.specs.declared.asks.Reading.TheVariants as reading
 use Rattle.kms_json.specs.declared.operations.Operation.{Operation}
 use Rattle.kms_json.specs.declared.operations.Operation.TheVariants as operation
 use Rattle.kms_json.specs.Asks.{spec_size}
@@ -94,15 +97,15 @@ specified_data_key values = record {
   dry_run = flag_in (value_in 5 values);
 }
 
-abbrev pub random_bytes : List Given → AskBody
-random_bytes values = ask.GenerateRandom (number_in (value_in 0 values)) (is_given_in 1 values) (is_given_in 2 values)
+abbrev pub random_bytes : List Given → Reading
+random_bytes values = reading.GenerateRandom (number_in (value_in 0 values)) (is_given_in 1 values) (is_given_in 2 values)
 
 abbrev pub asked_from : Operation → List Given → AskBody
-asked_from operation.CreateKey values = ask.CreateKey
-asked_from operation.DescribeKey values = ask.DescribeKey (text_in (value_in 0 values))
-asked_from operation.Encrypt values = ask.Encrypt (encrypts values)
-asked_from operation.Decrypt values = ask.Decrypt (decrypts values)
-asked_from operation.ReEncrypt values = ask.ReEncrypt (re_encrypts values)
-asked_from operation.GenerateDataKey values = ask.GenerateDataKey (sized_data_key values) (is_given_in 5 values)
-asked_from operation.GenerateDataKeyWithoutPlaintext values = ask.GenerateDataKeyWithoutPlaintext (specified_data_key values)
-asked_from operation.GenerateRandom values = random_bytes values
+asked_from operation.CreateKey values = ask.Change changing.CreateKey
+asked_from operation.DescribeKey values = ask.Read (reading.DescribeKey (text_in (value_in 0 values)))
+asked_from operation.Encrypt values = ask.Read (reading.Encrypt (encrypts values))
+asked_from operation.Decrypt values = ask.Read (reading.Decrypt (decrypts values))
+asked_from operation.ReEncrypt values = ask.Read (reading.ReEncrypt (re_encrypts values))
+asked_from operation.GenerateDataKey values = ask.Read (reading.GenerateDataKey (sized_data_key values) (is_given_in 5 values))
+asked_from operation.GenerateDataKeyWithoutPlaintext values = ask.Read (reading.GenerateDataKeyWithoutPlaintext (specified_data_key values))
+asked_from operation.GenerateRandom values = ask.Read (random_bytes values)

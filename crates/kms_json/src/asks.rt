@@ -71,11 +71,16 @@ pub struct DataKey {
     pub dry_run: bool,
 }
 
-/// An operation with its fields.
+/// An operation that changes the account, with its fields.
 #[derive(Debug, Drop)]
-pub enum AskBody {
+pub enum Changing {
     /// CreateKey.
     CreateKey,
+}
+
+/// An operation that doesn't change the account, with its fields.
+#[derive(Debug, Drop)]
+pub enum Reading {
     /// DescribeKey of the key that `key_id` refers to, a text of 1 to 2,048 bytes.
     DescribeKey {
         key_id: Text,
@@ -101,6 +106,15 @@ pub enum AskBody {
     },
 }
 
+/// An operation with its fields: one that changes the account, or one that reads it.
+#[derive(Debug, Drop)]
+pub enum AskBody {
+    /// It changes the account.
+    Change(Changing),
+    /// It reads the account.
+    Read(Reading),
+}
+
 /// A request as the account is asked it.
 #[derive(Debug, Drop)]
 pub struct Ask {
@@ -122,16 +136,7 @@ impl Ask {
     pub fn changes(&self) -> bool
         ensures { result ≡ changes_account self.now.body }
     {
-        match self.body {
-            AskBody::CreateKey => true,
-            AskBody::DescribeKey { .. }
-            | AskBody::Encrypt(_)
-            | AskBody::Decrypt(_)
-            | AskBody::ReEncrypt(_)
-            | AskBody::GenerateDataKey { .. }
-            | AskBody::GenerateDataKeyWithoutPlaintext(_)
-            | AskBody::GenerateRandom { .. } => false,
-        }
+        matches!(&self.body, AskBody::Change(_))
     }
 }
 

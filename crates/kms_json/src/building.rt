@@ -3,7 +3,7 @@ ghost use Rattle.std.specs.Prelude.{◌≡◌, drop, IfOk};
 ghost use Rattle.kms_json.specs.Building.{first_of, value_in, is_given_in, encrypts, decrypts, re_encrypts, sized_data_key, specified_data_key, data_key_size_in, random_bytes, asked_from};
 ghost use Rattle.kms_json.specs.Asks.{spec_size};
 
-use crate::asks::{AskBody, DataKey, Decrypt, Encrypt, ReEncrypt};
+use crate::asks::{AskBody, Changing, DataKey, Decrypt, Encrypt, ReEncrypt, Reading};
 use crate::given::{Given, bytes_in, context_in, flag_in, number_in, text_if, text_in};
 use crate::operations::Operation;
 use kms_names::NoMemory;
@@ -140,13 +140,13 @@ fn specified(alloc: Global, values: &mut VecDeque<Given>) -> Result<DataKey, NoM
 }
 
 // Random bytes.
-fn random(values: &mut VecDeque<Given>) -> AskBody
+fn random(values: &mut VecDeque<Given>) -> Reading
     ensures { result ≡ random_bytes values.old.items }
 {
     let size = number_in(&next(values));
     let custom_key_store = !next(values).is_absent();
     let recipient = !next(values).is_absent();
-    AskBody::GenerateRandom {
+    Reading::GenerateRandom {
         size,
         custom_key_store,
         recipient,
@@ -162,22 +162,22 @@ pub fn asked_from(
     ensures { IfOk result (λ body. body ≡ asked_from operation values.items) }
 {
     let values = &mut values;
-    let body = match operation {
-        Operation::CreateKey => AskBody::CreateKey,
-        Operation::DescribeKey => AskBody::DescribeKey {
+    let reading = match operation {
+        Operation::CreateKey => return Ok(AskBody::Change(Changing::CreateKey)),
+        Operation::DescribeKey => Reading::DescribeKey {
             key_id: text_in(alloc, next(values)),
         },
-        Operation::Encrypt => AskBody::Encrypt(encrypt(alloc, values)?),
-        Operation::Decrypt => AskBody::Decrypt(decrypt(alloc, values)?),
-        Operation::ReEncrypt => AskBody::ReEncrypt(re_encrypt(alloc, values)?),
+        Operation::Encrypt => Reading::Encrypt(encrypt(alloc, values)?),
+        Operation::Decrypt => Reading::Decrypt(decrypt(alloc, values)?),
+        Operation::ReEncrypt => Reading::ReEncrypt(re_encrypt(alloc, values)?),
         Operation::GenerateDataKey => {
             let (key, recipient) = sized(alloc, values)?;
-            AskBody::GenerateDataKey { key, recipient }
+            Reading::GenerateDataKey { key, recipient }
         }
         Operation::GenerateDataKeyWithoutPlaintext => {
-            AskBody::GenerateDataKeyWithoutPlaintext(specified(alloc, values)?)
+            Reading::GenerateDataKeyWithoutPlaintext(specified(alloc, values)?)
         }
         Operation::GenerateRandom => random(values),
     };
-    Ok(body)
+    Ok(AskBody::Read(reading))
 }

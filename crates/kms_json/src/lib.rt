@@ -14,7 +14,7 @@ mod operations;
 mod replies;
 mod writing;
 
-pub use asks::{Ask, AskBody, DataKey, Decrypt, Encrypt, JsonFault, ReEncrypt};
+pub use asks::{Ask, AskBody, Changing, DataKey, Decrypt, Encrypt, JsonFault, ReEncrypt, Reading};
 pub use bodies::read_ask;
 pub use replies::{KeyMetadata, Limit, Missing, Refusal, Reply, Unsupported};
 pub use writing::write_reply;

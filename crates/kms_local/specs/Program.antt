@@ -1,7 +1,6 @@
 -- What the program does.
 use Rattle.std.specs.Prelude.{◌≡◌, ◌⊎◌, ℕ, List, codes, Option, None, Some, option_and_then, slice_get}
 use Rattle.kms_io.specs.Wire.{Wire}
-use Rattle.kms_io.specs.Link.{Sends}
 use Rattle.account_core.specs.declared.facts.RealmFacts.{RealmFacts}
 use Rattle.kms_session.specs.declared.trust.Trust.{Trust}
 use Rattle.kms_session.specs.declared.trust.Trust.TheVariants.{Word}
@@ -11,7 +10,7 @@ use Rattle.kms_local.specs.declared.settings.RunOption.TheVariants.{Account, Reg
 use Rattle.kms_session.specs.declared.session.SessionEnd.{SessionEnd}
 use Rattle.kms_session.specs.declared.session.SessionEnd.TheVariants.{Ended, Closed, CutOff, ReadFault, WriteFault, NoMemory}
 use Rattle.publish_pass.specs.Pass.{Pass, first_pass}
-use Rattle.kms_session.specs.Session.{outside, SendsShort, EndsBy}
+use Rattle.kms_session.specs.Session.{outside, SendsWhole, SendsShort, EndsBy}
 use Rattle.kms_local.specs.Words.{Command, command_of}
 use Rattle.kms_local.specs.Settings.{IsSettings, IsRefusedAt}
 
@@ -30,7 +29,7 @@ refused_line As = codes "configuration refused at /as\n"
 
 -- the line was written, or a front of it, and then the link failed
 abbrev pub SaysLine : List ℕ → Wire → Wire → Type 0
-SaysLine line old new = Sends old new line ⊎ SendsShort old new line
+SaysLine line old new = SendsWhole old new line ⊎ SendsShort old new line
 
 abbrev pub status_of_end : SessionEnd → ℕ
 status_of_end Ended = 0

@@ -4,3 +4,4 @@ mod Runs
 mod ReplyLemmas
 mod OneCut
 mod OneEnd
+mod LawfulRuns

@@ -1,8 +1,7 @@
 -- Replies that were written, whole or cut short.
-use Rattle.std.proofs.Common.{◌≡◌, ℕ, List, ◌++◌, length, Bool, true, false, Option, None, Some, refl, sym, ap, ap₂, ◌∙◌, subst, arith}
+use Rattle.std.proofs.Common.{◌≡◌, ℕ, List, ◌++◌, length, Bool, true, false, Option, None, Some, refl, sym, ap, ap₂, ◌∙◌, subst, arith, ◌⊎◌, inl, inr}
 use Rattle.std.specs.Bool.{MatchBool}
 use Rattle.kms_io.specs.Wire.{Wire}
-use Rattle.kms_io.specs.Link.{Sends}
 use Rattle.account_core.proofs.GoingOn.{decide_goes_on}
 use Rattle.publish_pass.specs.declared.pass.Answered.{Answered}
 use Rattle.http_front.specs.Head.{IsHead}
@@ -16,11 +15,11 @@ use Rattle.kms_session.specs.declared.trust.Trust.{Trust}
 use Rattle.http_front.specs.Message.{Message, target_in}
 use Rattle.publish_pass.specs.Answers.{Answer, answer_in, answer_of}
 use Rattle.kms_session.specs.Answers.{IsReplyText, five_hundred}
-use Rattle.publish_pass.specs.Pass.{Pass, Reads, Wants, Changes, making_any, entries_of}
-use Rattle.kms_session.specs.Run.{Plan, answered, asks, plan_of, planned, whole, Wanting, Answers, early, reads, changes, Replies, answers, wants_memory}
-use Rattle.kms_session.specs.Session.{SendsShort, Responds, RespondsShort}
+use Rattle.publish_pass.specs.Pass.{Pass, Reads, Wants, WantsChange, Changes, keeping_house, making_any, entries_of}
+use Rattle.kms_session.specs.Run.{Plan, answered, asks, plan_of, planned, whole, Wanting, wants_nothing, wants_read, wants_change, Answers, early, reads, changes, Replies, answers, wants_memory}
+use Rattle.kms_session.specs.Session.{SendsWhole, SendsShort, Responds, RespondsShort}
 use Rattle.kms_session.specs.Replying.{SendsReply, SendsReplyShort, Gives}
-use Rattle.kms_session.proofs.Wires.{sends_on, sends_short_after, sends_short_before}
+use Rattle.kms_session.proofs.Wires.{whole_on, sends_short_after, sends_short_before}
 
 pub text_of_reply : (answer : Answer) (second front : ℕ) (closes : Bool) (head : List ℕ) → IsHead answer.status (length answer.body) second front closes head
     → IsReplyText answer second front closes (head ++ answer.body)
@@ -37,12 +36,19 @@ head_short answer second front closes head old new is short = record {
 
 -- the head was written, and then the body, or a front of it
 pub body_sent : (sent : Bool) (answer : Answer) (second front : ℕ) (closes : Bool) (head : List ℕ) (old mid new : Wire) → IsHead answer.status (length answer.body) second front closes head
-    → Sends old mid head → MatchBool sent (Sends mid new answer.body) (SendsShort mid new answer.body)
+    → SendsWhole old mid head → MatchBool sent (SendsWhole mid new answer.body) (SendsShort mid new answer.body)
     → MatchBool sent (SendsReply answer second front closes old new) (SendsReplyShort answer second front closes old new)
 body_sent true answer second front closes head old mid new is first then =
-    record { text = head ++ answer.body; is = text_of_reply answer second front closes head is; sends = sends_on first then }
+    record { text = head ++ answer.body; is = text_of_reply answer second front closes head is; sends = whole_on first then }
 body_sent false answer second front closes head old mid new is first then =
     record { text = head ++ answer.body; is = text_of_reply answer second front closes head is; short = sends_short_after first then }
+
+-- both were written at once, or a front of them
+pub joined_sent : (sent : Bool) (answer : Answer) (second front : ℕ) (closes : Bool) (head text : List ℕ) (old new : Wire) → IsHead answer.status (length answer.body) second front closes head
+    → text ≡ head ++ answer.body → MatchBool sent (SendsWhole old new text) (SendsShort old new text)
+    → MatchBool sent (SendsReply answer second front closes old new) (SendsReplyShort answer second front closes old new)
+joined_sent true answer second front closes head text old new is split sent = record { text = text; is = record { head = head; is_head = is; whole = split }; sends = sent }
+joined_sent false answer second front closes head text old new is split sent = record { text = text; is = record { head = head; is_head = is; whole = split }; short = sent }
 
 -- a reply to a plan
 pub replied : (sent : Bool) (s : Pass) (plan : Plan) (answer : Answer) (second front : ℕ) (closes : Bool) (old new : Wire) (t : Pass)
@@ -55,14 +61,14 @@ replied false s plan answer second front closes old new t is at reply =
     record { text = reply.text; replies = answers answer is (subst (λ (n : ℕ). IsReplyText answer second n closes reply.text) at reply.is); short = reply.short }
 
 -- a pass that holds what it held has used nothing
-pub wants_none : (s t : Pass) (x : Ask) → t ≡ s → Wants s x t
-wants_none s t x same =
+wants_none : (s : Pass) (x : Ask) → Wants s x s
+wants_none s x =
     let goes = decide_goes_on s.facts (entries_of s.history) x s.places in
     record {
       met = s;
       seen = refl;
       places = s.places;
-      used = same;
+      used = refl;
       at_most = record {
         number = refl;
         words_from = omega arith;
@@ -72,13 +78,23 @@ wants_none s t x same =
       };
     }
 
-pub wanting_none : (s t : Pass) (plan : Plan) → t ≡ s → Wanting s plan t
-wanting_none s t (answered answer) same = same
-wanting_none s t (asks x) same = wants_none s t x same
+wanting_where : (s : Pass) (x : Ask) (changing : Bool) → changes_account x.body ≡ changing → Wanting s (asks x) s
+wanting_where s x true is = wants_change x refl is (record { met = s; seen = refl; left = inl refl })
+wanting_where s x false is = wants_read x refl is (wants_none s x)
+
+pub wanting_none : (s : Pass) (plan : Plan) → Wanting s plan s
+wanting_none s (answered answer) = wants_nothing answer refl refl
+wanting_none s (asks x) = wanting_where s x (changes_account x.body) refl
+
+pub wants_changed : (s t : Pass) (x : Ask) → true ≡ changes_account x.body → WantsChange s x t → Wanting s (asks x) t
+wants_changed s t x is h = wants_change x refl (sym is) h
+
+pub wants_reading : (s t : Pass) (x : Ask) → false ≡ changes_account x.body → Wants s x t → Wanting s (asks x) t
+wants_reading s t x is h = wants_read x refl (sym is) h
 
 -- a reply for want of memory
 pub wanted : (sent : Bool) (s : Pass) (plan : Plan) (second : ℕ) (closes : Bool) (old new : Wire) (t : Pass) → Wanting s plan t
-    → MatchBool sent (Sends old new five_hundred) (SendsShort old new five_hundred)
+    → MatchBool sent (SendsWhole old new five_hundred) (SendsShort old new five_hundred)
     → MatchBool sent (Responds s plan second closes old new t) (RespondsShort s plan second closes old new t)
 wanted true s plan second closes old new t is reply = record { text = five_hundred; replies = wants_memory is refl; sends = reply }
 wanted false s plan second closes old new t is reply = record { text = five_hundred; replies = wants_memory is refl; short = reply }
@@ -110,19 +126,26 @@ any_facts : (s t : Pass) (entry : Option Entry) → t ≡ making_any s entry →
 any_facts s t None is = ap (λ (p : Pass). p.facts) is
 any_facts s t (Some entry) is = ap (λ (p : Pass). p.facts) is
 
+house_facts : (s : Pass) (clock : ℕ) → (keeping_house s clock).facts ≡ s.facts
+house_facts s clock = any_facts s (keeping_house s clock) (housekeeping_of (entries_of s.history) clock) refl
+
 -- the facts stay
 facts_answered : {s t : Pass} {plan : Plan} {answer : Answer} → Answers s plan answer t → t.facts ≡ s.facts
 facts_answered (early is same) = ap (λ (p : Pass). p.facts) same
 facts_answered (reads x reply is which h has) = ap (λ (p : Pass). p.facts) h.used ∙ ap (λ (p : Pass). p.facts) h.seen
 facts_answered {t = t} (changes x reply is which h has) =
-    let house = housekeeping_of (entries_of h.met.history) x.moment in
-    let entry = (decide h.kept.facts (entries_of h.kept.history) x h.kept.places).entry in
-    any_facts h.kept t entry h.made ∙ any_facts h.met h.kept house h.house ∙ ap (λ (p : Pass). p.facts) h.seen
+    let kept = keeping_house h.met x.moment in
+    any_facts kept t (decide kept.facts (entries_of kept.history) x kept.places).entry h.decides.made ∙ house_facts h.met x.moment ∙ ap (λ (p : Pass). p.facts) h.seen
 
-facts_wanting : (s t : Pass) (plan : Plan) → Wanting s plan t → t.facts ≡ s.facts
-facts_wanting s t (answered answer) is = ap (λ (p : Pass). p.facts) is
-facts_wanting s t (asks x) is = ap (λ (p : Pass). p.facts) is.used ∙ ap (λ (p : Pass). p.facts) is.seen
+facts_left : (s met t : Pass) (clock : ℕ) → met ≡ s → (t ≡ met) ⊎ (t ≡ keeping_house met clock) → t.facts ≡ s.facts
+facts_left s met t clock seen (inl same) = ap (λ (p : Pass). p.facts) same ∙ ap (λ (p : Pass). p.facts) seen
+facts_left s met t clock seen (inr kept) = ap (λ (p : Pass). p.facts) kept ∙ house_facts met clock ∙ ap (λ (p : Pass). p.facts) seen
+
+facts_wanting : {s t : Pass} {plan : Plan} → Wanting s plan t → t.facts ≡ s.facts
+facts_wanting (wants_nothing answer is same) = ap (λ (p : Pass). p.facts) same
+facts_wanting (wants_read x is which h) = ap (λ (p : Pass). p.facts) h.used ∙ ap (λ (p : Pass). p.facts) h.seen
+facts_wanting {s = s} {t = t} (wants_change x is which h) = facts_left s h.met t x.moment h.seen h.left
 
 pub facts_kept : {s t : Pass} {plan : Plan} {c : ℕ} {closes : Bool} {text : List ℕ} → Replies s plan c closes text t → t.facts ≡ s.facts
 facts_kept (answers answer is text) = facts_answered is
-facts_kept {s = s} {t = t} {plan = plan} (wants_memory is text) = facts_wanting s t plan is
+facts_kept (wants_memory is text) = facts_wanting is

@@ -1,15 +1,17 @@
 -- How a run goes on.
-use Rattle.std.proofs.Common.{◌≡◌, ◌+◌, ℕ, List, [], ◌∷◌, ◌++◌, Bool, true, false, refl, sym, ap, ◌∙◌, append_assoc, length-append, subst, drop, arith}
+use Rattle.std.proofs.Common.{◌≡◌, ◌<◌, ◌+◌, ℕ, List, [], ◌∷◌, ◌++◌, Bool, true, false, refl, sym, ap, ◌∙◌, append_assoc, append-nil, add-zero, add_assoc, length, Option, length-append, subst, drop, arith}
 use Rattle.std.proofs.lemmas.List.{take-append-drop}
 use Rattle.kms_io.specs.Wire.{Wire, with_more, with_first, TellsMore}
-use Rattle.kms_io.specs.Link.{Sends}
+use Rattle.kms_io.specs.declared.link.Move.{Move}
 use Rattle.http_front.specs.declared.message.Cut.{Cut}
 use Rattle.http_front.specs.declared.message.HttpFault.{HttpFault}
 use Rattle.kms_session.specs.declared.trust.Trust.{Trust}
 use Rattle.kms_session.specs.Inbox.{Receives}
 use Rattle.http_front.specs.Message.{Message, IsHopeless, CutsOff}
 use Rattle.kms_session.specs.Run.{Item, whole, fault, closes_at, plan_of, Turn, goes_on, begins, Cuts, nothing, message, no_message}
-use Rattle.kms_session.specs.Session.{Outside, Serves, Responds, RespondsShort, BreaksOff}
+use Rattle.publish_pass.specs.Pass.{Pass}
+use Rattle.kms_session.specs.Pace.{Gathers, no_read, one_read, no_bytes, PutsOut, no_write, one_write, Paced, paced_from, then_read, then_nothing, then_answer, then_write}
+use Rattle.kms_session.specs.Session.{Outside, SendsWhole, Serves, Responds, RespondsShort, BreaksOff}
 use Rattle.kms_session.proofs.Wires.{rose_since, with_more-append, with_first-append, with_more-nil, with_first-nil, tells_on, tells_nothing}
 
 -- more bytes go to the rest
@@ -27,6 +29,7 @@ serves_nothing trust start = record {
   number = refl;
   cuts = nothing;
   run = begins;
+  paced = paced_from;
   taken = with_more-nil start.wire.taken;
   left = with_first-nil start.wire.left;
   written = with_more-nil start.wire.written;
@@ -34,6 +37,25 @@ serves_nothing trust start = record {
   read_faults = omega arith;
   write_faults = omega arith;
 }
+
+-- reads at an open buffer, where all is written
+paced_on : {start pass : Pass} {trust : Trust} {items : List Item} {clocks text input before : List ℕ} {told mid : Option (List Move)} {bytes : List ℕ} {new : Option (List Move)}
+    → Paced start trust told pass items clocks text input (length text) mid → Cuts input false items before → Gathers mid before bytes new
+    → Paced start trust told pass items clocks text (input ++ bytes) (length text) new
+paced_on {start} {pass} {trust} {items} {clocks} {text} {input} {told = told} {mid = mid} so_far cuts no_read =
+    subst (λ (all : List ℕ). Paced start trust told pass items clocks text all (length text) mid) (sym (append-nil input)) so_far
+paced_on {input = input} {before = before} so_far cuts (one_read {bytes = bytes} {all = all} piece gathers open_ is shown) =
+    then_read piece (paced_on so_far cuts gathers) refl (before ++ bytes, cuts_more bytes cuts, open_)
+    (ap (λ (more : List ℕ). input ++ more) is ∙ sym (append_assoc input bytes piece)) shown
+paced_on {input = input} {before = before} so_far cuts (no_bytes {bytes = bytes} gathers open_ shown) =
+    then_nothing (paced_on so_far cuts gathers) refl (before ++ bytes, cuts_more bytes cuts, open_) shown
+
+paced_writes : {start pass : Pass} {trust : Trust} {told mid new : Option (List Move)} {items : List Item} {clocks text input : List ℕ} {written n : ℕ}
+    → Paced start trust told pass items clocks text input written mid → PutsOut mid n new → Paced start trust told pass items clocks text input (written + n) new
+paced_writes {start} {pass} {trust} {told} {mid} {new} {items} {clocks} {text} {input} {written} so_far no_write =
+    subst (λ (k : ℕ). Paced start trust told pass items clocks text input k mid) (sym (add-zero written)) so_far
+paced_writes {written = written} so_far (one_write {n = k} last more is shown) =
+    then_write last (paced_writes so_far more) (ap (λ (i : ℕ). written + i) is ∙ sym (add_assoc written k last)) shown
 
 -- bytes come, and no reply is written
 pub serves_read : {trust : Trust} {start old : Outside} {count : ℕ} {buffer : List ℕ} (wire : Wire) (after : List ℕ) → Serves trust start old false count buffer → Receives old.wire buffer wire after
@@ -46,6 +68,7 @@ serves_read {trust} {start} {old} {count} {buffer} wire after s r = record {
   number = s.number;
   cuts = subst (Cuts (s.input ++ r.bytes) false s.items) (sym r.grows) (cuts_more r.bytes s.cuts);
   run = s.run;
+  paced = paced_on s.paced s.cuts r.gathers;
   taken = r.takes.taken ∙ ap (λ told. with_more told r.bytes) s.taken ∙ with_more-append start.wire.taken s.input r.bytes;
   left = s.left ∙ ap (with_first s.input) r.takes.left ∙ with_first-append s.input r.bytes wire.left;
   written = r.takes.written ∙ s.written;
@@ -55,18 +78,20 @@ serves_read {trust} {start} {old} {count} {buffer} wire after s r = record {
 }
 
 -- one more item is answered
-pub serves_item : {trust : Trust} {start old new : Outside} {count : ℕ} {buffer reply more : List ℕ} (item : Item) (c : ℕ) (closes : Bool) (s : Serves trust start old false count buffer)
+pub serves_item : {trust : Trust} {start old new : Outside} {count : ℕ} {buffer reply more : List ℕ} (item : Item) (c : ℕ) (bound : c < 253402300800) (closes : Bool) (s : Serves trust start old false count buffer)
     → Cuts s.input closes (s.items ++ item ∷ []) more → closes ≡ closes_at count item
-    → Turn old.pass trust item c closes reply new.pass → Sends old.wire new.wire reply → TellsMore old.clock (c ∷ []) new.clock
+    → Turn old.pass trust item c closes reply new.pass → SendsWhole old.wire new.wire reply → TellsMore old.clock (c ∷ []) new.clock
     → Serves trust start new closes (count + 1) more
-serves_item {trust} {start} {old} {new} {count} {buffer} {reply} {more} item c closes s cuts is turn sends tells = record {
+serves_item {trust} {start} {old} {new} {count} {buffer} {reply} {more} item c bound closes s cuts is turn whole_reply tells = let sends = whole_reply.sends in record {
   input = s.input;
   items = s.items ++ item ∷ [];
   clocks = s.clocks ++ c ∷ [];
   text = s.text ++ reply;
   number = simp length-append (omega (arith, s.number));
   cuts = cuts;
-  run = goes_on item c s.run (subst (λ b. Turn old.pass trust item c b reply new.pass) (is ∙ ap (λ n. closes_at n item) (sym s.number)) turn);
+  run = goes_on item c bound s.run (subst (λ b. Turn old.pass trust item c b reply new.pass) (is ∙ ap (λ n. closes_at n item) (sym s.number)) turn);
+  paced = subst (λ (n : ℕ). Paced start.pass trust start.wire.moves new.pass (s.items ++ item ∷ []) (s.clocks ++ c ∷ []) (s.text ++ reply) s.input n new.wire.moves) (sym (length-append s.text reply))
+      (paced_writes (then_answer item c bound s.paced (subst (λ b. Turn old.pass trust item c b reply new.pass) (is ∙ ap (λ n. closes_at n item) (sym s.number)) turn)) whole_reply.out);
   taken = sends.taken ∙ s.taken;
   left = s.left ∙ ap (with_first s.input) (sym sends.left);
   written = sends.written ∙ ap (λ told. with_more told reply) s.written ∙ with_more-append start.wire.written s.text reply;
@@ -83,16 +108,16 @@ cuts_message {buffer = buffer} cut m s cuts is =
 
 -- a message at the front of the buffer is answered
 pub serves_message : {trust : Trust} {start old new : Outside} {count c : ℕ} {buffer : List ℕ} {closes : Bool} (cut : Cut) (m : Message) → Serves trust start old false count buffer → CutsOff buffer cut m
-    → closes ≡ closes_at count (whole m) → TellsMore old.clock (c ∷ []) new.clock
+    → closes ≡ closes_at count (whole m) → c < 253402300800 → TellsMore old.clock (c ∷ []) new.clock
     → Responds old.pass (plan_of trust (whole m) c) c closes old.wire new.wire new.pass
     → Serves trust start new closes (count + 1) (drop cut.len buffer)
-serves_message {c = c} {closes = closes} cut m s cuts is tells r = serves_item (whole m) c closes s (cuts_message cut m s cuts is) is r.replies r.sends tells
+serves_message {c = c} {closes = closes} cut m s cuts is bound tells r = serves_item (whole m) c bound closes s (cuts_message cut m s cuts is) is r.replies r.sends tells
 
 -- bytes that no message begins with are answered
 pub serves_fault : {trust : Trust} {start old new : Outside} {count c : ℕ} {buffer : List ℕ} (why : HttpFault) → Serves trust start old false count buffer → IsHopeless buffer
-    → TellsMore old.clock (c ∷ []) new.clock → Responds old.pass (plan_of trust (fault why) c) c true old.wire new.wire new.pass
+    → c < 253402300800 → TellsMore old.clock (c ∷ []) new.clock → Responds old.pass (plan_of trust (fault why) c) c true old.wire new.wire new.pass
     → Serves trust start new true (count + 1) buffer
-serves_fault {c = c} why s hopeless tells r = serves_item (fault why) c true s (no_message why s.cuts hopeless) refl r.replies r.sends tells
+serves_fault {c = c} why s hopeless bound tells r = serves_item (fault why) c bound true s (no_message why s.cuts hopeless) refl r.replies r.sends tells
 
 -- the same, where the test has come out
 pub serves_where : {trust : Trust} {start new : Outside} {count : ℕ} {rest : List ℕ} {closes is : Bool} → closes ≡ is → Serves trust start new closes count rest → Serves trust start new is count rest
@@ -103,9 +128,9 @@ serves_rest {trust} {start} {new} {count} {closes = closes} e s = subst (Serves 
 
 -- a reply to a message that was cut short ends the session
 pub breaks_at_message : {trust : Trust} {start old new : Outside} {count c : ℕ} {buffer : List ℕ} {closes : Bool} (cut : Cut) (m : Message) → Serves trust start old false count buffer → CutsOff buffer cut m
-    → closes ≡ closes_at count (whole m) → TellsMore old.clock (c ∷ []) new.clock
+    → closes ≡ closes_at count (whole m) → c < 253402300800 → TellsMore old.clock (c ∷ []) new.clock
     → RespondsShort old.pass (plan_of trust (whole m) c) c closes old.wire new.wire new.pass → BreaksOff trust start new
-breaks_at_message {old = old} {count = count} {c = c} {buffer = buffer} {closes = closes} cut m s cuts is tells r = record {
+breaks_at_message {old = old} {count = count} {c = c} {buffer = buffer} {closes = closes} cut m s cuts is bound tells r = record {
   so_far = old;
   count = count;
   buffer = buffer;
@@ -116,6 +141,7 @@ breaks_at_message {old = old} {count = count} {c = c} {buffer = buffer} {closes 
   serves = s;
   cuts = cuts_message cut m s cuts is;
   is = is;
+  before_year_10000 = bound;
   told = tells;
   text = r.text;
   turn = r.replies;
@@ -125,9 +151,9 @@ breaks_at_message {old = old} {count = count} {c = c} {buffer = buffer} {closes 
 
 -- and so does one to what no message begins with
 pub breaks_at_fault : {trust : Trust} {start old new : Outside} {count c : ℕ} {buffer : List ℕ} (why : HttpFault) → Serves trust start old false count buffer → IsHopeless buffer
-    → TellsMore old.clock (c ∷ []) new.clock
+    → c < 253402300800 → TellsMore old.clock (c ∷ []) new.clock
     → RespondsShort old.pass (plan_of trust (fault why) c) c true old.wire new.wire new.pass → BreaksOff trust start new
-breaks_at_fault {old = old} {count = count} {c = c} {buffer = buffer} why s hopeless tells r = record {
+breaks_at_fault {old = old} {count = count} {c = c} {buffer = buffer} why s hopeless bound tells r = record {
   so_far = old;
   count = count;
   buffer = buffer;
@@ -138,6 +164,7 @@ breaks_at_fault {old = old} {count = count} {c = c} {buffer = buffer} why s hope
   serves = s;
   cuts = no_message why s.cuts hopeless;
   is = refl;
+  before_year_10000 = bound;
   told = tells;
   text = r.text;
   turn = r.replies;

@@ -1,12 +1,15 @@
 -- Reads and writes one after another.
-use Rattle.std.proofs.Common.{◌≡◌, ◌+◌, ◌<◌, ◌≤◌, ℕ, List, [], ◌++◌, length, take, drop, Option, None, Some, refl, sym, ap, subst, ◌∙◌, append_assoc, append-nil, arith}
+use Rattle.std.proofs.Common.{◌≡◌, ◌+◌, ◌<◌, ◌≤◌, ℕ, List, [], ◌∷◌, ◌++◌, length, take, drop, Option, None, Some, refl, sym, ap, subst, ◌∙◌, append_assoc, append-nil, add-zero, add_assoc, arith}
 use Rattle.std.proofs.Math.Seq.{take-append-add}
-use Rattle.std.proofs.lemmas.List.{take-append-le, take-append-drop}
+use Rattle.std.proofs.lemmas.List.{take-append-le, take-append-drop, drop-append-le}
 use Rattle.std.proofs.Common.{length-take, length-drop, length-append}
 use Rattle.kms_io.specs.Wire.{Wire, with_more, with_first, TellsMore, RoseBy}
 use Rattle.kms_io.specs.Link.{Takes, Sends}
-use Rattle.kms_session.specs.Session.{SendsShort}
-use Rattle.kms_session.specs.Inbox.{Receives}
+use Rattle.kms_io.specs.declared.link.Move.{Move}
+use Rattle.kms_io.specs.declared.link.Move.TheVariants.{In, Out}
+use Rattle.kms_session.specs.Pace.{IsOpen, Gathers, no_read, one_read, no_bytes, PutsOut, no_write, one_write}
+use Rattle.kms_session.specs.Session.{SendsWhole, SendsShort}
+use Rattle.kms_session.specs.Inbox.{Receives, Gets, GetsNothing}
 
 pub with_more-nil : {X : Type 0} (told : Option (List X)) → told ≡ with_more told []
 with_more-nil None = refl
@@ -58,13 +61,56 @@ sends_on {x} {y} {z} {a} {b} h k = record {
 }
 
 pub receives_nothing : (wire : Wire) (buffer : List ℕ) → Receives wire buffer wire buffer
-receives_nothing wire buffer = record { bytes = []; takes = takes_nothing wire; grows = sym (append-nil buffer) }
+receives_nothing wire buffer = record { bytes = []; takes = takes_nothing wire; grows = sym (append-nil buffer); gathers = no_read }
 
-pub receives_on : {x y z : Wire} {p q r : List ℕ} → Receives x p y q → Receives y q z r → Receives x p z r
-receives_on {x} {y} {z} {p} {q} {r} h k = record {
-  bytes = h.bytes ++ k.bytes;
+-- one more read, at an open buffer
+pub receives_on : {x y z : Wire} {p q r : List ℕ} {n : ℕ} → Receives x p y q → IsOpen q → Gets y q n z r → Receives x p z r
+receives_on {x} {y} {z} {p} {q} {r} {n} h open_ k = record {
+  bytes = h.bytes ++ k.piece;
   takes = takes_on h.takes k.takes;
-  grows = k.grows ∙ ap (λ buffer. buffer ++ k.bytes) h.grows ∙ append_assoc p h.bytes k.bytes;
+  grows = k.grows ∙ ap (λ buffer. buffer ++ k.piece) h.grows ∙ append_assoc p h.bytes k.piece;
+  gathers = one_read k.piece h.gathers (subst IsOpen h.grows open_) refl (subst (λ (m : ℕ). TellsMore y.moves (In m ∷ []) z.moves) (sym k.size) k.moves);
+}
+
+-- one more, which brought nothing
+pub receives_none : {x y z : Wire} {p q r : List ℕ} → Receives x p y q → IsOpen q → GetsNothing y q z r → Receives x p z r
+receives_none {x} {y} {z} {p} {q} {r} h open_ k = record {
+  bytes = h.bytes;
+  takes = subst (Takes x z) (append-nil h.bytes) (takes_on h.takes k.takes);
+  grows = k.same ∙ h.grows;
+  gathers = no_bytes h.gathers (subst IsOpen h.grows open_) k.moves;
+}
+
+-- a read that brought bytes makes the buffer longer
+pub gets_more : {old new : Wire} {before after : List ℕ} {n : ℕ} → Gets old before n new after → length before < length after
+gets_more {before = before} {after = after} h =
+    let size : length after ≡ length before + length h.piece = ap length h.grows ∙ length-append before h.piece in
+    omega (arith, h.size, h.some)
+
+-- what a read brings stands behind what is left of the bytes before
+pub behind : (start : ℕ) (before piece : List ℕ) → start ≤ length before → drop start (before ++ piece) ≡ drop start before ++ piece
+behind start before piece fits = drop-append-le start before piece fits
+
+-- ---- texts that are written whole
+
+puts_on : {told mid new : Option (List Move)} {n m : ℕ} → PutsOut told n mid → PutsOut mid m new → PutsOut told (n + m) new
+puts_on {told} {mid} {new} {n} h no_write = subst (λ (k : ℕ). PutsOut told k mid) (sym (add-zero n)) h
+puts_on {told} {mid} {new} {n} {m} h (one_write {n = k} last more is shown) = one_write last (puts_on h more) (ap (λ (i : ℕ). n + i) is ∙ sym (add_assoc n k last)) shown
+
+pub whole_nothing : (wire : Wire) → SendsWhole wire wire []
+whole_nothing wire = record { sends = sends_nothing wire; out = no_write }
+
+pub whole_on : {x y z : Wire} {a b : List ℕ} → SendsWhole x y a → SendsWhole y z b → SendsWhole x z (a ++ b)
+whole_on {x} {y} {z} {a} {b} h k = record {
+  sends = sends_on h.sends k.sends;
+  out = subst (λ (n : ℕ). PutsOut x.moves n z.moves) (sym (length-append a b)) (puts_on h.out k.out);
+}
+
+-- one write
+pub whole_piece : {old new : Wire} (n : ℕ) (piece : List ℕ) → n ≤ length piece → Sends old new (take n piece) → TellsMore old.moves (Out n ∷ []) new.moves → SendsWhole old new (take n piece)
+whole_piece {old} {new} n piece fits sends shown = record {
+  sends = sends;
+  out = one_write n no_write (omega (arith, length-take n piece)) shown;
 }
 
 -- what a read into a part of a buffer leaves at its front
@@ -92,14 +138,14 @@ pub rose_since : (start old new : ℕ) → start ≤ old → RoseBy 1 old new �
 rose_since start old new h rose = omega arith
 
 -- the link failed after one text was written and a front of another
-pub sends_short_after : {old mid new : Wire} {first second : List ℕ} → Sends old mid first → SendsShort mid new second → SendsShort old new (first ++ second)
+pub sends_short_after : {old mid new : Wire} {first second : List ℕ} → SendsWhole old mid first → SendsShort mid new second → SendsShort old new (first ++ second)
 sends_short_after {old} {mid} {new} {first} {second} sent short = record {
   front = first ++ short.front;
   cut = short.cut;
   split = ap (λ (more : List ℕ). first ++ more) short.split ∙ sym (append_assoc first short.front short.cut);
   some = short.some;
-  sends = sends_on sent short.sends;
-  rose = omega (arith, sent.faults, short.rose);
+  sends = sends_on sent.sends short.sends;
+  rose = omega (arith, sent.sends.faults, short.rose);
 }
 
 -- the link failed in the first of two texts

@@ -1,7 +1,12 @@
 -- Laws about the cut of a stream and the ends of a session.
-use Rattle.std.specs.Prelude.{◌≡◌, ℕ, List, length, Bool, Some}
+use Rattle.std.specs.Prelude.{◌≡◌, ◌≢◌, ℕ, List, length, Bool, Some}
 use Rattle.kms_session.specs.declared.trust.Trust.{Trust}
-use Rattle.kms_session.specs.Run.{Item, Cuts}
+use Rattle.kms_json.specs.declared.asks.Ask.{Ask}
+use Rattle.kms_json.specs.declared.replies.Reply.{Reply}
+use Rattle.account_core.specs.Decide.{account_of, IsLawful}
+use Rattle.account_core.specs.Laws.{Sealing, HasSealed, iv_in}
+use Rattle.publish_pass.specs.Pass.{Pass, Reads, entries_of}
+use Rattle.kms_session.specs.Run.{Item, Cuts, SessionRun, caller_of, plan_of, asks}
 use Rattle.kms_session.specs.Session.{Outside, EndsBetween, EndsClosed, EndsInside}
 
 -- a stream is cut in one way
@@ -24,3 +29,27 @@ pub record IsOneEnd (trust : Trust) (old new : Outside) : Type 0 where
 
 abbrev pub OneEnd : Type 0
 OneEnd = (trust : Trust) (old new : Outside) → TellsTaken old new → IsOneEnd trust old new
+
+-- a run of a pass of the trusted caller's account keeps the history lawful
+abbrev pub RunsKeepLawful : Type 0
+RunsKeepLawful =
+    (trust : Trust) (start end : Pass) (items : List Item) (clocks text : List ℕ) → SessionRun start trust end items clocks text
+    → account_of (caller_of trust) ≡ start.facts.account → IsLawful start.facts (entries_of start.history)
+    → (end.facts ≡ start.facts) × IsLawful end.facts (entries_of end.history)
+
+-- a turn whose reply holds this sealed text, from one state of the pass to the next
+pub record SealsAt (trust : Trust) (item : Item) (c : ℕ) (s t : Pass) (sealing : Sealing) : Type 0 where
+  pub request : Ask
+  pub is : plan_of trust item c ≡ asks request
+  pub reply : Reply
+  pub reads : Reads s request reply t
+  pub sealed : HasSealed reads.met.facts (entries_of reads.met.history) request reads.met.places sealing
+
+-- the texts that two turns of a session seal have different initialization vectors, whatever turns, want of memory among them,
+-- stand between the two
+abbrev pub OneSessionRepeatsNoIv : Type 0
+OneSessionRepeatsNoIv =
+    (trust : Trust) (s t u v : Pass) (first second : Item) (c d : ℕ) (items : List Item) (clocks text : List ℕ) (one other : Sealing)
+    → account_of (caller_of trust) ≡ s.facts.account → IsLawful s.facts (entries_of s.history)
+    → SealsAt trust first c s t one → SessionRun t trust u items clocks text → SealsAt trust second d u v other
+    → iv_in one.blob ≢ iv_in other.blob

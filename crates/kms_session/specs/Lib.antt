@@ -1,6 +1,7 @@
 pub mod Answers
 pub mod Inbox
 pub mod Run
+pub mod Pace
 pub mod Session
 pub mod Replying
 pub mod Laws

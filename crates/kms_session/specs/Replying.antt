@@ -1,19 +1,18 @@
 -- A reply on its way out.
 use Rattle.std.specs.Prelude.{◌≡◌, ℕ, List, Bool, length}
 use Rattle.kms_io.specs.Wire.{Wire}
-use Rattle.kms_io.specs.Link.{Sends}
 use Rattle.publish_pass.specs.Answers.{Answer, answer_in}
 use Rattle.kms_session.specs.Answers.{IsReplyText}
 use Rattle.publish_pass.specs.declared.pass.Answered.{Answered}
 use Rattle.publish_pass.specs.Pass.{Pass}
 use Rattle.kms_session.specs.Run.{Plan, Answers}
-use Rattle.kms_session.specs.Session.{SendsShort}
+use Rattle.kms_session.specs.Session.{SendsWhole, SendsShort}
 
 -- the text of this answer was written
 pub record SendsReply (answer : Answer) (second front : ℕ) (closes : Bool) (old new : Wire) : Type 0 where
   pub text : List ℕ
   pub is : IsReplyText answer second front closes text
-  pub sends : Sends old new text
+  pub sends : SendsWhole old new text
 
 -- a front of it was written, and then the link failed
 pub record SendsReplyShort (answer : Answer) (second front : ℕ) (closes : Bool) (old new : Wire) : Type 0 where

@@ -1,5 +1,5 @@
 -- A session as a run of turns over what is due.
-use Rattle.std.specs.Prelude.{◌≡◌, ◌+◌, ◌==◌, ℕ, List, [], ◌∷◌, ◌++◌, length, Bool, true, false, None, Result, Ok, Err}
+use Rattle.std.specs.Prelude.{◌≡◌, ◌<◌, ◌+◌, ◌==◌, ℕ, List, [], ◌∷◌, ◌++◌, length, Bool, true, false, None, Result, Ok, Err}
 use Rattle.kms_names.specs.declared.principals.Principal.{Principal}
 use Rattle.kms_json.specs.declared.asks.Ask.{Ask}
 use Rattle.kms_json.specs.declared.asks.AskBody.{AskBody}
@@ -13,7 +13,7 @@ use Rattle.kms_session.specs.declared.trust.Trust.TheVariants.{Word}
 use Rattle.http_front.specs.Message.{Message, IsMessage, IsHopeless, target_in}
 use Rattle.publish_pass.specs.Answers.{Answer, answer_of}
 use Rattle.kms_session.specs.Answers.{fault_answer, IsReplyText, five_hundred}
-use Rattle.publish_pass.specs.Pass.{Pass, Reads, Changes, Wants}
+use Rattle.publish_pass.specs.Pass.{Pass, Reads, Changes, Wants, WantsChange}
 
 -- what is answered: a message, or bytes that no message begins with
 pub data Item : Type 0 where
@@ -48,10 +48,12 @@ pub data Answers (s : Pass) (plan : Plan) (answer : Answer) (t : Pass) : Type 0 
   reads : (x : Ask) (reply : Reply) → plan ≡ asks x → changes_account x.body ≡ false → Reads s x reply t → answer ≡ answer_of reply → Answers s plan answer t
   changes : (x : Ask) (reply : Reply) → plan ≡ asks x → changes_account x.body ≡ true → Changes s x reply t → answer ≡ answer_of reply → Answers s plan answer t
 
--- what a pass holds after the reply for want of memory: what it held, but for what a request of the account may have used
-abbrev pub Wanting : Pass → Plan → Pass → Type 0
-Wanting s (answered answer) t = t ≡ s
-Wanting s (asks x) t = Wants s x t
+-- What a pass holds after the reply for want of memory: what it held, but for what a reading request may have used, or the entry
+-- of housekeeping before a changing one.
+pub data Wanting (s : Pass) (plan : Plan) (t : Pass) : Type 0 where
+  wants_nothing : (answer : Answer) → plan ≡ answered answer → t ≡ s → Wanting s plan t
+  wants_read : (x : Ask) → plan ≡ asks x → changes_account x.body ≡ false → Wants s x t → Wanting s plan t
+  wants_change : (x : Ask) → plan ≡ asks x → changes_account x.body ≡ true → WantsChange s x t → Wanting s plan t
 
 -- The plan is answered, with the number of entries that the answer stands on, or the reply is the one for want of memory.
 pub data Replies (s : Pass) (plan : Plan) (c : ℕ) (closes : Bool) (text : List ℕ) (t : Pass) : Type 0 where
@@ -62,10 +64,11 @@ pub data Replies (s : Pass) (plan : Plan) (c : ℕ) (closes : Bool) (text : List
 abbrev pub Turn : Pass → Trust → Item → ℕ → Bool → List ℕ → Pass → Type 0
 Turn s trust item c closes text t = Replies s (plan_of trust item c) c closes text t
 
--- A run of turns over the items in order, each with its answer of the clock. The text is the replies joined.
+-- A run of turns over the items in order, each with its answer of the clock, which is before the year 10000. The text is the
+-- replies joined.
 pub data SessionRun (start : Pass) (trust : Trust) : Pass → List Item → List ℕ → List ℕ → Type 0 where
   begins : SessionRun start trust start [] [] []
-  goes_on : {old new : Pass} {items : List Item} {clocks text reply : List ℕ} (item : Item) (c : ℕ)
+  goes_on : {old new : Pass} {items : List Item} {clocks text reply : List ℕ} (item : Item) (c : ℕ) → c < 253402300800
       → SessionRun start trust old items clocks text → Turn old trust item c (closes_at (length items) item) reply new
       → SessionRun start trust new (items ++ item ∷ []) (clocks ++ c ∷ []) (text ++ reply)
 

@@ -7,6 +7,7 @@ use Rattle.kms_session.specs.declared.session.SessionEnd.{SessionEnd}
 use Rattle.kms_session.specs.declared.session.SessionEnd.TheVariants.{Ended, Closed, CutOff, ReadFault, WriteFault, NoMemory}
 use Rattle.http_front.specs.Message.{BeginsWithNone, IsUnfinished}
 use Rattle.publish_pass.specs.Pass.{Pass}
+use Rattle.kms_session.specs.Pace.{PutsOut, Paced}
 use Rattle.kms_session.specs.Run.{Item, Plan, Replies, Turn, Cuts, SessionRun, closes_at}
 
 -- what a link and a clock tell, and what a pass holds
@@ -17,6 +18,11 @@ pub record Outside : Type 0 where
 
 abbrev pub outside : Wire → Option (List ℕ) → Pass → Outside
 outside wire clock pass = record { wire = wire; clock = clock; pass = pass }
+
+-- the text was written whole
+pub record SendsWhole (old new : Wire) (text : List ℕ) : Type 0 where
+  pub sends : Sends old new text
+  pub out : PutsOut old.moves (length text) new.moves
 
 -- the link failed after the front of the text was written
 pub record SendsShort (old new : Wire) (text : List ℕ) : Type 0 where
@@ -31,7 +37,7 @@ pub record SendsShort (old new : Wire) (text : List ℕ) : Type 0 where
 pub record Responds (s : Pass) (plan : Plan) (c : ℕ) (closes : Bool) (before after : Wire) (t : Pass) : Type 0 where
   pub text : List ℕ
   pub replies : Replies s plan c closes text t
-  pub sends : Sends before after text
+  pub sends : SendsWhole before after text
 
 -- a front of it was written, and then the link failed
 pub record RespondsShort (s : Pass) (plan : Plan) (c : ℕ) (closes : Bool) (before after : Wire) (t : Pass) : Type 0 where
@@ -39,7 +45,8 @@ pub record RespondsShort (s : Pass) (plan : Plan) (c : ℕ) (closes : Bool) (bef
   pub replies : Replies s plan c closes text t
   pub short : SendsShort before after text
 
--- What was written is the replies of a run over the items into which the bytes taken are cut, up to this rest.
+-- What was written is the replies of a run over the items into which the bytes taken are cut, up to this rest. Each read was made where
+-- no whole message waited for its answer, and no reply to be written.
 pub record Serves (trust : Trust) (old new : Outside) (closes : Bool) (count : ℕ) (rest : List ℕ) : Type 0 where
   pub input : List ℕ
   pub items : List Item
@@ -48,6 +55,7 @@ pub record Serves (trust : Trust) (old new : Outside) (closes : Bool) (count : �
   pub number : length items ≡ count
   pub cuts : Cuts input closes items rest
   pub run : SessionRun old.pass trust new.pass items clocks text
+  pub paced : Paced old.pass trust old.wire.moves new.pass items clocks text input (length text) new.wire.moves
   pub taken : new.wire.taken ≡ with_more old.wire.taken input
   pub left : old.wire.left ≡ with_first input new.wire.left
   pub written : new.wire.written ≡ with_more old.wire.written text
@@ -97,6 +105,7 @@ pub record BreaksOff (trust : Trust) (old new : Outside) : Type 0 where
   pub serves : Serves trust old so_far false count buffer
   pub cuts : Cuts serves.input closes (serves.items ++ item ∷ []) rest
   pub is : closes ≡ closes_at count item
+  pub before_year_10000 : c < 253402300800
   pub told : TellsMore so_far.clock (c ∷ []) new.clock
   pub text : List ℕ
   pub turn : Turn so_far.pass trust item c closes text new.pass

@@ -13,15 +13,16 @@ pub const ROOM: usize = 147_456;
 #[derive(Drop)]
 pub struct Inbox {
     bytes: Vec<u8>,
-    filled: usize,
+    start: usize,
+    end: usize,
 }
 
 impl Model for Inbox {
     ghost Value = { List ℕ };
 
-    ghost view = { λ b. take b.filled b.bytes.items };
+    ghost view = { λ b. drop b.start (take b.end b.bytes.items) };
 
-    ghost invariant = { λ b. (b.filled ≤ 147456) × (length b.bytes.items ≡ 147456) };
+    ghost invariant = { λ b. (b.start ≤ b.end) × (b.end ≤ 147456) × (length b.bytes.items ≡ 147456) };
 }
 
 impl Inbox {
@@ -30,7 +31,11 @@ impl Inbox {
         ensures { IfOk result (λ b. b ≡ []) }
     {
         let bytes = vec![in alloc; 0; ROOM]?;
-        Ok(Inbox { bytes, filled: 0 })
+        Ok(Inbox {
+            bytes,
+            start: 0,
+            end: 0,
+        })
     }
 
     /// The bytes.
@@ -38,22 +43,26 @@ impl Inbox {
         ensures value { result.now ≡ self.now }
         ensures fits { length self.now ≤ 147456 }
     {
-        &self.bytes[..self.filled]
+        between(&self.bytes, self.start, self.end)
     }
 
     /// Whether there are none.
     pub fn is_empty(&self) -> bool
         ensures { MatchBool result (self.now ≡ []) (0 < length self.now) }
     {
-        self.filled == 0
+        self.start == self.end
     }
 
-    /// Reads once from the link, to the end of the bytes.
+    /// Reads once from the link, to the end of the bytes. What is there is moved to the front of the buffer
+    /// where no room is left behind it.
     pub fn fill<L: Link>(&mut self, link: &mut L) -> Took
         requires { length self.old < 147456 }
         ensures { Fills (L.shows link.old) self.old result (L.shows link.new) self.new }
     {
-        read_into(link, &mut self.bytes, &mut self.filled)
+        if self.end == ROOM {
+            settle(&mut self.bytes, &mut self.start, &mut self.end);
+        }
+        read_into(link, &mut self.bytes, self.start, &mut self.end)
     }
 
     /// Lets so many bytes at the front go.
@@ -61,15 +70,25 @@ impl Inbox {
         requires { count ≤ length self.old }
         ensures { self.new ≡ drop count self.old }
     {
-        shift(&mut self.bytes, self.filled, count);
-        self.filled -= count;
+        self.start += count;
     }
 }
 
+// The bytes from one place to another.
+fn between(bytes: &[u8], start: usize, end: usize) -> &[u8]
+    requires start { start ≤ end }
+    requires end { end ≤ length bytes.now }
+    ensures { result.now ≡ drop start (take end bytes.now) }
+{
+    &bytes[..end][start..]
+}
+
 // Reads once, behind the bytes that are there.
-fn read_into<L: Link>(link: &mut L, bytes: &mut [u8], filled: &mut usize) -> Took
-    requires { filled.old < length bytes.old }
-    ensures fills { Fills (L.shows link.old) (take filled.old bytes.old) result (L.shows link.new) (take filled.new bytes.new) }
+fn read_into<L: Link>(link: &mut L, bytes: &mut [u8], start: usize, filled: &mut usize) -> Took
+    requires room { filled.old < length bytes.old }
+    requires start { start ≤ filled.old }
+    ensures fills { Fills (L.shows link.old) (drop start (take filled.old bytes.old)) result (L.shows link.new) (drop start (take filled.new bytes.new)) }
+    ensures grows { filled.old ≤ filled.new }
     ensures fits { filled.new ≤ length bytes.new }
 {
     let at = *filled;
@@ -80,11 +99,15 @@ fn read_into<L: Link>(link: &mut L, bytes: &mut [u8], filled: &mut usize) -> Too
     took
 }
 
-// Moves what follows the first bytes to the front.
-fn shift(bytes: &mut [u8], filled: usize, count: usize)
-    requires filled { filled ≤ length bytes.old }
-    requires count { count ≤ filled }
-    ensures { take (filled - count) bytes.new ≡ drop count (take filled bytes.old) }
+// Moves the bytes from one place to another to the front.
+fn settle(bytes: &mut [u8], start: &mut usize, end: &mut usize)
+    requires start { start.old ≤ end.old }
+    requires end { end.old ≤ length bytes.old }
+    ensures bytes { drop start.new (take end.new bytes.new) ≡ drop start.old (take end.old bytes.old) }
+    ensures start { start.new ≡ 0 }
+    ensures end { end.new ≡ end.old - start.old }
 {
-    bytes[..filled].rotate_left(count);
+    bytes.copy_within(*start..*end, 0);
+    *end -= *start;
+    *start = 0;
 }

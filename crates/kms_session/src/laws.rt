@@ -1,5 +1,5 @@
 // What follows from the definitions alone.
-ghost use Rattle.kms_session.specs.Laws.{OneCut, OneEnd};
+ghost use Rattle.kms_session.specs.Laws.{OneCut, OneEnd, RunsKeepLawful, OneSessionRepeatsNoIv};
 
 /// A stream is cut into messages in one way: two cuts into as many items have the same items and the
 /// same rest.
@@ -12,4 +12,16 @@ pub fn one_cut()
 /// not lack.
 pub fn one_end()
     ensures { OneEnd }
+{}
+
+/// A run of turns keeps the facts and a lawful history lawful. So the laws of lawful histories hold of
+/// whatever history a session leaves.
+pub fn runs_keep_lawful()
+    ensures { RunsKeepLawful }
+{}
+
+/// The texts that one session seals have initialization vectors of their own, whatever turns, also those
+/// that want memory, stand between two of them.
+pub fn one_session_repeats_no_iv()
+    ensures { OneSessionRepeatsNoIv }
 {}

@@ -1,15 +1,17 @@
 // Bytes that go out.
-ghost use Rattle.std.specs.Prelude.{MatchBool, ◌<◌, length};
-ghost use Rattle.kms_io.specs.Link.{Sends};
-ghost use Rattle.kms_session.specs.Session.{SendsShort};
+ghost use Rattle.std.specs.Prelude.{MatchBool, MatchOption, ◌≡◌, ◌≤◌, ◌++◌, ⊤, ◌<◌, length, take};
+ghost use Rattle.kms_session.specs.Session.{SendsWhole, SendsShort};
 ghost use Rattle.kms_session.specs.Replying.{SendsReply, SendsReplyShort};
 
 use http_front::write_head;
 use kms_io::{Link, Put};
 
+// How many bytes a reply has at most that is written at once.
+const ROOM: usize = 8192;
+
 /// Writes all of it, or answers false where the link failed.
 pub fn send<L: Link>(link: &mut L, text: &[u8]) -> bool
-    ensures { MatchBool result (Sends (L.shows link.old) (L.shows link.new) text.now)
+    ensures { MatchBool result (SendsWhole (L.shows link.old) (L.shows link.new) text.now)
         (SendsShort (L.shows link.old) (L.shows link.new) text.now) }
 {
     let mut at = 0;
@@ -22,8 +24,21 @@ pub fn send<L: Link>(link: &mut L, text: &[u8]) -> bool
     true
 }
 
-/// Writes a reply, its head and then its body, or answers false where the link failed. It takes no
-/// memory.
+// Puts both texts at the front of the room, where they fit, and answers how many bytes they have.
+fn join(room: &mut [u8], first: &[u8], second: &[u8]) -> Option<usize>
+    ensures { MatchOption result ⊤ (λ n. (n ≤ length room.new) × (take n room.new ≡ first.now ++ second.now)) }
+{
+    let size = first.len();
+    if size > room.len() || second.len() > room.len() - size {
+        return None;
+    }
+    room[..size].copy_from_slice(first);
+    room[size..size + second.len()].copy_from_slice(second);
+    Some(size + second.len())
+}
+
+/// Writes a reply, its head and then its body, at once where both fit a room, or answers false where the
+/// link failed. It takes no memory.
 pub fn send_reply<L: Link>(
     link: &mut L,
     status: u16,
@@ -38,6 +53,10 @@ pub fn send_reply<L: Link>(
         (SendsReplyShort (record { status = status; body = body.now }) second front closes (L.shows link.old) (L.shows link.new)) }
 {
     let head = write_head(status, body.len(), second, front, closes);
+    let mut room = [0; ROOM];
+    if let Some(size) = join(&mut room, head.bytes(), body) {
+        return send(link, &room[..size]);
+    }
     if !send(link, head.bytes()) {
         return false;
     }

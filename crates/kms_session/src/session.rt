@@ -11,14 +11,14 @@ ghost use Rattle.kms_session.specs.Replying.{Gives};
 ghost use Rattle.kms_session.specs.Session.{Outside, outside, Responds, RespondsShort, Serves, EndsBy, GoesOn};
 
 use crate::inbox::Inbox;
-use http_front::{HttpFault, body_of, target_of};
 use crate::outbox::{send, send_reply};
-use publish_pass::{Answered, Pass, Realm, Service, answer_with};
 use crate::trust::Trust;
 use crate::waiting::{Awaited, await_message};
+use http_front::{HttpFault, body_of, target_of};
 use kms_io::{Clock, Gate, Link};
 use kms_json::{Ask, JsonFault, Refusal, Reply, read_ask};
 use kms_names::{NoMemory, Principal};
+use publish_pass::{Answered, Pass, Realm, Service, answer_with};
 use std::alloc::Global;
 use std::sync::Wait;
 
@@ -98,7 +98,7 @@ fn answer_ask<W: Wait, R: Realm, G: Gate>(
 ) -> Result<Answered, NoMemory>
     requires { IsProper pass.old.facts ask.now }
     ensures answer { IfOk result (λ a. Gives pass.old (asks ask.now) a pass.new) }
-    ensures err { OnErr result (Wanting pass.old (asks ask.now) pass.new) }
+    ensures wants { OnErr result (Wanting pass.old (asks ask.now) pass.new) }
 {
     if ask.changes() {
         let answered = pass.change(host.rt, host.alloc, host.service, ask, host.gate)?;
@@ -132,7 +132,7 @@ fn answer_message<W: Wait, R: Realm, G: Gate>(
     requires now { now < 253402300800 }
     requires caller { account_of (caller_of host.now.trust.now) ≡ pass.old.facts.account }
     ensures answer { IfOk result (λ a. Gives pass.old (planned host.now.trust.now now (asked target.now body.now)) a pass.new) }
-    ensures err { OnErr result (Wanting pass.old (planned host.now.trust.now now (asked target.now body.now)) pass.new) }
+    ensures wants { OnErr result (Wanting pass.old (planned host.now.trust.now now (asked target.now body.now)) pass.new) }
 {
     match read_ask(host.alloc, target, body) {
         Ok(body) => {

@@ -8,12 +8,13 @@ use Rattle.account_core.specs.declared.facts.RealmFacts.{RealmFacts}
 use Rattle.account_core.specs.declared.entries.Entry.{Entry}
 use Rattle.account_core.specs.declared.decide.Decision.{Decision}
 use Rattle.account_core.specs.declared.decide.Decision.TheVariants.{Refused, Served, Change}
-use Rattle.account_core.specs.Decide.{decide, decision_by, decision_of, no_places, IsNext, IsProper}
+use Rattle.account_core.specs.Decide.{decide, decision_by, decision_of, IsNext, appended, kept, IsProper}
 use Rattle.kms_json.specs.Asks.{changes_account}
-use Rattle.account_core.specs.Places.{Places, IsUpTo}
-use Rattle.account_core.specs.Steps.{Decided}
+use Rattle.account_core.specs.declared.places.Places.{Places}
+use Rattle.account_core.specs.Places.{IsUpTo, no_places}
+use Rattle.account_core.specs.Parts.{Decided}
 use Rattle.account_core.proofs.GoingOn.{same_reply, same_entry}
-use Rattle.publish_pass.specs.Pass.{Pass, entries_of, made_by, first_places, making, making_any, one_pass, Reads, Wants, Changes}
+use Rattle.publish_pass.specs.Pass.{Pass, entries_of, made_by, first_places, making, making_any, one_pass, Reads, Wants, Decides}
 
 pub entries_of-made_by : (number : ℕ) (entries : List Entry) → entries_of (made_by number entries) ≡ entries
 entries_of-made_by number [] = refl
@@ -63,12 +64,8 @@ module _ (facts : RealmFacts) (entries : List Entry) (x : Ask) (places : Places)
   }
 
   changes_to : changes_account x.body ≡ true → (reply : Reply) (t : Pass) → t ≡ making_any (one_pass facts entries places) (decide facts entries x no_places).entry
-      → reply ≡ (decide facts entries x no_places).reply → Changes (one_pass facts entries places) x reply t
+      → reply ≡ (decide facts entries x no_places).reply → Decides (one_pass facts entries places) x reply t
   changes_to changing reply t made is = record {
-    met = one_pass facts entries places;
-    seen = refl;
-    kept = one_pass facts entries places;
-    house = refl;
     made = made ∙ ap (making_any (one_pass facts entries places)) (same_entry facts entries x no_places places changing ∙ ap (λ (d : Decided). d.entry) (sym here));
     answer = is ∙ same_reply facts entries x no_places places changing ∙ ap (λ (d : Decided). d.reply) (sym here);
   }
@@ -97,29 +94,29 @@ module _ (facts : RealmFacts) (entries : List Entry) (x : Ask) (places : Places)
   change_parts entry reply r (Some other) e = let same : entry ≡ other = cc in (ap Some (sym same), cc)
   change_parts entry reply r None e = absurd (change_where (status_of r == 200) entry reply r e)
 
-  pub changes_refused : changes_account x.body ≡ true → (reply : Reply) → Refused reply ≡ decision_of facts entries x → Changes (one_pass facts entries places) x reply (one_pass facts entries places)
+  pub changes_refused : changes_account x.body ≡ true → (reply : Reply) → Refused reply ≡ decision_of facts entries x → Decides (one_pass facts entries places) x reply (one_pass facts entries places)
   changes_refused changing reply is =
       let parts = refused_parts reply _ _ is in
       changes_to changing reply (one_pass facts entries places) (ap (making_any (one_pass facts entries places)) (sym parts.0)) parts.1
 
-  pub changes_served : changes_account x.body ≡ true → (reply : Reply) → Served reply ≡ decision_of facts entries x → Changes (one_pass facts entries places) x reply (one_pass facts entries places)
+  pub changes_served : changes_account x.body ≡ true → (reply : Reply) → Served reply ≡ decision_of facts entries x → Decides (one_pass facts entries places) x reply (one_pass facts entries places)
   changes_served changing reply is =
       let parts = served_parts reply _ _ is in
       changes_to changing reply (one_pass facts entries places) (ap (making_any (one_pass facts entries places)) (sym parts.0)) parts.1
 
   pub changes_either : changes_account x.body ≡ true → (reply : Reply) (d : Decision) → (d ≡ Refused reply) ⊎ (d ≡ Served reply) → d ≡ decision_of facts entries x
-      → Changes (one_pass facts entries places) x reply (one_pass facts entries places)
+      → Decides (one_pass facts entries places) x reply (one_pass facts entries places)
   changes_either changing reply d (inl is) gives = changes_refused changing reply (sym is ∙ gives)
   changes_either changing reply d (inr is) gives = changes_served changing reply (sym is ∙ gives)
 
   pub changes_made : changes_account x.body ≡ true → (entry : Entry) (reply : Reply) → Change entry reply ≡ decision_of facts entries x
-      → Changes (one_pass facts entries places) x reply (one_pass facts (entries ++ entry ∷ []) places)
+      → Decides (one_pass facts entries places) x reply (one_pass facts (entries ++ entry ∷ []) places)
   changes_made changing entry reply is =
       let parts = change_parts entry reply _ _ is in
       changes_to changing reply (one_pass facts (entries ++ entry ∷ []) places) (one_pass-push facts entries entry places ∙ ap (making_any (one_pass facts entries places)) (sym parts.0)) parts.1
 
   pub next_entry : (entry : Entry) (reply : Reply) → Change entry reply ≡ decision_of facts entries x → IsProper facts x → IsNext facts entries entry
-  next_entry entry reply is proper = record { request = x; proper = proper; appended = (change_parts entry reply _ _ is).0 }
+  next_entry entry reply is proper = appended x proper (change_parts entry reply _ _ is).0
 
 -- what holds holds where there is an error
 pub on_err : {A E P : Type 0} (r : Result A E) → P → OnErr r P

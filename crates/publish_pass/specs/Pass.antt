@@ -1,12 +1,13 @@
 -- What a pass holds, and how a request changes it.
-use Rattle.std.specs.Prelude.{◌≡◌, ℕ, zero, suc, List, [], ◌∷◌, ◌++◌, length, map, Option, Some, None}
+use Rattle.std.specs.Prelude.{◌≡◌, ℕ, zero, suc, List, [], ◌∷◌, ◌++◌, length, map, Option, Some, None, ◌⊎◌}
 use Rattle.kms_json.specs.declared.asks.Ask.{Ask}
 use Rattle.kms_json.specs.declared.replies.Reply.{Reply}
 use Rattle.account_core.specs.declared.facts.RealmFacts.{RealmFacts}
 use Rattle.account_core.specs.declared.entries.Entry.{Entry}
 use Rattle.account_core.specs.History.{housekeeping_of}
-use Rattle.account_core.specs.Places.{Places, IsUpTo}
-use Rattle.account_core.specs.Decide.{no_places, decide}
+use Rattle.account_core.specs.declared.places.Places.{Places}
+use Rattle.account_core.specs.Places.{IsUpTo, no_places}
+use Rattle.account_core.specs.Decide.{decide}
 
 -- its number, the history that it has seen with the number of the pass that made each entry, the places of its own
 -- entries, and what it has used of its random stream and its initialization vectors
@@ -60,14 +61,26 @@ pub record Wants (s : Pass) (x : Ask) (t : Pass) : Type 0 where
   pub used : t ≡ at_places met places
   pub at_most : IsUpTo met.places places (decide met.facts (entries_of met.history) x met.places).places
 
--- housekeeping comes first, then the decision, whose entry is the last of the history
+-- the decision, whose entry is the last of the history
+pub record Decides (s : Pass) (x : Ask) (reply : Reply) (t : Pass) : Type 0 where
+  pub made : t ≡ making_any s (decide s.facts (entries_of s.history) x s.places).entry
+  pub answer : reply ≡ (decide s.facts (entries_of s.history) x s.places).reply
+
+-- the pass after housekeeping at a clock's answer
+abbrev pub keeping_house : Pass → ℕ → Pass
+keeping_house s clock = making_any s (housekeeping_of (entries_of s.history) clock)
+
+-- a request that changes the account: housekeeping comes first, then the decision
 pub record Changes (s : Pass) (x : Ask) (reply : Reply) (t : Pass) : Type 0 where
   pub met : Pass
   pub seen : Meets s met
-  pub kept : Pass
-  pub house : kept ≡ making_any met (housekeeping_of (entries_of met.history) x.moment)
-  pub made : t ≡ making_any kept (decide kept.facts (entries_of kept.history) x kept.places).entry
-  pub answer : reply ≡ (decide kept.facts (entries_of kept.history) x kept.places).reply
+  pub decides : Decides (keeping_house met x.moment) x reply t
+
+-- a request that changes the account and is answered for want of memory leaves at most the entry of housekeeping
+pub record WantsChange (s : Pass) (x : Ask) (t : Pass) : Type 0 where
+  pub met : Pass
+  pub seen : Meets s met
+  pub left : (t ≡ met) ⊎ (t ≡ keeping_house met x.moment)
 
 -- the one pass of a service, which made every entry
 abbrev pub one_pass : RealmFacts → List Entry → Places → Pass

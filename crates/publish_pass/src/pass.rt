@@ -80,13 +80,14 @@ pub fn answer_with(alloc: Global, front: u64, reply: &Reply) -> Result<Answered,
 }
 
 impl<R: Realm> Pass<R> {
-    ghost use Rattle.std.specs.Prelude.{◌≡◌, [], true, false, length, IfOk, IfErr, OnErr};
+    ghost use Rattle.std.specs.Prelude.{◌≡◌, ◌<◌, [], true, false, length, IfOk, IfErr, OnOk, OnErr};
     ghost use Rattle.publish_pass.specs.declared.pass.Unread.TheVariants.{NoMemory as OutOfMemory};
     ghost use Rattle.kms_json.specs.declared.replies.Reply.{Reply};
     ghost use Rattle.kms_json.specs.Asks.{changes_account};
-    ghost use Rattle.account_core.specs.Decide.{no_places, IsProper, IsLawful};
+    ghost use Rattle.account_core.specs.Places.{no_places};
+    ghost use Rattle.account_core.specs.Decide.{IsProper, IsLawful};
     ghost use Rattle.publish_pass.specs.Answers.{answer_of, answer_in};
-    ghost use Rattle.publish_pass.specs.Pass.{one_pass, entries_of, Reads, Wants, Changes};
+    ghost use Rattle.publish_pass.specs.Pass.{one_pass, entries_of, keeping_house, Reads, Wants, Decides, Changes, WantsChange};
 
     pub(crate) fn new(account: Account) -> Pass<R>
         ensures { result ≡ one_pass account.facts account.entries no_places }
@@ -123,8 +124,8 @@ impl<R: Realm> Pass<R> {
         Ok(answered)
     }
 
-    /// Answers a request that changes the account, and appends its entry, if it has one.
-    /// Without memory the pass stays as it is.
+    /// Answers a request that changes the account, and appends its entry, if it has one. Housekeeping comes
+    /// first. Without memory at most its entry was appended.
     pub fn change<W: Wait, G: Gate>(
         &mut self,
         _rt: &W,
@@ -136,6 +137,30 @@ impl<R: Realm> Pass<R> {
         requires proper { IsProper self.old.facts ask.now }
         requires changes { changes_account ask.now.body ≡ true }
         ensures answer { IfOk result (λ a. (reply : Reply) × Changes self.old ask.now reply self.new × (answer_in a ≡ answer_of reply) × (a.front ≡ length self.new.history)) }
+        ensures wants { OnErr result (WantsChange self.old ask.now self.new) }
+    {
+        self.keep_house(alloc, ask.moment)?;
+        self.decide(alloc, ask, gate)
+    }
+
+    // Appends the entry of housekeeping, if one is due.
+    fn keep_house(&mut self, alloc: Global, clock: u64) -> Result<(), NoMemory>
+        requires { clock < 253402300800 }
+        ensures ok { OnOk result (self.new ≡ keeping_house self.old clock) }
+        ensures err { OnErr result (self.new ≡ self.old) }
+        ensures facts { self.new.facts ≡ self.old.facts }
+    {
+        if let Some(entry) = self.account.housekeeping(clock) {
+            self.account = self.account.apply(alloc, &entry)?;
+        }
+        Ok(())
+    }
+
+    // Answers a request that changes the account, after housekeeping. Without memory the pass stays as it is.
+    fn decide<G: Gate>(&mut self, alloc: Global, ask: &Ask, gate: &G) -> Result<Answered, NoMemory>
+        requires proper { IsProper self.old.facts ask.now }
+        requires changes { changes_account ask.now.body ≡ true }
+        ensures answer { IfOk result (λ a. (reply : Reply) × Decides self.old ask.now reply self.new × (answer_in a ≡ answer_of reply) × (a.front ≡ length self.new.history)) }
         ensures err { OnErr result (self.new ≡ self.old) }
     {
         match self.account.decide_change(alloc, ask)? {

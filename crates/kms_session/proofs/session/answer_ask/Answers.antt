@@ -1,5 +1,5 @@
 use Rattle.publish_pass.proofs.PassLemmas.{on_err}
-use Rattle.kms_session.proofs.ReplyLemmas.{gives_changed, gives_read, wants_none}
+use Rattle.kms_session.proofs.ReplyLemmas.{gives_changed, gives_read, wants_changed, wants_reading}
 use Rattle.kms_session.proofs.session.answer_ask.Goals as goal
 
 pub returns-then-changes-clause-answer : goal.returns-then-changes-clause-answer
@@ -8,5 +8,8 @@ returns-then-changes-clause-answer g c = gives_changed c.args.pass.now c.change.
 pub returns-in-Ok-clause-answer : goal.returns-in-Ok-clause-answer
 returns-in-Ok-clause-answer g c = gives_read c.args.pass.now c.read.new.self c.args.ask.now c.in-Ok.answered c.if-changes.ensures c.in-Ok.ensures.answer
 
-pub returns-in_err-answered-clause-err : goal.returns-in_err-answered-clause-err
-returns-in_err-answered-clause-err g c = on_err c.from_residual.result (wants_none c.args.pass.now c.change.new.self c.args.ask.now c.in_err-answered.ensures.err)
+pub returns-in_err-answered-clause-wants : goal.returns-in_err-answered-clause-wants
+returns-in_err-answered-clause-wants g c = on_err c.from_residual.result (wants_changed c.args.pass.now c.change.new.self c.args.ask.now c.if-changes.ensures c.in_err-answered.ensures.wants)
+
+pub returns-in-Err-clause-wants : goal.returns-in-Err-clause-wants
+returns-in-Err-clause-wants g c = wants_reading c.args.pass.now c.read.new.self c.args.ask.now c.if-changes.ensures c.in-Err.ensures.wants

@@ -13,7 +13,7 @@ returns-then-not-respond-clause-goes g c = λ start s.
     let found = c.in-Message.ensures.finds in
     let cut = c.in-Message.cut in
     let here = subst (λ (bytes : List ℕ). IsMessage found.0 (take cut.len bytes)) (sym c.bytes.ensures.value) found.1.message in
-    breaks_at_message {new = outside (g.L.Link.shows c.respond.new.link) (g.C.Clock.told c.now-now.new.self) c.respond.new.pass} cut found.0 read found.1 refl c.now-now.ensures.told (c.if-not-respond.ensures found.0 here)
+    breaks_at_message {new = outside (g.L.Link.shows c.respond.new.link) (g.C.Clock.told c.now-now.new.self) c.respond.new.pass} cut found.0 read found.1 refl c.now-now.ensures.bound c.now-now.ensures.told (c.if-not-respond.ensures found.0 here)
 
 pub returns-then-not-respond-clause-facts : goal.returns-then-not-respond-clause-facts
 returns-then-not-respond-clause-facts g c =
@@ -27,7 +27,7 @@ returns-then-closes-clause-goes g c = λ start s.
     let found = c.in-Message.ensures.finds in
     let cut = c.in-Message.cut in
     let here = subst (λ (bytes : List ℕ). IsMessage found.0 (take cut.len bytes)) (sym c.bytes.ensures.value) found.1.message in
-    let next = serves_message {new = outside (g.L.Link.shows c.respond.new.link) (g.C.Clock.told c.now-now.new.self) c.respond.new.pass} cut found.0 read found.1 refl c.now-now.ensures.told (c.if-not-respond.ensures found.0 here) in
+    let next = serves_message {new = outside (g.L.Link.shows c.respond.new.link) (g.C.Clock.told c.now-now.new.self) c.respond.new.pass} cut found.0 read found.1 refl c.now-now.ensures.bound c.now-now.ensures.told (c.if-not-respond.ensures found.0 here) in
     record { count = c.args.number + 1; rest = _; serves = serves_where (same _ _ c.if-closes.true) next }
 
 pub returns-then-closes-clause-facts : goal.returns-then-closes-clause-facts
@@ -42,7 +42,7 @@ returns-else-closes-clause-goes g c = λ start s.
     let found = c.in-Message.ensures.finds in
     let cut = c.in-Message.cut in
     let here = subst (λ (bytes : List ℕ). IsMessage found.0 (take cut.len bytes)) (sym c.bytes.ensures.value) found.1.message in
-    let next = serves_message {new = outside (g.L.Link.shows c.respond.new.link) (g.C.Clock.told c.now-now.new.self) c.respond.new.pass} cut found.0 read found.1 refl c.now-now.ensures.told (c.if-not-respond.ensures found.0 here) in
+    let next = serves_message {new = outside (g.L.Link.shows c.respond.new.link) (g.C.Clock.told c.now-now.new.self) c.respond.new.pass} cut found.0 read found.1 refl c.now-now.ensures.bound c.now-now.ensures.told (c.if-not-respond.ensures found.0 here) in
     let going = serves_where (other _ _ c.if-closes.false) next in
     (serves_rest c.drop_front.ensures going, omega arith)
 
@@ -55,13 +55,13 @@ returns-else-closes-clause-facts g c =
 pub returns-then-respond_fault-clause-goes : goal.returns-then-respond_fault-clause-goes
 returns-then-respond_fault-clause-goes g c = λ start s.
     let read = serves_read _ _ s c.in-Bad.ensures.receives in
-    let next = serves_fault {new = outside (g.L.Link.shows c.respond_fault.new.link) (g.C.Clock.told c.now-now-in-Bad.new.self) c.args.pass.now} c.in-Bad.fault read c.in-Bad.ensures.finds c.now-now-in-Bad.ensures.told c.if-respond_fault.ensures in
+    let next = serves_fault {new = outside (g.L.Link.shows c.respond_fault.new.link) (g.C.Clock.told c.now-now-in-Bad.new.self) c.args.pass.now} c.in-Bad.fault read c.in-Bad.ensures.finds c.now-now-in-Bad.ensures.bound c.now-now-in-Bad.ensures.told c.if-respond_fault.ensures in
     record { count = c.args.number + 1; rest = c.await_message.new.inbox; serves = next }
 
 pub returns-else-respond_fault-clause-goes : goal.returns-else-respond_fault-clause-goes
 returns-else-respond_fault-clause-goes g c = λ start s.
     let read = serves_read _ _ s c.in-Bad.ensures.receives in
-    breaks_at_fault {new = outside (g.L.Link.shows c.respond_fault.new.link) (g.C.Clock.told c.now-now-in-Bad.new.self) c.args.pass.now} c.in-Bad.fault read c.in-Bad.ensures.finds c.now-now-in-Bad.ensures.told c.if-respond_fault.ensures
+    breaks_at_fault {new = outside (g.L.Link.shows c.respond_fault.new.link) (g.C.Clock.told c.now-now-in-Bad.new.self) c.args.pass.now} c.in-Bad.fault read c.in-Bad.ensures.finds c.now-now-in-Bad.ensures.bound c.now-now-in-Bad.ensures.told c.if-respond_fault.ensures
 
 pub returns-in-End-clause-goes : goal.returns-in-End-clause-goes
 returns-in-End-clause-goes g c = λ start s.

@@ -17,4 +17,5 @@ returns-clause-reads c =
         written = refl;
         write_faults = refl;
       },
+      c.add.ensures,
     )

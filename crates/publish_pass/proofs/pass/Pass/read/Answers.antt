@@ -1,5 +1,6 @@
 use Rattle.std.proofs.Common.{sym, ◌∙◌, subst}
-use Rattle.account_core.specs.Places.{Places, places_of, IsUpTo}
+use Rattle.account_core.specs.declared.places.Places.{Places}
+use Rattle.account_core.specs.Places.{places_of, IsUpTo}
 use Rattle.account_core.specs.Decide.{decide}
 use Rattle.account_core.proofs.GoingOn.{decide_goes_on, places_at, within_places}
 use Rattle.publish_pass.specs.Pass.{Pass, Reads, Wants, one_pass}

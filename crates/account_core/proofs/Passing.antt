@@ -1,0 +1,143 @@
+-- A request that is served has passed every step, and one that passes every step is served.
+use Rattle.std.proofs.Common.{◌≡◌, ℕ, List, length, Option, Some, None, Result, Ok, Err, refl, sym, ap, ◌∙◌, subst}
+use Rattle.std.specs.Prelude.{ok_or}
+use Rattle.kms_json.specs.declared.asks.Ask.{Ask}
+use Rattle.kms_json.specs.declared.asks.AskBody.{AskBody}
+use Rattle.kms_json.specs.declared.asks.AskBody.TheVariants as ask
+use Rattle.kms_json.specs.declared.asks.Reading.{Reading}
+use Rattle.kms_json.specs.declared.replies.Reply.{Reply}
+use Rattle.kms_json.specs.declared.replies.Reply.TheVariants.{Refused}
+use Rattle.kms_json.specs.declared.replies.Refusal.{Refusal}
+use Rattle.account_core.specs.declared.facts.RealmFacts.{RealmFacts}
+use Rattle.account_core.specs.declared.entries.Entry.{Entry}
+use Rattle.account_core.specs.Places.{Places}
+use Rattle.account_core.specs.View.{View, view_of}
+use Rattle.account_core.specs.Steps.{unless, and_then}
+use Rattle.account_core.specs.Parts.{Parts, Outcome, Decided, denied, dead_token, unfit_state, limited, only_asked, cleared, outcome, decided_by, after}
+use Rattle.account_core.specs.Operations.{read_outcome}
+use Rattle.account_core.specs.Decide.{lacking, body_outcome, decide}
+
+-- ---- one step
+
+-- what was found, and what came of it
+pub record Found {A B : Type 0} (found : Result A Refusal) (next : A → Result B Refusal) (wanted : B) : Type 0 where
+  pub value : A
+  pub is : found ≡ Ok value
+  pub came : next value ≡ Ok wanted
+
+pub found_of : {A B : Type 0} (found : Result A Refusal) (next : A → Result B Refusal) (wanted : B) → and_then found next ≡ Ok wanted → Found found next wanted
+found_of (Ok value) next wanted e = record { value = value; is = refl; came = e }
+found_of (Err why) next wanted e = cc
+
+pub none_of : {A : Type 0} (o : Option Refusal) (next : Result A Refusal) (wanted : A) → unless o next ≡ Ok wanted → o ≡ None
+none_of (Some why) next wanted e = cc
+none_of None next wanted e = refl
+
+pub next_of : {A : Type 0} (o : Option Refusal) (next : Result A Refusal) (wanted : A) → unless o next ≡ Ok wanted → next ≡ Ok wanted
+next_of (Some why) next wanted e = cc
+next_of None next wanted e = e
+
+pub ok_of : {A : Type 0} (o : Option A) (why : Refusal) (wanted : A) → ok_or o why ≡ Ok wanted → o ≡ Some wanted
+ok_of (Some value) why wanted e = cc
+ok_of None why wanted e = cc
+
+pub ok_same : {A : Type 0} (a b : A) → ◌≡◌ {A = Result A Refusal} (Ok a) (Ok b) → a ≡ b
+ok_same a b e = cc
+
+-- ---- all steps
+
+-- each step passed, and the outcome is the operation's
+pub record Passed {F R : Type 0} (view : View) (parts : Parts F R) (o : Outcome) : Type 0 where
+  pub found : F
+  pub ready : R
+  pub found_is : parts.found ≡ Ok found
+  pub allowed : denied view (parts.questions found) ≡ None
+  pub tokens_live : dead_token view parts.tokens ≡ None
+  pub states_fit : unfit_state view (parts.uses found) ≡ None
+  pub own_is : parts.own found ≡ Ok ready
+  pub left : limited view (parts.effect found ready) ≡ None
+  pub in_earnest : only_asked parts.dry_run ≡ None
+  pub outcome_is : record { reply = parts.reply found ready; effect = parts.effect found ready } ≡ o
+
+module _ {F R : Type 0} (view : View) (parts : Parts F R) where
+  abbrev given : F → R → Outcome
+  given found ready = record { reply = parts.reply found ready; effect = parts.effect found ready }
+
+  abbrev asked : F × R → Result Outcome Refusal
+  asked passed = unless (only_asked parts.dry_run) (Ok (given passed.0 passed.1))
+
+  abbrev own_of : F → Result (F × R) Refusal
+  own_of found = and_then (parts.own found) (λ ready. Ok (found, ready))
+
+  abbrev fit_of : F → Result (F × R) Refusal
+  fit_of found = unless (unfit_state view (parts.uses found)) (own_of found)
+
+  abbrev live_of : F → Result (F × R) Refusal
+  live_of found = unless (dead_token view parts.tokens) (fit_of found)
+
+  pub passed : (o : Outcome) → outcome view parts ≡ Ok o → Passed view parts o
+  passed o e =
+      let all = found_of (cleared view parts) (λ (p : F × R). unless (limited view (parts.effect p.0 p.1)) (asked p)) o e in
+      let first = found_of parts.found (λ (found : F). unless (denied view (parts.questions found)) (live_of found)) all.value all.is in
+      let second = next_of (denied view (parts.questions first.value)) (live_of first.value) all.value first.came in
+      let third = next_of (dead_token view parts.tokens) (fit_of first.value) all.value second in
+      let fourth = next_of (unfit_state view (parts.uses first.value)) (own_of first.value) all.value third in
+      let own = found_of (parts.own first.value) (λ (ready : R). Ok (first.value, ready)) all.value fourth in
+      let both : (first.value, own.value) ≡ all.value = ok_same (first.value, own.value) all.value own.came in
+      let last : unless (limited view (parts.effect first.value own.value)) (asked (first.value, own.value)) ≡ Ok o =
+      subst (λ (p : F × R). unless (limited view (parts.effect p.0 p.1)) (asked p) ≡ Ok o) (sym both) all.came in
+      let earnest = next_of (limited view (parts.effect first.value own.value)) (asked (first.value, own.value)) o last in
+      record {
+        found = first.value;
+        ready = own.value;
+        found_is = first.is;
+        allowed = none_of (denied view (parts.questions first.value)) (live_of first.value) all.value first.came;
+        tokens_live = none_of (dead_token view parts.tokens) (fit_of first.value) all.value second;
+        states_fit = none_of (unfit_state view (parts.uses first.value)) (own_of first.value) all.value third;
+        own_is = own.is;
+        left = none_of (limited view (parts.effect first.value own.value)) (asked (first.value, own.value)) o last;
+        in_earnest = none_of (only_asked parts.dry_run) (Ok (given first.value own.value)) o earnest;
+        outcome_is = ok_same (given first.value own.value) o (next_of (only_asked parts.dry_run) (Ok (given first.value own.value)) o earnest);
+      }
+
+  pub goes_through : (found : F) (ready : R) → parts.found ≡ Ok found → parts.own found ≡ Ok ready → limited view (parts.effect found ready) ≡ None → only_asked parts.dry_run ≡ None
+      → outcome view parts ≡ Ok (record { reply = parts.reply found ready; effect = parts.effect found ready })
+  goes_through found ready found_is own_is left in_earnest =
+      let rest : F × R → Result Outcome Refusal = λ p. unless (limited view (parts.effect p.0 p.1)) (asked p) in
+      ap (λ (f : Result F Refusal). and_then (and_then f (λ (v : F). unless (denied view (parts.questions v)) (live_of v))) rest) found_is
+      ∙ ap (λ (r : Result R Refusal). and_then (and_then r (λ (v : R). Ok (found, v))) rest) own_is
+      ∙ ap (λ (o : Option Refusal). unless o (asked (found, ready))) left
+      ∙ ap (λ (o : Option Refusal). unless o (Ok (given found ready))) in_earnest
+
+-- ---- a decision that serves
+
+record IsServed (wanted : Result Outcome Refusal) (places : Places) (r : Reply) (left : Places) : Type 0 where
+  out : Outcome
+  is : wanted ≡ Ok out
+  reply_is : out.reply ≡ r
+  places_are : left ≡ after places out.effect
+
+served_of : (wanted : Result Outcome Refusal) (places : Places) (r : Reply) → ((why : Refusal) → Refused why ≡ r → ⊥) → (decided_by wanted places).reply ≡ r
+    → IsServed wanted places r (decided_by wanted places).places
+served_of (Ok out) places r serves e = record { out = out; is = refl; reply_is = e; places_are = refl }
+served_of (Err why) places r serves e = absurd (serves why e)
+
+-- a request that is served, by the outcome of its operation
+pub record Serves (facts : RealmFacts) (history : List Entry) (x : Ask) (places : Places) (body : Reading) (r : Reply) : Type 0 where
+  pub out : Outcome
+  pub is : read_outcome (view_of facts history x places) body ≡ Ok out
+  pub reply_is : out.reply ≡ r
+  pub places_are : (decide facts history x places).places ≡ after places out.effect
+
+pub serves_of : (facts : RealmFacts) (history : List Entry) (x : Ask) (places : Places) (body : Reading) (r : Reply) → x.body ≡ ask.Read body
+    → ((why : Refusal) → Refused why ≡ r → ⊥) → (decide facts history x places).reply ≡ r → Serves facts history x places body r
+unfolding decide
+serves_of facts history x places body r is serves e =
+    let served = served_of (unless (lacking (length history) x.after) (body_outcome facts history x places x.body)) places r serves e in
+    let went = next_of (lacking (length history) x.after) (body_outcome facts history x places x.body) served.out served.is in
+    record {
+      out = served.out;
+      is = sym (ap (body_outcome facts history x places) is) ∙ went;
+      reply_is = served.reply_is;
+      places_are = served.places_are;
+    }

@@ -1,0 +1,13 @@
+use Rattle.std.proofs.Common.{sym, subst}
+use Rattle.kms_json.specs.declared.asks.Reading.{Reading}
+use Rattle.account_core.specs.Places.{places_of}
+use Rattle.account_core.specs.Parts.{decided_by}
+use Rattle.account_core.specs.Settling.{Settles}
+use Rattle.account_core.specs.Operations.{read_outcome}
+use Rattle.account_core.proofs.operations.read_body.Goals as goal
+
+pub returns-in-GenerateDataKey : goal.returns-in-GenerateDataKey
+returns-in-GenerateDataKey c =
+    let line = c.args.line.now in
+    subst (λ (b : Reading). Settles (decided_by (read_outcome c.args.view.now b) (places_of line)) line c.read-in-GenerateDataKey.result c.read-in-GenerateDataKey.new.line)
+    (sym c.in-GenerateDataKey.is) c.read-in-GenerateDataKey.ensures

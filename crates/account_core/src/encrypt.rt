@@ -1,0 +1,77 @@
+// Encrypt.
+ghost use Rattle.std.specs.Prelude.{◌≤◌, length};
+ghost use Rattle.account_core.specs.Crypto.{encrypts};
+
+use crate::checks::{key_of, unfit};
+use crate::crypto::{ONE_IV, seal};
+use crate::parts::{Operation, Reads, refuse};
+use crate::places::Uses;
+use crate::rows::Lent;
+use crate::stops::Stop;
+use crate::view::View;
+use draw_lines::DrawLine;
+use kms_json::{Encrypt, Reply};
+use kms_names::NoMemory;
+use std::alloc::Global;
+
+/// Encrypt of a text of 1 to 4,096 bytes.
+#[derive(Drop)]
+pub struct Encrypting<'a> {
+    /// What its steps go by.
+    pub view: &'a View<'a>,
+    /// What it asks.
+    pub x: &'a Encrypt,
+    ghost some: { 1 ≤ length x.now.plaintext },
+    ghost short: { length x.now.plaintext ≤ 4096 },
+}
+
+impl<'a> Operation for Encrypting<'a> {
+    type Found = Lent<'a>;
+
+    type Ready = ();
+
+    ghost seen = { λ op. op.view.now };
+
+    ghost parts = { λ op. encrypts op.view.now op.x.now };
+
+    fn view(&self) -> &View<'_> {
+        self.view
+    }
+
+    fn find(&self, _alloc: Global) -> Result<Lent<'a>, Stop> {
+        key_of(self.view.keys(), &self.x.key_id)
+    }
+
+    fn own(&self, _alloc: Global, _found: &Lent<'a>) -> Result<(), Stop> {
+        refuse(unfit(&self.x.algorithm))
+    }
+
+    fn dry_run(&self) -> bool {
+        self.x.dry_run
+    }
+}
+
+impl<'a> Reads for Encrypting<'a> {
+    fn uses(&self) -> Uses {
+        ONE_IV
+    }
+
+    fn serve(
+        &self,
+        alloc: Global,
+        found: Lent<'a>,
+        _ready: (),
+        line: &mut DrawLine,
+    ) -> Result<Reply, NoMemory> {
+        let arn = self.view.arn(alloc, &found.row().key)?;
+        let blob = seal(
+            alloc,
+            self.view,
+            &found,
+            &self.x.context,
+            self.x.plaintext.as_slice(),
+            line,
+        )?;
+        Ok(Reply::Encrypted { blob, arn })
+    }
+}

@@ -1,0 +1,174 @@
+// The steps of a decision in their order. Each operation says its own parts of them; the order is written
+// here alone.
+ghost use Rattle.std.specs.Prelude.{◌≡◌, IfOk, OnOk, OnErr, None, length};
+ghost use Rattle.account_core.specs.Places.{places_of, line_at, IsLineOf, IsWithin};
+ghost use Rattle.account_core.specs.View.{View as SeenView};
+ghost use Rattle.account_core.specs.Steps.{Gives, stopping};
+ghost use Rattle.account_core.specs.Parts.{Parts, takes, cleared, outcome, decided_by, spent, full, limited, only_asked, after};
+ghost use Rattle.account_core.specs.Settling.{Settles, Makes, effect_with};
+
+use crate::entries::{Entry, What};
+use crate::places::{Places, Uses};
+use crate::stops::Stop;
+use crate::view::View;
+use draw_lines::DrawLine;
+use kms_json::{Limit, Refusal, Reply};
+use kms_names::NoMemory;
+use std::alloc::Global;
+
+// How many initialization vectors, and how many words, a pass gives.
+const MOST: u64 = 0x1_0000_0000_0000;
+
+// How many keys an account holds at most.
+const KEYS: usize = 10_000;
+
+/// What an operation says of the steps of a decision.
+pub trait Operation {
+    /// What its references name.
+    type Found: Drop;
+
+    /// What comes of its own refusals.
+    type Ready: Drop;
+
+    ghost seen: { Self → SeenView };
+
+    ghost parts: { Self → Parts Self.Found Self.Ready };
+
+    /// What its steps go by.
+    fn view(&self) -> &View<'_>
+        ensures { result.now ≡ seen self.now };
+
+    /// Looks its references up, in order.
+    fn find(&self, alloc: Global) -> Result<Self::Found, Stop>
+        ensures { Gives (parts self.now).found result };
+
+    /// Its own refusals, in order.
+    fn own(&self, alloc: Global, found: &Self::Found) -> Result<Self::Ready, Stop>
+        ensures { Gives ((parts self.now).own found.now) result };
+
+    /// Whether it is only to say what it would answer.
+    fn dry_run(&self) -> bool
+        ensures { result ≡ (parts self.now).dry_run };
+}
+
+/// An operation that doesn't change the account.
+pub trait Reads: Operation {
+    /// What it uses where it is served.
+    fn uses(&self) -> Uses
+        ensures { (found : Self.Found) (ready : Self.Ready) → (Self.parts self.now).effect found ready ≡ takes result };
+
+    /// Its reply, where all steps have passed. It takes of the line what it uses; without memory at most so much.
+    fn serve(
+        &self,
+        alloc: Global,
+        found: Self::Found,
+        ready: Self::Ready,
+        line: &mut DrawLine,
+    ) -> Result<Reply, NoMemory>
+        requires line { IsLineOf (Self.seen self.now).facts line.old }
+        requires places { (Self.seen self.now).places ≡ places_of line.old }
+        requires left { limited (Self.seen self.now) ((Self.parts self.now).effect found ready) ≡ None }
+        ensures reply { IfOk result (λ reply. reply ≡ (Self.parts self.now).reply found ready) }
+        ensures used { OnOk result (line.new ≡ line_at line.old (after (places_of line.old) ((Self.parts self.now).effect found ready))) }
+        ensures within { OnErr result (IsWithin line.old line.new (after (places_of line.old) ((Self.parts self.now).effect found ready))) };
+}
+
+/// What a request that changes the account comes to.
+#[derive(Debug, Drop)]
+pub struct Made {
+    /// Its reply.
+    pub reply: Reply,
+    /// The entry that it appends, if any.
+    pub entry: Option<Entry>,
+}
+
+/// An operation that changes the account.
+pub trait Changes: Operation {
+    /// Its reply and its entry, where all steps but the limits have passed.
+    fn make(&self, alloc: Global, found: Self::Found, ready: Self::Ready) -> Result<Made, NoMemory>
+        ensures reply { IfOk result (λ made. made.reply ≡ (Self.parts self.now).reply found ready) }
+        ensures entry { IfOk result (λ made. effect_with made.entry ≡ (Self.parts self.now).effect found ready) };
+}
+
+/// Stops at a refusal.
+pub fn refuse(refusal: Option<Refusal>) -> Result<(), Stop>
+    ensures { result ≡ stopping refusal }
+{
+    match refusal {
+        Some(why) => Err(Stop::Refused(why)),
+        None => Ok(()),
+    }
+}
+
+fn only_asked(dry_run: bool) -> Option<Refusal>
+    ensures { result ≡ only_asked dry_run }
+{
+    if dry_run { Some(Refusal::DryRun) } else { None }
+}
+
+// The limits of what a pass gives: words, and then initialization vectors.
+fn spent(places: Places, uses: Uses) -> Option<Refusal>
+    ensures { result ≡ spent places uses }
+{
+    if uses.words > 0 && places.words.saturating_add(uses.words) > MOST {
+        return Some(Refusal::LimitExceeded(Limit::Draws));
+    }
+    if uses.ivs > 0 && places.ivs.saturating_add(uses.ivs) > MOST {
+        return Some(Refusal::LimitExceeded(Limit::Ivs));
+    }
+    None
+}
+
+// The limit of what an entry would add to.
+fn full(view: &View<'_>, what: &What) -> Option<Refusal>
+    ensures { result ≡ full view.now what.now }
+{
+    match what {
+        What::CreateKey { .. } if view.keys().len() >= KEYS => {
+            Some(Refusal::LimitExceeded(Limit::Keys))
+        }
+        What::CreateKey { .. } => None,
+    }
+}
+
+// The limits of a request that changes the account with this entry, or without one.
+fn limited(view: &View<'_>, entry: &Option<Entry>) -> Option<Refusal>
+    ensures { result ≡ limited view.now (effect_with entry.now) }
+{
+    match entry {
+        Some(entry) => full(view, &entry.what),
+        None => None,
+    }
+}
+
+// The steps up to an operation's own refusals.
+fn clear<O: Operation>(alloc: Global, operation: &O) -> Result<(O::Found, O::Ready), Stop>
+    ensures { Gives (cleared (O.seen operation.now) (O.parts operation.now)) result }
+{
+    let found = operation.find(alloc)?;
+    let ready = operation.own(alloc, &found)?;
+    Ok((found, ready))
+}
+
+/// The answer to a request that doesn't change the account.
+pub fn read<O: Reads>(alloc: Global, operation: &O, line: &mut DrawLine) -> Result<Reply, Stop>
+    requires line { IsLineOf (O.seen operation.now).facts line.old }
+    requires places { (O.seen operation.now).places ≡ places_of line.old }
+    ensures { Settles (decided_by (outcome (O.seen operation.now) (O.parts operation.now)) (places_of line.old)) line.old result line.new }
+{
+    let (found, ready) = clear(alloc, operation)?;
+    refuse(spent(operation.view().places(), operation.uses()))?;
+    refuse(only_asked(operation.dry_run()))?;
+    Ok(operation.serve(alloc, found, ready, line)?)
+}
+
+/// What a request that changes the account comes to.
+pub fn change<O: Changes>(alloc: Global, operation: &O) -> Result<Made, Stop>
+    ensures { Makes (outcome (O.seen operation.now) (O.parts operation.now)) result }
+{
+    let (found, ready) = clear(alloc, operation)?;
+    let made = operation.make(alloc, found, ready)?;
+    refuse(limited(operation.view(), &made.entry))?;
+    refuse(only_asked(operation.dry_run()))?;
+    Ok(made)
+}

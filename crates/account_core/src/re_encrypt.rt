@@ -1,0 +1,100 @@
+// ReEncrypt.
+ghost use Rattle.account_core.specs.Crypto.{re_encrypts};
+
+use crate::checks::{key_of, unfit};
+use crate::crypto::{ONE_IV, Sealable, seal};
+use crate::parts::{Operation, Reads, refuse};
+use crate::places::Uses;
+use crate::rows::Lent;
+use crate::sources::{Sealed, find_source};
+use crate::stops::Stop;
+use crate::view::View;
+use draw_lines::DrawLine;
+use kms_json::{ReEncrypt, Reply};
+use kms_names::{Action, NoMemory};
+use std::alloc::Global;
+
+/// A sealed text, and the key that it is sealed under anew.
+#[derive(Drop)]
+pub struct Turning<'a> {
+    /// The sealed text, with the key that it was sealed under.
+    pub source: Sealed<'a>,
+    /// The key that it is sealed under.
+    pub row: Lent<'a>,
+}
+
+/// ReEncrypt.
+#[derive(Drop)]
+pub struct ReEncrypting<'a> {
+    /// What its steps go by.
+    pub view: &'a View<'a>,
+    /// What it asks.
+    pub x: &'a ReEncrypt,
+}
+
+impl<'a> Operation for ReEncrypting<'a> {
+    type Found = Turning<'a>;
+
+    type Ready = Sealable;
+
+    ghost seen = { λ op. op.view.now };
+
+    ghost parts = { λ op. re_encrypts op.view.now op.x.now };
+
+    fn view(&self) -> &View<'_> {
+        self.view
+    }
+
+    fn find(&self, alloc: Global) -> Result<Turning<'a>, Stop> {
+        let source = find_source(
+            alloc,
+            self.view,
+            Action::ReEncryptFrom,
+            &self.x.source_key_id,
+            self.x.blob.as_slice(),
+        )?;
+        let row = key_of(self.view.keys(), &self.x.key_id)?;
+        Ok(Turning { source, row })
+    }
+
+    fn own(&self, alloc: Global, found: &Turning<'a>) -> Result<Sealable, Stop> {
+        refuse(unfit(&self.x.source_algorithm))?;
+        refuse(unfit(&self.x.algorithm))?;
+        let text = found.source.open(alloc, self.view, &self.x.source_context)?;
+        Ok(Sealable::new(text))
+    }
+
+    fn dry_run(&self) -> bool {
+        self.x.dry_run
+    }
+}
+
+impl<'a> Reads for ReEncrypting<'a> {
+    fn uses(&self) -> Uses {
+        ONE_IV
+    }
+
+    fn serve(
+        &self,
+        alloc: Global,
+        found: Turning<'a>,
+        ready: Sealable,
+        line: &mut DrawLine,
+    ) -> Result<Reply, NoMemory> {
+        let arn = self.view.arn(alloc, &found.row.row().key)?;
+        let source_arn = self.view.arn(alloc, found.source.key())?;
+        let blob = seal(
+            alloc,
+            self.view,
+            &found.row,
+            &self.x.context,
+            ready.as_slice(),
+            line,
+        )?;
+        Ok(Reply::ReEncrypted {
+            blob,
+            arn,
+            source_arn,
+        })
+    }
+}
