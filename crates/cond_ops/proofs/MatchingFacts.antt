@@ -9,7 +9,7 @@ use mathlib.Core.Bool.{beq}
 use Rattle.cond_ops.specs.declared.conditions.Condition.{Condition}
 use Rattle.cond_ops.specs.declared.facts.Fact.{Fact}
 use Rattle.cond_ops.specs.declared.qualified.Qualifier.TheVariants.{Plain, AllValues, AnyValue}
-use Rattle.cond_ops.specs.Holds.{Matches, has_name, request_values, HoldsOfValues}
+use Rattle.cond_ops.specs.Holds.{ValueMatches, has_name, request_values, HoldsOfValues}
 use Rattle.cond_ops.specs.Matching.{IsMatch, SomeMatch, HasMatch, HasNoMatch, IsLookUp}
 
 module _ {X : Type 0} (P : X → Type 0) where
@@ -78,21 +78,21 @@ module _ (condition : Condition) where
   some_of_facts wanted facts false all = all_values_of (IsMatch condition (not wanted)) (has_name condition.key) facts all
 
   module _ (values : List (List ℕ)) where
-    pub plain : (r negated : Bool) → SomeMatch condition true values r → IsTrue (not (beq r negated)) ↔ HoldsOfValues Plain negated (Matches condition) values
+    pub plain : (r negated : Bool) → SomeMatch condition true values r → IsTrue (not (beq r negated)) ↔ HoldsOfValues Plain negated (ValueMatches condition) values
     plain true false any = (λ h. any, λ h. refl)
     plain true true any = (λ h. cc, λ none. absurd (none any))
-    plain false false all = (λ h. cc, λ any. absurd (none_of_all (Matches condition) values all any))
-    plain false true all = (λ h any. none_of_all (Matches condition) values all any, λ h. refl)
+    plain false false all = (λ h. cc, λ any. absurd (none_of_all (ValueMatches condition) values all any))
+    plain false true all = (λ h any. none_of_all (ValueMatches condition) values all any, λ h. refl)
 
-    pub any_value_of : (r negated : Bool) → SomeMatch condition (not negated) values r → IsTrue r ↔ HoldsOfValues AnyValue negated (Matches condition) values
+    pub any_value_of : (r negated : Bool) → SomeMatch condition (not negated) values r → IsTrue r ↔ HoldsOfValues AnyValue negated (ValueMatches condition) values
     any_value_of true false any = (λ h. any, λ h. refl)
     any_value_of true true any = (λ h. any, λ h. refl)
-    any_value_of false false all = (λ h. cc, λ any. absurd (none_of_all (Matches condition) values all any))
-    any_value_of false true all = (λ h. cc, λ any. absurd (not_all (Matches condition) values any all))
+    any_value_of false false all = (λ h. cc, λ any. absurd (none_of_all (ValueMatches condition) values all any))
+    any_value_of false true all = (λ h. cc, λ any. absurd (not_all (ValueMatches condition) values any all))
 
-    pub all_values : (r negated : Bool) → SomeMatch condition negated values r → IsTrue (not r) ↔ HoldsOfValues AllValues negated (Matches condition) values
-    all_values true false any = (λ h. cc, λ all. absurd (not_all (Matches condition) values any all))
-    all_values true true any = (λ h. cc, λ all. absurd (none_of_all (Matches condition) values all any))
+    pub all_values : (r negated : Bool) → SomeMatch condition negated values r → IsTrue (not r) ↔ HoldsOfValues AllValues negated (ValueMatches condition) values
+    all_values true false any = (λ h. cc, λ all. absurd (not_all (ValueMatches condition) values any all))
+    all_values true true any = (λ h. cc, λ all. absurd (none_of_all (ValueMatches condition) values all any))
     all_values false false all = (λ h. all, λ h. refl)
     all_values false true all = (λ h. all, λ h. refl)
 

@@ -25,8 +25,8 @@ abbrev pub request_values : List ℕ → List Fact → List (List ℕ)
 request_values key facts = flat_map (λ (fact : Fact). fact.values) (filter (has_name key) facts)
 
 -- a value of the request matches: it stands in the operator's relation to some value of the policy
-abbrev pub Matches : Condition → List ℕ → Type 0
-Matches condition value = Any (Relates condition.operator value) condition.values
+abbrev pub ValueMatches : Condition → List ℕ → Type 0
+ValueMatches condition value = Any (Relates condition.operator value) condition.values
 
 -- a key that is present, by qualifier and negation, which of the request's values match, and these values
 abbrev pub HoldsOfValues : Qualifier → Bool → (List ℕ → Type 0) → List (List ℕ) → Type 0
@@ -59,7 +59,7 @@ IfAbsence Arn null other = other
 abbrev pub HoldsPresent : Condition → List (List ℕ) → Type 0
 HoldsPresent condition values =
     IfAbsence (kind_of condition.operator) (Contains condition.values (codes "false"))
-    (HoldsOfValues condition.qualifier (is_negated condition.operator) (Matches condition) values)
+    (HoldsOfValues condition.qualifier (is_negated condition.operator) (ValueMatches condition) values)
 
 -- the condition holds where its key is missing: Null with `true`
 abbrev pub HoldsMissing : Condition → Type 0

@@ -4,12 +4,12 @@ use Rattle.cond_ops.specs.declared.conditions.Condition.{Condition}
 use Rattle.cond_ops.specs.declared.facts.Fact.{Fact}
 use Rattle.cond_ops.specs.declared.qualified.Qualifier.{Qualifier}
 use Rattle.cond_ops.specs.declared.qualified.Qualifier.TheVariants.{Plain, AllValues, AnyValue}
-use Rattle.cond_ops.specs.Holds.{Matches, has_name, is_present, request_values}
+use Rattle.cond_ops.specs.Holds.{ValueMatches, has_name, is_present, request_values}
 
 -- a value matches, or does not
 abbrev pub IsMatch : Condition → Bool → List ℕ → Type 0
-IsMatch condition true value = Matches condition value
-IsMatch condition false value = ¬ (Matches condition value)
+IsMatch condition true value = ValueMatches condition value
+IsMatch condition false value = ¬ (ValueMatches condition value)
 
 -- some of the values is of this kind, or all are of the other
 abbrev pub SomeMatch : Condition → Bool → List (List ℕ) → Bool → Type 0

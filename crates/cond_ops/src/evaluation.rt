@@ -3,7 +3,7 @@
 ghost use Rattle.std.specs.Prelude.{◌≡◌, ◌↔◌, ℕ, List, IsTrue, Any, All, Contains, not};
 ghost use Rattle.std.specs.Bool.{MatchBool};
 ghost use Rattle.cond_ops.specs.Compiled.{AreValuesOf};
-ghost use Rattle.cond_ops.specs.Holds.{Matches, HoldsOfValues, HoldsPresent, HoldsMissing, Holds, HoldsOf, has_name};
+ghost use Rattle.cond_ops.specs.Holds.{ValueMatches, HoldsOfValues, HoldsPresent, HoldsMissing, Holds, HoldsOf, has_name};
 ghost use Rattle.cond_ops.specs.Matching.{IsMatch, SomeMatch, IsLookUp, wanted_of};
 ghost use Rattle.cond_ops.specs.Operator.{is_negated};
 
@@ -93,7 +93,7 @@ impl Condition {
 
     /// Whether the condition holds of the values of a key that is present, where such a value was found or none was.
     fn holds_of_values(&self, found: bool) -> bool
-        ensures { (values : List (List ℕ)) → SomeMatch self.now (wanted_of self.now.qualifier (is_negated self.now.operator)) values found → IsTrue result ↔ HoldsOfValues self.now.qualifier (is_negated self.now.operator) (Matches self.now) values }
+        ensures { (values : List (List ℕ)) → SomeMatch self.now (wanted_of self.now.qualifier (is_negated self.now.operator)) values found → IsTrue result ↔ HoldsOfValues self.now.qualifier (is_negated self.now.operator) (ValueMatches self.now) values }
     {
         match self.qualifier {
             Qualifier::Plain => found != self.operator.is_negated(),

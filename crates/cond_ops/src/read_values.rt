@@ -4,7 +4,7 @@ ghost use Rattle.std.specs.Prelude.{◌≡◌, ◌↔◌, IsTrue, Any, Contains,
 ghost use Rattle.std.specs.List.{AllZip};
 ghost use Rattle.cond_ops.specs.Arn.{IsCutInto, parts_of};
 ghost use Rattle.cond_ops.specs.Compiled.{AreValuesOf};
-ghost use Rattle.cond_ops.specs.Holds.{Matches};
+ghost use Rattle.cond_ops.specs.Holds.{ValueMatches};
 ghost use Rattle.cond_ops.specs.Moment.{IsMoment};
 ghost use Rattle.cond_ops.specs.Number.{IsNumber};
 ghost use Rattle.cond_ops.specs.Reading.{AreRead};
@@ -187,7 +187,7 @@ impl ReadValues {
     /// Whether a value of a request stands in the operator's relation to some value of the condition. It is read once.
     pub fn matches(&self, condition: &Condition, value: &str) -> bool
         requires { AreValuesOf condition.now self.now }
-        ensures { IsTrue result ↔ Matches condition.now value.now }
+        ensures { IsTrue result ↔ ValueMatches condition.now value.now }
     {
         match self {
             ReadValues::Written => {

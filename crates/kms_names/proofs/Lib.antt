@@ -12,3 +12,6 @@ pub mod PrincipalReading
 pub mod ReferenceReading
 pub mod ActionFacts
 pub mod PatternFacts
+pub mod Decisions
+pub mod GlobDecision
+pub mod PrincipalDecision

@@ -8,3 +8,5 @@ pub mod GrammarFacts
 pub mod PlaceFacts
 mod ReadingFacts
 mod SlotFacts
+pub mod ConditionDecision
+pub mod NamedDecision

@@ -1,24 +1,15 @@
 -- Some item of a list, of a longer list, and of a filtered one.
-use Rattle.std.proofs.Common.{◌≡◌, ◌⊎◌, inl, inr, ℕ, zero, suc, ◌<◌, Bool, true, false, not, cond, List, [], ◌∷◌, ◌++◌, length, get_or, refl, sym, ap, subst, arith}
+use Rattle.std.proofs.Common.{◌≡◌, ◌⊎◌, inl, inr, ℕ, ◌<◌, Bool, true, false, not, cond, List, [], ◌∷◌, ◌++◌, length, get_or, refl, sym, ap, subst, arith}
 use Rattle.std.specs.Prelude.{◌↔◌, IsTrue, Any, filter}
+use Rattle.kms_names.proofs.Decisions.{any_here, any_there, any_of}
 
 module _ {X : Type 0} (P : X → Type 0) where
-  any_here : (x : X) (xs : List X) → P x → Any P (x ∷ xs)
-  any_here x xs h = (0, x, omega arith, refl, h)
-
-  any_there : (x : X) (xs : List X) → Any P xs → Any P (x ∷ xs)
-  any_there x xs (k, y, lt, at, h) = (suc k, y, omega arith, at, h)
-
-  any_of : (x : X) (xs : List X) → Any P (x ∷ xs) → P x ⊎ Any P xs
-  any_of x xs (zero, y, lt, at, h) = inl (subst P (sym at) h)
-  any_of x xs (suc k, y, lt, at, h) = inr (k, y, omega arith, at, h)
-
   pub any_split : (xs : List X) (y : X) → Any P (xs ++ y ∷ []) → Any P xs ⊎ P y
-  any_split [] y any = elim (any_of y [] any) [ inl h ↦ inr h | inr (k, x, lt, at, h) ↦ absurd (omega arith) ]
+  any_split [] y any = elim (any_of P y [] any) [ inl h ↦ inr h | inr (k, x, lt, at, h) ↦ absurd (omega arith) ]
   any_split (x ∷ xs) y any =
-      elim (any_of x (xs ++ y ∷ []) any) [
-        | inl h ↦ inl (any_here x xs h)
-        | inr rest ↦ elim (any_split xs y rest) [ inl old ↦ inl (any_there x xs old) | inr new ↦ inr new ]
+      elim (any_of P x (xs ++ y ∷ []) any) [
+        | inl h ↦ inl (any_here P x xs h)
+        | inr rest ↦ elim (any_split xs y rest) [ inl old ↦ inl (any_there P x xs old) | inr new ↦ inr new ]
       ]
 
 module _ {X : Type 0} (P : X → Type 0) (test : X → Bool) where

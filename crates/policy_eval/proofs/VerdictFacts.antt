@@ -13,6 +13,8 @@ use Rattle.policy_eval.specs.declared.verdicts.Verdict.TheVariants.{Deny, Direct
 use Rattle.policy_eval.specs.Matching.{ActionMatches, ResourceMatches, ConditionsHold, Matches}
 use Rattle.policy_eval.specs.Naming.{NamesCaller, NamesAccount}
 use Rattle.policy_eval.specs.Verdict.{IsAllow, IsDeny, IsDenyOf, AllowsCaller, AllowsAccount, SomeDenies, SomeAllowsCaller, SomeAllowsAccount, IsKeyVerdict, IsIdentityVerdict, IsVerdictOf, IsVerdict, HasConditions, AskTheSame, GoesByQuestion}
+use Rattle.policy_eval.specs.Laws.{HasOneVerdictByQuestion}
+use Rattle.policy_eval.specs.VerdictOf.{verdict_of, verdict_of_lem}
 
 module _ {X : Type 0} (P Q : X → Type 0) where
   any_so : (xs : List X) → ((x : X) (k : ℕ) → k < length xs → get_or xs k x ≡ x → P x → Q x) → Any P xs → Any Q xs
@@ -136,3 +138,14 @@ one_verdict_of Identity ss r v w a b = one_identity_verdict ss r v w a b
 
 pub one_verdict : (policy : Policy) (r : RequestFacts) (v w : Verdict) → IsVerdict policy r v → IsVerdict policy r w → v ≡ w
 one_verdict policy r v w a b = one_verdict_of policy.kind policy.statements r v w a b
+
+-- the verdict that stands in the relation is that of the function
+pub the_verdict : (policy : Policy) (r : RequestFacts) (v : Verdict) → IsVerdict policy r v → v ≡ verdict_of policy r
+the_verdict policy r v h = one_verdict policy r v (verdict_of policy r) h (verdict_of_lem policy r)
+
+pub one_by_question : (policy : Policy) → GoesByQuestion policy → HasOneVerdictByQuestion policy
+one_by_question policy goes a b same = the_verdict policy b (verdict_of policy a) (goes a b (verdict_of policy a) same (verdict_of_lem policy a))
+
+-- the same of a policy of a known kind
+pub the_verdict_by_kind : (policy : Policy) (kind : PolicyKind) → policy.kind ≡ kind → (r : RequestFacts) (v : Verdict) → IsVerdictOf kind policy.statements r v → v ≡ verdict_of policy r
+the_verdict_by_kind policy kind is r v h = the_verdict policy r v (subst (λ k. IsVerdictOf k policy.statements r v) (sym is) h)

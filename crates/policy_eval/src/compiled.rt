@@ -2,6 +2,8 @@
 
 ghost use Rattle.std.specs.Prelude.{◌≡◌, ◌↔◌, IsTrue, Any, IfOk, false};
 ghost use Rattle.policy_eval.specs.Verdict.{IsAllow, IsDeny, SomeDenies, SomeAllowsCaller, SomeAllowsAccount, IsKeyVerdict, IsIdentityVerdict, IsVerdict, SomeHasConditions, HasConditions, GoesByQuestion};
+ghost use Rattle.policy_eval.specs.Laws.{HasOneVerdictByQuestion};
+ghost use Rattle.policy_eval.specs.VerdictOf.{verdict_of};
 
 use crate::groups::Group;
 use crate::naming::Naming;
@@ -124,7 +126,8 @@ impl Compiled {
     /// A statement matches where its action part, its resource part and all its conditions do. No memory is taken.
     /// (IAM User Guide, "Policy evaluation logic"; AWS KMS Developer Guide, "Key policies".)
     pub fn verdict(&self, facts: &RequestFacts) -> Verdict
-        ensures { IsVerdict self.now facts.now result }
+        ensures is { IsVerdict self.now facts.now result }
+        ensures one { result ≡ verdict_of self.now facts.now }
     {
         match self.kind {
             PolicyKind::Key => self.key_verdict(facts),
@@ -143,6 +146,7 @@ impl Compiled {
     pub fn asks_facts(&self) -> bool
         ensures conditions { IsTrue result ↔ HasConditions self.now }
         ensures unasked { result ≡ false → GoesByQuestion self.now }
+        ensures one { result ≡ false → HasOneVerdictByQuestion self.now }
     {
         self.has_conditions()
     }

@@ -12,6 +12,6 @@ mod threads;
 mod verdicts;
 
 pub use compiled::Compiled;
-pub use laws::verdicts_are_one;
+pub use laws::{verdict_of_is_the_verdict, verdicts_are_one};
 pub use threads::compiled_crosses_threads;
 pub use verdicts::Verdict;

@@ -2,7 +2,7 @@ use Rattle.std.proofs.Common.{ℕ, List, not, sym, subst}
 use Rattle.std.specs.Prelude.{◌↔◌, IsTrue}
 use Rattle.cond_ops.specs.declared.qualified.Qualifier.{Qualifier}
 use Rattle.cond_ops.specs.Operator.{is_negated}
-use Rattle.cond_ops.specs.Holds.{Matches, HoldsOfValues}
+use Rattle.cond_ops.specs.Holds.{ValueMatches, HoldsOfValues}
 use Rattle.cond_ops.specs.Matching.{SomeMatch, wanted_of}
 use Rattle.cond_ops.proofs.MatchingFacts.{all_values}
 use Rattle.cond_ops.proofs.conditions.Condition.holds_of_values.Goals as goal
@@ -12,5 +12,5 @@ returns-in-AllValues c =
     let condition = c.args.self.now in
     let found = c.args.found in
     let negated = is_negated condition.operator in
-    subst (λ (q : Qualifier). (values : List (List ℕ)) → SomeMatch condition (wanted_of q negated) values found → IsTrue (not found) ↔ HoldsOfValues q negated (Matches condition) values)
+    subst (λ (q : Qualifier). (values : List (List ℕ)) → SomeMatch condition (wanted_of q negated) values found → IsTrue (not found) ↔ HoldsOfValues q negated (ValueMatches condition) values)
     (sym c.in-AllValues.is) (λ values some. all_values condition values found negated some)
