@@ -1,0 +1,47 @@
+-- Condition keys that are added one after another.
+use Rattle.std.proofs.Common.{◌≡◌, ℕ, ◌+◌, ◌<◌, List, [], ◌∷◌, ◌++◌, length, take, get_or, map, codes, decimal, Bool, true, sym, ap, ◌∙◌, append_assoc}
+use Rattle.std.proofs.lemmas.List.{take_more, map-append}
+use Rattle.enc_context.specs.declared.pairs.Pair.{Pair}
+use Rattle.kms_names.specs.declared.principals.Principal.TheVariants.{User}
+use Rattle.kms_names.specs.Principal.{principal_text, account_of}
+use Rattle.kms_names.specs.declared.principals.Principal.{Principal}
+use Rattle.cond_ops.specs.declared.facts.Fact.{Fact}
+use Rattle.authority.specs.Times.{moment_text}
+use Rattle.authority.specs.Facts.{single, behind_slash, user_facts, caller_facts, time_facts, key_facts, pair_fact}
+
+-- two runs of them
+pub adds : (old mid new a b : List Fact) → mid ≡ old ++ a → new ≡ mid ++ b → new ≡ old ++ (a ++ b)
+adds old mid new a b e f = f ∙ ap (λ (l : List Fact). l ++ b) e ∙ append_assoc old a b
+
+pub caller_is : (old mid new : List Fact) (caller : Principal) (arn account again : List ℕ) → arn ≡ principal_text caller → account ≡ account_of caller → again ≡ account_of caller
+    → mid ≡ old ++ (single (codes "aws:PrincipalArn") arn ∷ single (codes "aws:PrincipalAccount") account ∷ single (codes "kms:CallerAccount") again ∷ [])
+    → new ≡ mid ++ user_facts caller → new ≡ old ++ caller_facts caller
+caller_is old mid new caller arn account again is_arn is_account is_again e f =
+    adds old mid new (single (codes "aws:PrincipalArn") (principal_text caller) ∷ single (codes "aws:PrincipalAccount") (account_of caller) ∷ single (codes "kms:CallerAccount") (account_of caller) ∷ []) (user_facts caller)
+    (e ∙ (λ i. old ++ (single (codes "aws:PrincipalArn") (is_arn i) ∷ single (codes "aws:PrincipalAccount") (is_account i) ∷ single (codes "kms:CallerAccount") (is_again i) ∷ []))) f
+
+pub times_are : (old new : List Fact) (moment : ℕ) (current seconds : List ℕ) → current ≡ moment_text moment → seconds ≡ decimal moment
+    → new ≡ old ++ (single (codes "aws:CurrentTime") current ∷ single (codes "aws:EpochTime") seconds ∷ []) → new ≡ old ++ time_facts moment
+times_are old new moment current seconds is_current is_seconds e =
+    e ∙ (λ i. old ++ (single (codes "aws:CurrentTime") (is_current i) ∷ single (codes "aws:EpochTime") (is_seconds i) ∷ []))
+
+pub pair_is : (old new : List Fact) (pair : Pair) (key value : List ℕ) → key ≡ codes "kms:EncryptionContext:" ++ pair.key → value ≡ pair.value
+    → new ≡ old ++ single key value ∷ [] → new ≡ old ++ pair_fact pair ∷ []
+pair_is old new pair key value is_key is_value e = e ∙ (λ i. old ++ single (is_key i) (is_value i) ∷ [])
+
+-- one more pair
+pub pairs_push : (old mid new : List Fact) (pairs : List Pair) (i : ℕ) (pair : Pair) → i < length pairs → pair ≡ get_or pairs i pair
+    → mid ≡ old ++ map pair_fact (take i pairs) → new ≡ mid ++ pair_fact pair ∷ [] → new ≡ old ++ map pair_fact (take (i + 1) pairs)
+pairs_push old mid new pairs i pair within is e f =
+    let more : map pair_fact (take (i + 1) pairs) ≡ map pair_fact (take i pairs) ++ pair_fact (get_or pairs i pair) ∷ [] =
+    ap (map pair_fact) (take_more pairs i pair within) ∙ map-append pair_fact (take i pairs) (get_or pairs i pair ∷ []) in
+    adds old mid new (map pair_fact (take i pairs)) (pair_fact pair ∷ []) e f
+    ∙ ap (λ (l : List Fact). old ++ l) (ap (λ (p : Pair). map pair_fact (take i pairs) ++ pair_fact p ∷ []) is ∙ sym more)
+
+pub user_is : (old new : List Fact) (caller : Principal) (account name last : List ℕ) → caller ≡ User account name → last ≡ behind_slash name
+    → new ≡ old ++ single (codes "aws:username") last ∷ [] → new ≡ old ++ user_facts caller
+user_is old new caller account name last is is_last e =
+    e ∙ ap (λ (text : List ℕ). old ++ single (codes "aws:username") text ∷ []) is_last ∙ ap (λ (p : Principal). old ++ user_facts p) (sym is)
+
+pub keyed_is : (old new : List Fact) (keyed : Bool) → keyed ≡ true → new ≡ old ++ key_facts true → new ≡ old ++ key_facts keyed
+keyed_is old new keyed is e = e ∙ ap (λ (b : Bool). old ++ key_facts b) (sym is)

@@ -1,0 +1,9 @@
+mod SlashFacts
+mod FactFacts
+mod TimesFacts
+mod DefaultFacts
+mod DocumentFacts
+mod Results
+mod QuestionFacts
+mod CallerFacts
+mod LawFacts

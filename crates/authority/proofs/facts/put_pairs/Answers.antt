@@ -1,0 +1,7 @@
+use Rattle.authority.proofs.FactFacts.{pairs_push}
+use Rattle.authority.proofs.facts.put_pairs.Goals as goal
+
+pub loop-pair-preserved : goal.loop-pair-preserved
+loop-pair-preserved c =
+    pairs_push c.args.facts.now.items c.loop-pair.facts.items c.put_pair.new.facts.items c.args.pairs.now c.loop-pair.pair-index c.pair-item.result c.loop-pair-test.true c.pair-item.is
+    c.loop-pair.invariant c.in_ok-put_pair.ensures

@@ -1,0 +1,99 @@
+-- Whether a request may be served (IAM User Guide, "Policy evaluation logic"; AWS KMS Developer Guide, "Key policies").
+use Rattle.std.specs.Prelude.{◌↔◌, ◌⊎◌, ◌≡◌, ◌&&◌, Bool, true, false, not, IsTrue, List, All, Any, Option, Some, None, if◌then◌else◌}
+use Rattle.std.specs.List.{list_any}
+use Rattle.kms_names.specs.declared.principals.Principal.{Principal}
+use Rattle.cond_ops.specs.declared.facts.RequestFacts.{RequestFacts}
+use Rattle.policy_doc.specs.declared.policies.Policy.{Policy}
+use Rattle.policy_doc.specs.declared.policies.PolicyKind.TheVariants.{Key, Identity}
+use Rattle.policy_eval.specs.declared.verdicts.Verdict.{Verdict}
+use Rattle.policy_eval.specs.declared.verdicts.Verdict.TheVariants.{Deny, Direct, ByRoot, Silent}
+use Rattle.policy_eval.specs.Verdict.{IsAllow, IsDeny, SomeDenies, SomeAllowsCaller, SomeAllowsAccount}
+use Rattle.policy_eval.specs.VerdictOf.{verdict_of}
+use Rattle.authority.specs.Setting.{Setting, Asked, is_root}
+use Rattle.authority.specs.Facts.{request_of}
+
+-- ---- the caller's own policies
+
+abbrev pub is_deny : Verdict → Bool
+is_deny Deny = true
+is_deny Direct = false
+is_deny ByRoot = false
+is_deny Silent = false
+
+abbrev pub is_direct : Verdict → Bool
+is_direct Deny = false
+is_direct Direct = true
+is_direct ByRoot = false
+is_direct Silent = false
+
+abbrev pub is_by_root : Verdict → Bool
+is_by_root Deny = false
+is_by_root Direct = false
+is_by_root ByRoot = true
+is_by_root Silent = false
+
+-- some of these policies denies it, some allows it
+abbrev pub some_deny : List Policy → RequestFacts → Bool
+some_deny policies request = list_any (λ (p : Policy). is_deny (verdict_of p request)) policies
+
+abbrev pub some_allow : List Policy → RequestFacts → Bool
+some_allow policies request = list_any (λ (p : Policy). is_direct (verdict_of p request)) policies
+
+-- the caller is allowed it: nothing denies it, and it is the root, or some policy allows it
+abbrev pub identity_allows : Principal → List Policy → RequestFacts → Bool
+identity_allows caller policies request = not (some_deny policies request) && (if is_root caller then true else some_allow policies request)
+
+-- ---- a question
+
+-- on a key: its policy doesn't deny it either, and allows it directly, or by the root of the account and the caller is allowed it
+abbrev pub key_allows : Verdict → Bool → Bool → Bool
+key_allows Deny denied allowed = false
+key_allows Direct denied allowed = not denied
+key_allows ByRoot denied allowed = allowed
+key_allows Silent denied allowed = false
+
+-- with the policy of the key, where the question is about one
+abbrev pub allows : Principal → List Policy → Option Policy → RequestFacts → Bool
+allows caller policies None request = identity_allows caller policies request
+allows caller policies (Some policy) request = key_allows (verdict_of policy request) (some_deny policies request) (identity_allows caller policies request)
+
+unfoldable pub is_allowed : Setting → Option Policy → Asked → Bool
+is_allowed setting policy asked = allows setting.caller setting.policies policy (request_of setting asked)
+
+-- ---- the same in terms of statements
+
+-- a statement of one of the caller's policies denies it, allows it
+abbrev pub IdentityDenies : Setting → RequestFacts → Type 0
+IdentityDenies setting request = Any (λ (p : Policy). Any (λ s. IsDeny s request) p.statements) setting.policies
+
+abbrev pub IdentityAllows : Setting → RequestFacts → Type 0
+IdentityAllows setting request = IsTrue (is_root setting.caller) ⊎ Any (λ (p : Policy). Any (λ s. IsAllow s request) p.statements) setting.policies
+
+-- no statement denies it, and a statement of the key's policy allows the caller, or allows the root of the account while a
+-- statement of the caller's policies allows it
+abbrev pub MayOnKey : Setting → Policy → RequestFacts → Type 0
+MayOnKey setting policy request =
+    ¬ (SomeDenies policy.statements request) × ¬ (IdentityDenies setting request)
+    × (SomeAllowsCaller policy.statements request ⊎ (SomeAllowsAccount policy.statements request × IdentityAllows setting request))
+
+-- without a key a statement of the caller's policies allows it, and none denies it
+abbrev pub MayWithoutKey : Setting → RequestFacts → Type 0
+MayWithoutKey setting request = ¬ (IdentityDenies setting request) × IdentityAllows setting request
+
+abbrev pub May : Setting → Option Policy → RequestFacts → Type 0
+May setting None request = MayWithoutKey setting request
+May setting (Some policy) request = MayOnKey setting policy request
+
+-- the policies have the kinds of what they are attached to
+abbrev pub IsKeyPolicy : Option Policy → Type 0
+IsKeyPolicy None = Unit {0}
+IsKeyPolicy (Some policy) = policy.kind ≡ Key
+
+abbrev pub AreIdentityPolicies : List Policy → Type 0
+AreIdentityPolicies policies = All (λ (p : Policy). p.kind ≡ Identity) policies
+
+-- a question is allowed exactly where statements say so
+abbrev pub AllowedByStatements : Type 0
+AllowedByStatements =
+    (setting : Setting) (policy : Option Policy) (asked : Asked) → IsKeyPolicy policy → AreIdentityPolicies setting.policies
+    → IsTrue (is_allowed setting policy asked) ↔ May setting policy (request_of setting asked)

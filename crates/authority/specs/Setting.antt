@@ -1,0 +1,56 @@
+-- Who asks, when and where, and which policies there are of principals.
+use Rattle.std.specs.Prelude.{ℕ, Bool, true, false, List, [], find, Option, Some, None}
+use Rattle.std.specs.Str.{bytes_eq}
+use Rattle.kms_names.specs.Principal.{principal_text}
+use Rattle.kms_names.specs.declared.actions.Action.{Action}
+use Rattle.kms_names.specs.declared.principals.Principal.{Principal}
+use Rattle.kms_names.specs.declared.principals.Principal.TheVariants.{Root, User, Role}
+use Rattle.enc_context.specs.declared.pairs.Pair.{Pair}
+use Rattle.policy_doc.specs.declared.policies.Policy.{Policy}
+use Rattle.authority.specs.declared.identities.Identity.{Identity}
+
+-- the caller, the moment in seconds since 1970, the region of the service, and the caller's own policies
+pub record Setting : Type 0 where
+  pub caller : Principal
+  pub moment : ℕ
+  pub region : List ℕ
+  pub policies : List Policy
+
+-- what a request says of itself beside its action: whether it is about a key, one that it makes included; its encryption
+-- context; whether it encrypts anew under the same key; and whether it passes over the check of a new policy
+pub record Particulars : Type 0 where
+  pub keyed : Bool
+  pub context : List Pair
+  pub same_key : Option Bool
+  pub bypass : Option Bool
+
+-- an action on a resource, with what the request says of itself
+pub record Asked : Type 0 where
+  pub action : Action
+  pub resource : List ℕ
+  pub particulars : Particulars
+
+-- ---- the policies of a principal
+
+-- the first identity of this ARN
+abbrev pub identity_at : List Identity → List ℕ → Option Identity
+identity_at identities arn = find (λ (identity : Identity). bytes_eq (principal_text identity.principal) arn) identities
+
+abbrev pub policies_or_none : Option Identity → List Policy
+policies_or_none None = []
+policies_or_none (Some identity) = identity.policies
+
+-- the policies of a principal, none where it has no identity
+unfoldable pub policies_of : List Identity → Principal → List Policy
+policies_of identities principal = policies_or_none (identity_at identities (principal_text principal))
+
+-- the policies of a caller; the root, which may do everything, has none
+abbrev pub callers_policies : List Identity → Principal → List Policy
+callers_policies identities (Root account) = []
+callers_policies identities (User account name) = policies_of identities (User account name)
+callers_policies identities (Role account name) = policies_of identities (Role account name)
+
+abbrev pub is_root : Principal → Bool
+is_root (Root account) = true
+is_root (User account name) = false
+is_root (Role account name) = false

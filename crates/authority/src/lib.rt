@@ -1,0 +1,18 @@
+//! Whether a request may be served: the policies of keys, the policies of callers, and what a request says to their
+//! conditions (IAM User Guide, "Policy evaluation logic"; AWS KMS Developer Guide, "Key policies").
+#![tactic(auto)]
+
+mod callers;
+mod facts;
+mod identities;
+mod key_policies;
+mod laws;
+mod questions;
+mod settings;
+mod times;
+
+pub use callers::Callers;
+pub use identities::{Identity, IdentityList, PolicyList};
+pub use key_policies::{KeyPolicy, default_policy_text};
+pub use laws::allowed_by_statements;
+pub use settings::{Particulars, Setting};

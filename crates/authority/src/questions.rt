@@ -1,0 +1,172 @@
+//! Whether a request may do what it asks.
+ghost use Rattle.std.specs.Prelude.{◌≡◌, IfOk, option_map, true, false};
+ghost use Rattle.policy_eval.specs.VerdictOf.{verdict_of};
+ghost use Rattle.authority.specs.Facts.{facts_of};
+ghost use Rattle.authority.specs.Allowed.{is_deny, is_direct, some_deny, some_allow, identity_allows, key_allows, allows, is_allowed};
+ghost use Rattle.authority.specs.Questions.{GoByQuestions, KeyGoesByQuestion, SaysWhatIsAsked};
+
+use crate::facts::facts_of;
+use crate::key_policies::KeyPolicy;
+use crate::settings::{Particulars, Setting};
+use cond_ops::{FactList, RequestFacts};
+use kms_names::{Action, NoMemory, Principal, Text};
+use policy_eval::{Compiled, Verdict};
+use std::alloc::Global;
+
+fn denies(policy: &Compiled, request: &RequestFacts) -> bool
+    ensures { result ≡ is_deny (verdict_of policy.now request.now) }
+{
+    matches!(policy.verdict(request), Verdict::Deny)
+}
+
+fn allows_directly(policy: &Compiled, request: &RequestFacts) -> bool
+    ensures { result ≡ is_direct (verdict_of policy.now request.now) }
+{
+    matches!(policy.verdict(request), Verdict::Direct)
+}
+
+// Whether some of these policies denies it.
+fn some_deny(policies: &[Compiled], request: &RequestFacts) -> bool
+    ensures { result ≡ some_deny policies.now request.now }
+{
+    policies.iter().any(|policy| denies(policy, request))
+}
+
+// Whether some of these policies allows it.
+fn some_allow(policies: &[Compiled], request: &RequestFacts) -> bool
+    ensures { result ≡ some_allow policies.now request.now }
+{
+    policies
+        .iter()
+        .any(|policy| allows_directly(policy, request))
+}
+
+// Whether the caller's own policies let it, nothing denying it; the root may do everything.
+fn identity_allows(caller: &Principal, policies: &[Compiled], request: &RequestFacts) -> bool
+    ensures { result ≡ identity_allows caller.now policies.now request.now }
+{
+    if some_deny(policies, request) {
+        return false;
+    }
+    match caller {
+        Principal::Root(_) => true,
+        Principal::User(_, _) | Principal::Role(_, _) => some_allow(policies, request),
+    }
+}
+
+// Whether the request may do what it asks.
+fn allows(
+    caller: &Principal,
+    policies: &[Compiled],
+    policy: Option<&Compiled>,
+    request: &RequestFacts,
+) -> bool
+    ensures { result ≡ allows caller.now policies.now (option_map (λ p. p.now) policy.entry) request.now }
+{
+    let Some(policy) = policy else {
+        return identity_allows(caller, policies, request);
+    };
+    match policy.verdict(request) {
+        Verdict::Deny | Verdict::Silent => false,
+        Verdict::Direct => !some_deny(policies, request),
+        Verdict::ByRoot => identity_allows(caller, policies, request),
+    }
+}
+
+// Whether some of these policies has conditions.
+fn some_ask(policies: &[Compiled]) -> bool
+    ensures { result ≡ false → GoByQuestions policies.now }
+{
+    for policy in policies {
+        if policy.asks_facts() {
+            return true;
+        }
+    }
+    false
+}
+
+// Whether the policy of a key has conditions, where there is one.
+fn key_asks(policy: Option<&Compiled>) -> bool
+    ensures { result ≡ false → KeyGoesByQuestion (option_map (λ p. p.now) policy.entry) }
+{
+    match policy {
+        Some(policy) => policy.asks_facts(),
+        None => false,
+    }
+}
+
+// Whether some policy that is asked has conditions.
+fn some_wants(policy: Option<&Compiled>, policies: &[Compiled]) -> bool
+    ensures key { result ≡ false → KeyGoesByQuestion (option_map (λ p. p.now) policy.entry) }
+    ensures own { result ≡ false → GoByQuestions policies.now }
+{
+    key_asks(policy) || some_ask(policies)
+}
+
+fn compiled(policy: Option<&KeyPolicy>) -> Option<&Compiled>
+    ensures { option_map (λ p. p.now) result ≡ option_map (λ p. p.now) policy.entry }
+{
+    match policy {
+        Some(policy) => Some(policy.compiled()),
+        None => None,
+    }
+}
+
+impl Setting<'_> {
+    // What a request says to conditions, where that is wanted.
+    fn facts_if(
+        &self,
+        alloc: Global,
+        wanted: bool,
+        action: Action,
+        particulars: &Particulars<'_>,
+    ) -> Result<FactList, NoMemory>
+        ensures { IfOk result (λ facts. wanted ≡ true → facts ≡ facts_of self.now action particulars.now) }
+    {
+        if wanted {
+            facts_of(alloc, self, action, particulars)
+        } else {
+            Ok(FactList::new(Vec::new(alloc)))
+        }
+    }
+
+    // What policies are asked about a request; what it says to conditions only where that is wanted.
+    fn request(
+        &self,
+        alloc: Global,
+        wanted: bool,
+        action: Action,
+        resource: &str,
+        particulars: &Particulars<'_>,
+    ) -> Result<RequestFacts, NoMemory>
+        ensures { IfOk result (SaysWhatIsAsked self.now (record { action = action; resource = resource.now; particulars = particulars.now }) wanted) }
+    {
+        let facts = self.facts_if(alloc, wanted, action, particulars)?;
+        let caller = self.caller.copy()?;
+        let resource = Text::from_str(alloc, resource)?;
+        Ok(RequestFacts {
+            caller,
+            action,
+            resource,
+            facts,
+        })
+    }
+
+    /// Whether the caller may do this on a resource: by the policy of a key, where the question is about one, and by the
+    /// caller's own policies.
+    pub fn allows(
+        &self,
+        alloc: Global,
+        policy: Option<&KeyPolicy>,
+        action: Action,
+        resource: &str,
+        particulars: &Particulars<'_>,
+    ) -> Result<bool, NoMemory>
+        ensures { IfOk result (λ b. b ≡ is_allowed self.now (option_map (λ p. p.now) policy.entry) (record { action = action; resource = resource.now; particulars = particulars.now })) }
+    {
+        let policy = compiled(policy);
+        let wanted = some_wants(policy, self.policies);
+        let request = self.request(alloc, wanted, action, resource, particulars)?;
+        Ok(allows(self.caller, self.policies, policy, &request))
+    }
+}
