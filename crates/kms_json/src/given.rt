@@ -5,8 +5,8 @@ ghost use Rattle.base64.specs.Engines.{standard};
 ghost use Rattle.base64.specs.GeneralPurpose.{decoded_of};
 ghost use Rattle.enc_context.specs.Pairs.{IsInOrder};
 ghost use Rattle.kms_json.specs.declared.fields.Kind.TheVariants as kind;
-ghost use Rattle.kms_json.specs.Fields.{is_given, value_of, value_given, pairs_of, text_in, bytes_in, flag_in};
-ghost use Rattle.kms_json.specs.Building.{text_if, pairs_in, number_in};
+ghost use Rattle.kms_json.specs.Fields.{is_given, value_of, value_given, pairs_of};
+ghost use Rattle.kms_json.specs.Given.{text_if, text_in, bytes_in, pairs_in, number_in, flag_in, items_in};
 
 use crate::fields::Kind;
 use base64::DecodeAllocError;
@@ -31,29 +31,29 @@ pub enum Given {
     Whole(Option<u64>),
     /// A truth value.
     Flag(bool),
+    /// A list, and whether it has items.
+    Items(bool),
     /// It is given, and nothing more is asked of it.
     Something,
 }
 
 impl Given {
     ghost use Rattle.std.specs.Prelude.{◌≡◌};
-    ghost use Rattle.kms_json.specs.Fields.{is_absent};
     ghost use Rattle.std.specs.Prelude.{is_some};
-    ghost use Rattle.kms_json.specs.Fields.{text_in, bytes_in, context_in, whole_in};
+    ghost use Rattle.kms_json.specs.Given.{is_absent, is_there, text_in, bytes_in, context_in, whole_in};
 
     /// Whether the member isn't given.
     pub fn is_absent(&self) -> bool
         ensures { result ≡ is_absent self.now }
     {
-        match self {
-            Given::Absent => true,
-            Given::Text(_)
-            | Given::Bytes(_)
-            | Given::Context(_)
-            | Given::Whole(_)
-            | Given::Flag(_)
-            | Given::Something => false,
-        }
+        matches!(self, Given::Absent)
+    }
+
+    /// Whether the member is given.
+    pub fn is_there(&self) -> bool
+        ensures { result ≡ is_there self.now }
+    {
+        !self.is_absent()
     }
 
     /// The text, or the empty text where it is no text.
@@ -170,6 +170,26 @@ fn context_of(alloc: Global, value: &Value) -> Result<Option<Given>, NoMemory>
     }
 }
 
+// A list, and whether it has items.
+fn list_of(value: &Value) -> Option<Given>
+    ensures { result ≡ value_of kind.List (view value.now) }
+{
+    match value.as_array() {
+        Some(items) => Some(Given::Items(!items.is_empty())),
+        None => None,
+    }
+}
+
+fn object_of(value: &Value) -> Option<Given>
+    ensures { result ≡ value_of kind.Object (view value.now) }
+{
+    if value.is_object() {
+        Some(Given::Something)
+    } else {
+        None
+    }
+}
+
 fn whole_of(value: &Value) -> Option<Given>
     ensures { result ≡ value_of (kind.Whole 0 0) (view value.now) }
 {
@@ -193,13 +213,18 @@ fn value_of(alloc: Global, kind: Kind, value: &Value) -> Result<Option<Given>, N
     ensures { IfOk result (λ g. g ≡ value_of kind (view value.now)) }
 {
     match kind {
-        Kind::Text { .. } | Kind::AnyText | Kind::DataKeySpec => text_of(alloc, value),
+        Kind::Text { .. }
+        | Kind::SomeText
+        | Kind::AnyText
+        | Kind::AliasName
+        | Kind::PolicyName
+        | Kind::DataKeySpec => text_of(alloc, value),
         Kind::Bytes { .. } => bytes_of(alloc, value),
         Kind::Context => context_of(alloc, value),
         Kind::Whole { .. } => Ok(whole_of(value)),
         Kind::Flag => Ok(value.as_bool().map(Given::Flag)),
-        Kind::Object if value.is_object() => Ok(Some(Given::Something)),
-        Kind::Object => Ok(None),
+        Kind::List => Ok(list_of(value)),
+        Kind::Object => Ok(object_of(value)),
         Kind::NotBuilt => Ok(Some(Given::Something)),
     }
 }
@@ -286,4 +311,11 @@ pub fn flag_in(value: &Given) -> bool
         Given::Flag(flag) => *flag,
         _ => false,
     }
+}
+
+/// Whether it is a list of one or more items.
+pub fn items_in(value: &Given) -> bool
+    ensures { result ≡ items_in value.now }
+{
+    matches!(value, Given::Items(true))
 }
