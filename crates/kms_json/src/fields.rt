@@ -4,7 +4,8 @@ ghost use Rattle.serde_json.specs.View.{view};
 ghost use Rattle.kms_names.specs.Reading.{is_alias_text};
 ghost use Rattle.kms_json.specs.Fields.{row_of, wanted_by, fits, may_be_absent, may_be_given, is_valid, values_of, first_invalid, refused_by, refusal_at, is_policy_name, is_data_key_spec, is_some_between};
 
-use crate::given::{Given, is_given, value_given};
+use crate::given::Given;
+use crate::members::{is_given, value_given};
 use kms_names::{NoMemory, is_alias_name};
 use serde_json::Value;
 use std::alloc::Global;

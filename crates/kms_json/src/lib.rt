@@ -9,6 +9,7 @@ mod building;
 mod exceptions;
 mod fields;
 mod given;
+mod members;
 mod objects;
 mod operations;
 mod refusals;

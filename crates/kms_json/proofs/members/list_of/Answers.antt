@@ -3,7 +3,7 @@ use Rattle.serde_json.specs.Data.{Items}
 use Rattle.kms_json.specs.declared.given.Given.TheVariants as given
 use Rattle.kms_json.specs.Fields.{any_items}
 use Rattle.kms_json.proofs.ValueLemmas.{items_counted}
-use Rattle.kms_json.proofs.given.list_of.Goals as goal
+use Rattle.kms_json.proofs.members.list_of.Goals as goal
 
 pub returns-in-Some : goal.returns-in-Some
 returns-in-Some c =
