@@ -3,3 +3,4 @@ mod ContextLemmas
 mod ValueLemmas
 mod BuildLemmas
 pub mod Sizes
+pub mod Statuses

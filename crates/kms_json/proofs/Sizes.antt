@@ -1,19 +1,24 @@
 -- The sizes of what a proper request asks.
-use Rattle.std.proofs.Common.{◌≡◌, ℕ, zero, suc, ◌<◌, ◌≤◌, ◌&&◌, List, [], ◌∷◌, length, Bool, true, false, not, codes, Option, Some, None, Ok, Err, refl, subst, if◌then◌else◌, nat_le, unwrap_or, leb-true, arith}
+use Rattle.std.proofs.Common.{◌≡◌, ℕ, zero, suc, ◌<◌, ◌≤◌, ◌&&◌, List, [], ◌∷◌, length, Bool, true, false, not, codes, Option, Some, None, Ok, Err, refl, ap, ◌∙◌, subst, if◌then◌else◌, nat_le, unwrap_or, leb-true, arith}
 use Rattle.std.specs.Str.{bytes_eq}
-use Rattle.serde_json.specs.Data.{Data}
+use Rattle.serde_json.specs.Data.{Data, null, boolean, number, string, array, object}
 use Rattle.serde_json.specs.Find.{get}
 use Rattle.kms_json.specs.declared.given.Given.{Given}
+use Rattle.kms_json.specs.declared.given.Given.TheVariants as given
 use Rattle.kms_json.specs.declared.fields.Kind.TheVariants as kind
 use Rattle.kms_json.specs.declared.asks.AskBody.{AskBody}
 use Rattle.kms_json.specs.declared.operations.Operation.{Operation}
 use Rattle.kms_json.specs.declared.operations.Operation.TheVariants as operation
-use Rattle.kms_json.specs.declared.replies.Refusal.TheVariants as refusal
+use Rattle.kms_json.specs.declared.refusals.Refusal.{Refusal}
+use Rattle.kms_json.specs.declared.refusals.Refusal.TheVariants as refusal
 use Rattle.kms_json.specs.Operations.{operation_named, fields_of}
-use Rattle.kms_json.specs.Fields.{FieldRow, values_of, value_given, first_invalid, is_valid, is_given, is_absent, is_between, is_some_between, bytes_in, whole_in, text_at, number_at}
-use Rattle.kms_json.specs.Building.{value_in}
-use Rattle.kms_json.specs.Asks.{IsSized, body_of, body_data, is_object, spec_size, data_key_size, asked_unless, asked_of_values, asked_by, asked_where, asked}
-use Rattle.kms_json.proofs.ValueLemmas.{row_at, gives_at, values_counted, bytes_is, number_is}
+use Rattle.kms_json.specs.Given.{is_absent, text_in, bytes_in, whole_in, number_in}
+use Rattle.kms_json.specs.Fields.{FieldRow, values_of, value_given, first_invalid, refusal_at, is_valid, is_given, is_between, is_some_between}
+use Rattle.kms_json.specs.Building.{held}
+use Rattle.kms_json.specs.CryptographyAsks.{spec_size, data_key_size}
+use Rattle.kms_json.specs.Asks.{IsSized, built, body_of, body_data, is_object, asked_unless, asked_of_values, asked_by, asked_where, asked}
+use Rattle.kms_json.proofs.ValueLemmas.{row_at, value_in, gives_at, values_counted}
+use Rattle.kms_json.proofs.BuildLemmas.{asked_is}
 
 -- ---- what is asked is of an operation, an object and valid values
 
@@ -24,9 +29,9 @@ record IsRead (op : Operation) (d : Data) (body : AskBody) : Type 0 where
   made : body_of op d ≡ body
 
 module _ (op : Operation) (d : Data) (body : AskBody) where
-  of_fault : (values : List Given) → values_of (fields_of op) d ≡ Some values → (f : Option (List ℕ)) → first_invalid (fields_of op) d values ≡ f
+  of_fault : (values : List Given) → values_of (fields_of op) d ≡ Some values → (f : Option Refusal) → first_invalid (fields_of op) d values ≡ f
       → asked_unless f (body_of op d) ≡ Ok body → IsRead op d body
-  of_fault values read (Some field) valid e = cc
+  of_fault values read (Some why) valid e = cc
   of_fault values read None valid e = record { values = values; read = read; valid = valid; made = cc }
 
   of_values : (o : Option (List Given)) → values_of (fields_of op) d ≡ o → asked_of_values op d o ≡ Ok body → IsRead op d body
@@ -40,11 +45,11 @@ module _ (op : Operation) (d : Data) (body : AskBody) where
 -- ---- each value is valid
 
 module _ (row : FieldRow) (rows : List FieldRow) (d : Data) (value : Given) (values : List Given) where
-  first_valid : (b : Bool) → is_valid row d value ≡ b → (if b then first_invalid rows d values else Some row.name) ≡ None → is_valid row d value ≡ true
+  first_valid : (b : Bool) → is_valid row d value ≡ b → (if b then first_invalid rows d values else Some (refusal_at row value)) ≡ None → is_valid row d value ≡ true
   first_valid true is e = is
   first_valid false is e = cc
 
-  rest_valid : (b : Bool) → (if b then first_invalid rows d values else Some row.name) ≡ None → first_invalid rows d values ≡ None
+  rest_valid : (b : Bool) → (if b then first_invalid rows d values else Some (refusal_at row value)) ≡ None → first_invalid rows d values ≡ None
   rest_valid true e = e
   rest_valid false e = cc
 
@@ -81,62 +86,69 @@ spec_sizes false = (omega arith, omega arith)
 
 -- ---- by operation
 
+-- it is enough to look at the values
+by_values : (op : Operation) (d : Data) (body : AskBody) (is : IsRead op d body) → IsSized (built op (held (fields_of op) is.values)) → IsSized body
+by_values op d body is sized = subst IsSized (asked_is op d is.values is.read ∙ is.made) sized
+
+-- the value at a place is valid
+value_valid : (op : Operation) (d : Data) (body : AskBody) (is : IsRead op d body) (n : ℕ) → n < length (fields_of op)
+    → is_valid (row_at n (fields_of op)) d (value_in n is.values) ≡ true
+value_valid op d body is n below =
+    let counted = values_counted (fields_of op) d is.values is.read in
+    valid_at (fields_of op) d is.values is.valid n below (omega arith)
+
 plaintext_sized : (d : Data) (body : AskBody) → IsRead operation.Encrypt d body → IsSized body
 plaintext_sized d body is =
-    let rows = fields_of operation.Encrypt in
-    let counted = values_counted rows d is.values is.read in
     let value = value_in 1 is.values in
-    let valid : is_valid (row_at 1 rows) d value ≡ true = valid_at rows d is.values is.valid 1 (omega arith) (omega arith) in
-    let sizes = between 1 4096 (length (bytes_in value)) (kept_where (is_absent value) false true _ refl valid) in
-    let same = bytes_is 1 4096 (get (codes "Plaintext") d) value (gives_at rows d is.values is.read 1 (omega arith)) in
-    subst IsSized is.made (subst (λ (b : List ℕ). (1 ≤ length b) × (length b ≤ 4096)) same sizes)
+    let valid = value_valid operation.Encrypt d body is 1 (omega arith) in
+    by_values operation.Encrypt d body is (between 1 4096 (length (bytes_in value)) (kept_where (is_absent value) false true _ refl valid))
 
--- a size by the spec or, where that isn't given, by the number
-size_within : (b : Bool) (name : List ℕ) (n : ℕ) → (b ≡ false → (1 ≤ n) × (n ≤ 1024)) → (1 ≤ (if b then spec_size name else n)) × ((if b then spec_size name else n) ≤ 1024)
-size_within true name n h = spec_sizes (bytes_eq name (codes "AES_256"))
-size_within false name n h = h refl
+-- a spec that isn't there isn't given
+spec_absent : (o : Option Data) (v : Given) → value_given kind.DataKeySpec o ≡ Some v → is_absent v ≡ true → is_given o ≡ false
+spec_absent None v e absent = refl
+spec_absent (Some null) v e absent = refl
+spec_absent (Some (boolean b)) v e absent = cc
+spec_absent (Some (number n)) v e absent = cc
+spec_absent (Some (string s)) v e absent = let is : given.Text s ≡ v = cc in let bad : false ≡ true = ap is_absent is ∙ absent in cc
+spec_absent (Some (array items)) v e absent = cc
+spec_absent (Some (object ms)) v e absent = cc
 
-sized_within : (d : Data) (value : Given) → value_given (kind.Whole 1 1024) (get (codes "NumberOfBytes") d) ≡ Some value
+-- a size by the number, where the spec isn't given, or by the spec
+size_within : (b : Bool) (name : List ℕ) (n : ℕ) → (b ≡ true → (1 ≤ n) × (n ≤ 1024)) → (1 ≤ (if b then n else spec_size name)) × ((if b then n else spec_size name) ≤ 1024)
+size_within true name n h = h refl
+size_within false name n h = spec_sizes (bytes_eq name (codes "AES_256"))
+
+sized_within : (d : Data) (spec value : Given) → value_given kind.DataKeySpec (get (codes "KeySpec") d) ≡ Some spec
     → (if is_absent value then is_given (get (codes "KeySpec") d) else (not (is_given (get (codes "KeySpec") d)) && is_some_between 1 1024 (whole_in value))) ≡ true
-    → (1 ≤ data_key_size d) × (data_key_size d ≤ 1024)
-sized_within d value read valid =
-    let within : is_given (get (codes "KeySpec") d) ≡ false → (1 ≤ number_at (codes "NumberOfBytes") d) × (number_at (codes "NumberOfBytes") d ≤ 1024) =
-    λ none. subst (λ (n : ℕ). (1 ≤ n) × (n ≤ 1024)) (number_is 1 1024 (get (codes "NumberOfBytes") d) value read)
-    (some_between 1 1024 (whole_in value) (kept_where (is_absent value) _ _ _ none valid)) in
-    size_within (is_given (get (codes "KeySpec") d)) (text_at (codes "KeySpec") d) (number_at (codes "NumberOfBytes") d) within
+    → (1 ≤ data_key_size spec value) × (data_key_size spec value ≤ 1024)
+sized_within d spec value read valid =
+    size_within (is_absent spec) (text_in spec) (number_in value)
+    (λ absent. some_between 1 1024 (whole_in value) (kept_where (is_absent value) _ _ _ (spec_absent (get (codes "KeySpec") d) spec read absent) valid))
 
 data_key_sized : (d : Data) (body : AskBody) → IsRead operation.GenerateDataKey d body → IsSized body
 data_key_sized d body is =
-    let rows = fields_of operation.GenerateDataKey in
-    let counted = values_counted rows d is.values is.read in
-    let valid : is_valid (row_at 2 rows) d (value_in 2 is.values) ≡ true = valid_at rows d is.values is.valid 2 (omega arith) (omega arith) in
-    subst IsSized is.made (sized_within d (value_in 2 is.values) (gives_at rows d is.values is.read 2 (omega arith)) valid)
+    let spec = gives_at (fields_of operation.GenerateDataKey) d is.values is.read 3 (omega arith) in
+    let valid = value_valid operation.GenerateDataKey d body is 2 (omega arith) in
+    by_values operation.GenerateDataKey d body is (sized_within d (value_in 3 is.values) (value_in 2 is.values) spec valid)
 
 sealed_data_key_sized : (d : Data) (body : AskBody) → IsRead operation.GenerateDataKeyWithoutPlaintext d body → IsSized body
 sealed_data_key_sized d body is =
-    let rows = fields_of operation.GenerateDataKeyWithoutPlaintext in
-    let counted = values_counted rows d is.values is.read in
-    let valid : is_valid (row_at 3 rows) d (value_in 3 is.values) ≡ true = valid_at rows d is.values is.valid 3 (omega arith) (omega arith) in
-    subst IsSized is.made (sized_within d (value_in 3 is.values) (gives_at rows d is.values is.read 3 (omega arith)) valid)
+    let spec = gives_at (fields_of operation.GenerateDataKeyWithoutPlaintext) d is.values is.read 2 (omega arith) in
+    let valid = value_valid operation.GenerateDataKeyWithoutPlaintext d body is 3 (omega arith) in
+    by_values operation.GenerateDataKeyWithoutPlaintext d body is (sized_within d (value_in 2 is.values) (value_in 3 is.values) spec valid)
 
 random_sized : (d : Data) (body : AskBody) → IsRead operation.GenerateRandom d body → IsSized body
 random_sized d body is =
-    let rows = fields_of operation.GenerateRandom in
-    let counted = values_counted rows d is.values is.read in
     let value = value_in 0 is.values in
-    let valid : is_valid (row_at 0 rows) d value ≡ true = valid_at rows d is.values is.valid 0 (omega arith) (omega arith) in
-    let within = some_between 1 1024 (whole_in value) (kept_where (is_absent value) false true _ refl valid) in
-    subst IsSized is.made (subst (λ (n : ℕ). (1 ≤ n) × (n ≤ 1024)) (number_is 1 1024 (get (codes "NumberOfBytes") d) value (gives_at rows d is.values is.read 0 (omega arith))) within)
+    let valid = value_valid operation.GenerateRandom d body is 0 (omega arith) in
+    by_values operation.GenerateRandom d body is (some_between 1 1024 (whole_in value) (kept_where (is_absent value) false true _ refl valid))
 
 of_operation : (op : Operation) (d : Data) (body : AskBody) → IsRead op d body → IsSized body
-of_operation operation.CreateKey d body is = subst IsSized is.made tt
-of_operation operation.DescribeKey d body is = subst IsSized is.made tt
 of_operation operation.Encrypt d body is = plaintext_sized d body is
-of_operation operation.Decrypt d body is = subst IsSized is.made tt
-of_operation operation.ReEncrypt d body is = subst IsSized is.made tt
 of_operation operation.GenerateDataKey d body is = data_key_sized d body is
 of_operation operation.GenerateDataKeyWithoutPlaintext d body is = sealed_data_key_sized d body is
 of_operation operation.GenerateRandom d body is = random_sized d body is
+of_operation _ d body is = subst IsSized is.made tt
 
 of_data : (op : Operation) (o : Option Data) (body : AskBody) → asked_by op o ≡ Ok body → IsSized body
 of_data op None body e = cc

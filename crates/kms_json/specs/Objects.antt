@@ -1,9 +1,17 @@
 -- A JSON object as the list of its members.
-use Rattle.std.specs.Prelude.{List, [], ◌∷◌}
-use Rattle.serde_json.specs.Data.{Data, Members, put, string, number, unsigned, boolean, array, item, no_items}
+use Rattle.std.specs.Prelude.{ℕ, List, [], ◌∷◌, codes}
+use Rattle.serde_json.specs.Data.{Data, Members, member, put, string, number, unsigned, boolean, array, item, no_items}
 use Rattle.kms_json.specs.declared.objects.Member.{Member}
 use Rattle.kms_json.specs.declared.objects.Item.{Item}
 use Rattle.kms_json.specs.declared.objects.Item.TheVariants.{Text, Number, Flag, OneText}
+
+-- the name of the one key spec, and of the one algorithm, of symmetric keys
+abbrev pub symmetric_default : List ℕ
+symmetric_default = codes "SYMMETRIC_DEFAULT"
+
+-- a member that is a text
+abbrev pub with_text : List ℕ → List ℕ → Members → Members
+with_text name text more = member name (string text) more
 
 abbrev pub item_data : Item → Data
 item_data (Text text) = string text.now

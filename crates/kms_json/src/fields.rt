@@ -1,12 +1,12 @@
 // Fields of a request's body, read in their order and then judged in it.
 ghost use Rattle.std.specs.Prelude.{◌≡◌, map, length, IfOk, option_map};
-ghost use Rattle.std.specs.Str.{bytes_eq};
-ghost use Rattle.serde_json.specs.Find.{get};
 ghost use Rattle.serde_json.specs.View.{view};
-ghost use Rattle.kms_json.specs.Fields.{row_of, wanted_by, fits, may_be_absent, may_be_given, is_valid, values_of, first_invalid, is_data_key_spec, is_some_between};
+ghost use Rattle.kms_names.specs.Reading.{is_alias_text};
+ghost use Rattle.kms_json.specs.Fields.{row_of, wanted_by, fits, may_be_absent, may_be_given, is_valid, values_of, first_invalid, refused_by, refusal_at, is_policy_name, is_data_key_spec, is_some_between};
 
-use crate::given::{Given, is_given, value_given};
-use kms_names::NoMemory;
+use crate::given::Given;
+use crate::members::{is_given, value_given};
+use kms_names::{NoMemory, is_alias_name};
 use serde_json::Value;
 use std::alloc::Global;
 use std::collections::VecDeque;
@@ -16,8 +16,14 @@ use std::collections::VecDeque;
 pub enum Kind {
     /// A text of so many bytes of UTF-8.
     Text { least: usize, most: usize },
+    /// A text of one byte or more.
+    SomeText,
     /// A text of any size.
     AnyText,
+    /// An alias name.
+    AliasName,
+    /// The name of a key's policy.
+    PolicyName,
     /// The name of a data key's spec.
     DataKeySpec,
     /// So many bytes, as the text of their base64.
@@ -28,6 +34,8 @@ pub enum Kind {
     Whole { least: u64, most: u64 },
     /// A truth value.
     Flag,
+    /// A list.
+    List,
     /// An object.
     Object,
     /// Nothing: the field isn't built yet.
@@ -48,6 +56,27 @@ pub enum Presence {
 /// A field of a request's body: its name, what its value may be, and whether it is to be given.
 #[derive(Clone, Copy)]
 pub struct Field(pub &'static str, pub Kind, pub Presence);
+
+/// Why a field isn't valid.
+#[derive(Clone, Copy, Debug)]
+pub enum FieldFault {
+    /// The field of this name isn't valid.
+    Field(&'static str),
+    /// The alias name isn't one.
+    AliasName,
+}
+
+fn is_alias(name: &str) -> bool
+    ensures { result ≡ is_alias_text name.now }
+{
+    is_alias_name(name)
+}
+
+fn is_default(name: &str) -> bool
+    ensures { result ≡ is_policy_name name.now }
+{
+    name == "default"
+}
 
 fn is_spec(name: &str) -> bool
     ensures { result ≡ is_data_key_spec name.now }
@@ -79,8 +108,11 @@ fn fits(kind: Kind, value: &Given) -> bool
         }
         Kind::Whole { least, most } => number_between(least, most, value.whole()),
         Kind::Context => value.has_context(),
+        Kind::SomeText => !value.text().is_empty(),
+        Kind::AliasName => is_alias(value.text()),
+        Kind::PolicyName => is_default(value.text()),
         Kind::DataKeySpec => is_spec(value.text()),
-        Kind::AnyText | Kind::Flag | Kind::Object => true,
+        Kind::AnyText | Kind::Flag | Kind::List | Kind::Object => true,
         Kind::NotBuilt => false,
     }
 }
@@ -114,6 +146,16 @@ fn valid(field: &Field, body: &Value, value: &Given) -> bool
     }
 }
 
+// Why a field isn't valid that has this value.
+fn fault_of(field: &Field, value: &Given) -> FieldFault
+    ensures { refused_by result ≡ refusal_at (row_of field.now) value.now }
+{
+    match field.1 {
+        Kind::AliasName if value.is_there() => FieldFault::AliasName,
+        _ => FieldFault::Field(field.0),
+    }
+}
+
 /// The values of the fields in their order, or none where a member has another type than its field.
 pub fn read_values(
     alloc: Global,
@@ -132,14 +174,15 @@ pub fn read_values(
     Ok(Some(values))
 }
 
-/// The name of the first field whose value isn't valid.
-pub fn first_fault(fields: &[Field], body: &Value, values: &VecDeque<Given>) -> Option<&'static str>
+/// Why the first field isn't valid whose value isn't.
+pub fn first_fault(fields: &[Field], body: &Value, values: &VecDeque<Given>) -> Option<FieldFault>
     requires { length values.now.items ≡ length fields.now }
-    ensures { option_map (λ name. name.now) result ≡ first_invalid (map row_of fields.now) (view body.now) values.now.items }
+    ensures { option_map refused_by result ≡ first_invalid (map row_of fields.now) (view body.now) values.now.items }
 {
     for (i, field) in fields.iter().enumerate() {
-        if !valid(field, body, &values[i]) {
-            return Some(field.0);
+        let value = &values[i];
+        if !valid(field, body, value) {
+            return Some(fault_of(field, value));
         }
     }
     None

@@ -1,19 +1,9 @@
-// What a body gives to a field, read once.
-ghost use Rattle.std.specs.Prelude.{◌≡◌, [], IfOk, IfSome, option_map};
-ghost use Rattle.serde_json.specs.View.{view, members_view};
-ghost use Rattle.base64.specs.Engines.{standard};
-ghost use Rattle.base64.specs.GeneralPurpose.{decoded_of};
-ghost use Rattle.enc_context.specs.Pairs.{IsInOrder};
-ghost use Rattle.kms_json.specs.declared.fields.Kind.TheVariants as kind;
-ghost use Rattle.kms_json.specs.Fields.{is_given, value_of, value_given, pairs_of, text_in, bytes_in, flag_in};
-ghost use Rattle.kms_json.specs.Building.{text_if, pairs_in, number_in};
+// What a body gives to a field, by its form.
+ghost use Rattle.std.specs.Prelude.{◌≡◌, [], IfOk};
+ghost use Rattle.kms_json.specs.Given.{text_if, text_in, bytes_in, pairs_in, number_in, flag_in, items_in};
 
-use crate::fields::Kind;
-use base64::DecodeAllocError;
-use base64::engine::general_purpose::STANDARD;
-use enc_context::{Context, ContextFault, Pair};
+use enc_context::Context;
 use kms_names::{Bytes, NoMemory, Text};
-use serde_json::{Map, Value};
 use std::alloc::Global;
 
 /// What a member is to its field.
@@ -31,29 +21,29 @@ pub enum Given {
     Whole(Option<u64>),
     /// A truth value.
     Flag(bool),
+    /// A list, and whether it has items.
+    Items(bool),
     /// It is given, and nothing more is asked of it.
     Something,
 }
 
 impl Given {
     ghost use Rattle.std.specs.Prelude.{◌≡◌};
-    ghost use Rattle.kms_json.specs.Fields.{is_absent};
     ghost use Rattle.std.specs.Prelude.{is_some};
-    ghost use Rattle.kms_json.specs.Fields.{text_in, bytes_in, context_in, whole_in};
+    ghost use Rattle.kms_json.specs.Given.{is_absent, is_there, text_in, bytes_in, context_in, whole_in};
 
     /// Whether the member isn't given.
     pub fn is_absent(&self) -> bool
         ensures { result ≡ is_absent self.now }
     {
-        match self {
-            Given::Absent => true,
-            Given::Text(_)
-            | Given::Bytes(_)
-            | Given::Context(_)
-            | Given::Whole(_)
-            | Given::Flag(_)
-            | Given::Something => false,
-        }
+        matches!(self, Given::Absent)
+    }
+
+    /// Whether the member is given.
+    pub fn is_there(&self) -> bool
+        ensures { result ≡ is_there self.now }
+    {
+        !self.is_absent()
     }
 
     /// The text, or the empty text where it is no text.
@@ -94,127 +84,6 @@ impl Given {
             Given::Context(Some(_)) => true,
             _ => false,
         }
-    }
-}
-
-/// Whether a member is there and isn't null.
-pub fn is_given(member: Option<&Value>) -> bool
-    ensures { result ≡ is_given (option_map (λ v. view v.now) member.entry) }
-{
-    match member {
-        None | Some(Value::Null) => false,
-        Some(_) => true,
-    }
-}
-
-fn text_of(alloc: Global, value: &Value) -> Result<Option<Given>, NoMemory>
-    ensures { IfOk result (λ g. g ≡ value_of kind.AnyText (view value.now)) }
-{
-    match value {
-        Value::String(text) => Ok(Some(Given::Text(Text::from_str(alloc, text.as_str())?))),
-        _ => Ok(None),
-    }
-}
-
-// The bytes of a base64 text.
-fn decoded(alloc: Global, text: &str) -> Result<Option<Bytes>, NoMemory>
-    ensures { IfOk result (λ b. b ≡ decoded_of standard text.now) }
-{
-    match STANDARD.decode(alloc, text.as_bytes()) {
-        Ok(bytes) => Ok(Some(Bytes::new(bytes))),
-        Err(DecodeAllocError::OutOfMemory) => Err(NoMemory),
-        Err(DecodeAllocError::DecodeError(_)) => Ok(None),
-    }
-}
-
-fn bytes_of(alloc: Global, value: &Value) -> Result<Option<Given>, NoMemory>
-    ensures { IfOk result (λ g. g ≡ value_of (kind.Bytes 0 0) (view value.now)) }
-{
-    match value {
-        Value::String(text) => Ok(decoded(alloc, text.as_str())?.map(Given::Bytes)),
-        _ => Ok(None),
-    }
-}
-
-// The members as pairs of a context, if all are texts.
-fn pairs_of(alloc: Global, members: &Map<String, Value>) -> Result<Option<Vec<Pair>>, NoMemory>
-    ensures pairs { IfOk result (λ pairs. option_map (λ p. p.items) pairs ≡ pairs_of (members_view members.now.entries)) }
-    ensures order { IfOk result (λ pairs. IfSome pairs (λ p. IsInOrder p.items)) }
-{
-    let mut pairs = Vec::new(alloc);
-    for (name, value) in members {
-        let Some(text) = value.as_str() else {
-            return Ok(None);
-        };
-        pairs.push(Pair {
-            key: Text::from_str(alloc, name.as_str())?,
-            value: Text::from_str(alloc, text)?,
-        })?;
-    }
-    Ok(Some(pairs))
-}
-
-fn context_of(alloc: Global, value: &Value) -> Result<Option<Given>, NoMemory>
-    ensures { IfOk result (λ g. g ≡ value_of kind.Context (view value.now)) }
-{
-    let Some(members) = value.as_object() else {
-        return Ok(None);
-    };
-    let Some(pairs) = pairs_of(alloc, members)? else {
-        return Ok(None);
-    };
-    match Context::from_pairs(alloc, pairs) {
-        Ok(context) => Ok(Some(Given::Context(Some(context)))),
-        Err(ContextFault::TooLong) => Ok(Some(Given::Context(None))),
-        Err(ContextFault::NoMemory) => Err(NoMemory),
-    }
-}
-
-fn whole_of(value: &Value) -> Option<Given>
-    ensures { result ≡ value_of (kind.Whole 0 0) (view value.now) }
-{
-    match value {
-        Value::Number(number) => {
-            if let Some(n) = number.as_u64() {
-                return Some(Given::Whole(Some(n)));
-            }
-            if number.is_i64() {
-                Some(Given::Whole(None))
-            } else {
-                None
-            }
-        }
-        _ => None,
-    }
-}
-
-// What a value that isn't null is to a field of this kind, if it has the kind's type.
-fn value_of(alloc: Global, kind: Kind, value: &Value) -> Result<Option<Given>, NoMemory>
-    ensures { IfOk result (λ g. g ≡ value_of kind (view value.now)) }
-{
-    match kind {
-        Kind::Text { .. } | Kind::AnyText | Kind::DataKeySpec => text_of(alloc, value),
-        Kind::Bytes { .. } => bytes_of(alloc, value),
-        Kind::Context => context_of(alloc, value),
-        Kind::Whole { .. } => Ok(whole_of(value)),
-        Kind::Flag => Ok(value.as_bool().map(Given::Flag)),
-        Kind::Object if value.is_object() => Ok(Some(Given::Something)),
-        Kind::Object => Ok(None),
-        Kind::NotBuilt => Ok(Some(Given::Something)),
-    }
-}
-
-/// What a member is to a field of this kind, or none where it has another type.
-pub fn value_given(
-    alloc: Global,
-    kind: Kind,
-    member: Option<&Value>,
-) -> Result<Option<Given>, NoMemory>
-    ensures { IfOk result (λ g. g ≡ value_given kind (option_map (λ v. view v.now) member.entry)) }
-{
-    match member {
-        None | Some(Value::Null) => Ok(Some(Given::Absent)),
-        Some(value) => value_of(alloc, kind, value),
     }
 }
 
@@ -286,4 +155,11 @@ pub fn flag_in(value: &Given) -> bool
         Given::Flag(flag) => *flag,
         _ => false,
     }
+}
+
+/// Whether it is a list of one or more items.
+pub fn items_in(value: &Given) -> bool
+    ensures { result ≡ items_in value.now }
+{
+    matches!(value, Given::Items(true))
 }

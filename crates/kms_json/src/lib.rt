@@ -6,15 +6,21 @@
 mod asks;
 mod bodies;
 mod building;
+mod exceptions;
 mod fields;
 mod given;
-mod metadata;
+mod members;
 mod objects;
 mod operations;
+mod refusals;
 mod replies;
+mod tables;
 mod writing;
 
-pub use asks::{Ask, AskBody, Changing, DataKey, Decrypt, Encrypt, JsonFault, ReEncrypt, Reading};
+pub use asks::{
+    Ask, AskBody, Changing, CreateKey, DataKey, Decrypt, Encrypt, JsonFault, ReEncrypt, Reading,
+};
 pub use bodies::read_ask;
-pub use replies::{KeyMetadata, Limit, Missing, Refusal, Reply, Unsupported};
+pub use refusals::{Limit, Missing, PolicyFlaw, Refusal, Unsupported};
+pub use replies::{KeyMetadata, Reply, SYMMETRIC_DEFAULT};
 pub use writing::write_reply;

@@ -1,12 +1,12 @@
-// A key's description.
+// What the operations on keys answer.
 ghost use Rattle.std.specs.Prelude.{◌≡◌, IfOk};
 ghost use Rattle.serde_json.specs.View.{view};
-ghost use Rattle.kms_json.specs.Replies.{described_as, metadata};
+ghost use Rattle.kms_json.specs.KeyReplies.{described_as, metadata_data};
 
 use crate::objects::{Item, Member, object_of};
-use crate::replies::KeyMetadata;
+use crate::replies::{KeyMetadata, SYMMETRIC_DEFAULT};
 use kms_names::{NoMemory, key_arn, key_text};
-use serde_json::Value;
+use serde_json::{Value, json};
 use std::alloc::Global;
 
 // The members of a key's description.
@@ -15,21 +15,22 @@ fn described<'a>(
     account: &'a str,
     arn: &'a str,
     created: u64,
+    description: &'a str,
     id: &'a str,
 ) -> Result<Value, NoMemory>
-    ensures { IfOk result (λ v. view v ≡ described_as account.now arn.now created id.now) }
+    ensures { IfOk result (λ v. view v ≡ described_as account.now arn.now created description.now id.now) }
 {
     let members = [
         Member("AWSAccountId", Item::Text(account)),
         Member("Arn", Item::Text(arn)),
         Member("CreationDate", Item::Number(created)),
-        Member("CustomerMasterKeySpec", Item::Text("SYMMETRIC_DEFAULT")),
-        Member("Description", Item::Text("")),
+        Member("CustomerMasterKeySpec", Item::Text(SYMMETRIC_DEFAULT)),
+        Member("Description", Item::Text(description)),
         Member("Enabled", Item::Flag(true)),
-        Member("EncryptionAlgorithms", Item::OneText("SYMMETRIC_DEFAULT")),
+        Member("EncryptionAlgorithms", Item::OneText(SYMMETRIC_DEFAULT)),
         Member("KeyId", Item::Text(id)),
         Member("KeyManager", Item::Text("CUSTOMER")),
-        Member("KeySpec", Item::Text("SYMMETRIC_DEFAULT")),
+        Member("KeySpec", Item::Text(SYMMETRIC_DEFAULT)),
         Member("KeyState", Item::Text("Enabled")),
         Member("KeyUsage", Item::Text("ENCRYPT_DECRYPT")),
         Member("MultiRegion", Item::Flag(false)),
@@ -38,12 +39,21 @@ fn described<'a>(
     object_of(alloc, &members)
 }
 
-/// The JSON value of a key's description.
-pub fn metadata_value(alloc: Global, key: &KeyMetadata) -> Result<Value, NoMemory>
-    ensures { IfOk result (λ v. view v ≡ metadata key.now) }
+/// What DescribeKey and CreateKey answer.
+pub fn metadata(alloc: Global, key: &KeyMetadata) -> Result<Value, NoMemory>
+    ensures { IfOk result (λ v. view v ≡ metadata_data key.now) }
 {
     let id = key_text(alloc, &key.key)?;
-    let account = key.account.as_str();
     let arn = key_arn(alloc, &key.account, key.region.as_str(), &key.key)?;
-    described(alloc, account, arn.as_str(), key.created, id.as_str())
+    let account = key.account.as_str();
+    let description = key.description.as_str();
+    let members = described(
+        alloc,
+        account,
+        arn.as_str(),
+        key.created,
+        description,
+        id.as_str(),
+    )?;
+    Ok(json!(in alloc; {"KeyMetadata": members})?)
 }

@@ -3,7 +3,7 @@ use Rattle.std.specs.Option.{IfSome}
 use Rattle.enc_context.specs.declared.pairs.Pair.{Pair}
 use Rattle.enc_context.specs.Pairs.{IsInOrder}
 use Rattle.enc_context.proofs.PairFacts.{distinct_from_order}
-use Rattle.kms_json.proofs.given.context_of.Goals as goal
+use Rattle.kms_json.proofs.members.context_of.Goals as goal
 
 pub from_pairs-requires : goal.from_pairs-requires
 from_pairs-requires c =

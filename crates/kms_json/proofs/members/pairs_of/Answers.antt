@@ -7,7 +7,7 @@ use Rattle.enc_context.specs.declared.pairs.Pair.{Pair}
 use Rattle.enc_context.specs.Pairs.{IsInOrder}
 use Rattle.kms_json.specs.Fields.{pairs_of}
 use Rattle.kms_json.proofs.ContextLemmas.{pair, one_more_pair, pairs_in_order}
-use Rattle.kms_json.proofs.given.pairs_of.Goals as goal
+use Rattle.kms_json.proofs.members.pairs_of.Goals as goal
 
 pub loop-name-preserved : goal.loop-name-preserved
 loop-name-preserved c =

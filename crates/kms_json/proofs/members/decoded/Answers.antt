@@ -3,7 +3,7 @@ use Rattle.std.specs.Result.{result_ok}
 use Rattle.base64.specs.declared.decode.DecodeAllocError.{DecodeAllocError}
 use Rattle.base64.specs.Engines.{standard}
 use Rattle.base64.specs.GeneralPurpose.{decode_of, decoded_of, IsDecodeFailure}
-use Rattle.kms_json.proofs.given.decoded.Goals as goal
+use Rattle.kms_json.proofs.members.decoded.Goals as goal
 
 pub returns-in-Ok : goal.returns-in-Ok
 unfolding decoded_of

@@ -1,5 +1,5 @@
 use Rattle.std.proofs.Common.{ℕ, List, ◌++◌, codes, ap₂, ◌∙◌}
-use Rattle.kms_json.proofs.writing.denied_text.Goals as goal
+use Rattle.kms_json.proofs.exceptions.denied_text.Goals as goal
 
 pub returns : goal.returns
 returns c =

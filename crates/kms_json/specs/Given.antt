@@ -1,0 +1,47 @@
+-- What a request's body gives to a field, by its form. What isn't of the form that is asked for counts as nothing given.
+use Rattle.std.specs.Prelude.{ℕ, List, [], Bool, true, false, not, Option, Some, None, unwrap_or}
+use Rattle.enc_context.specs.declared.pairs.Pair.{Pair}
+use Rattle.kms_json.specs.declared.given.Given.{Given}
+use Rattle.kms_json.specs.declared.given.Given.TheVariants as given
+
+abbrev pub is_absent : Given → Bool
+is_absent given.Absent = true
+is_absent _ = false
+
+abbrev pub is_there : Given → Bool
+is_there value = not (is_absent value)
+
+abbrev pub text_if : Given → Option (List ℕ)
+text_if (given.Text s) = Some s
+text_if _ = None
+
+abbrev pub text_in : Given → List ℕ
+text_in (given.Text s) = s
+text_in _ = []
+
+abbrev pub bytes_in : Given → List ℕ
+bytes_in (given.Bytes b) = b
+bytes_in _ = []
+
+abbrev pub context_in : Given → Option (List Pair)
+context_in (given.Context c) = c
+context_in _ = None
+
+abbrev pub pairs_in : Given → List Pair
+pairs_in value = unwrap_or (context_in value) []
+
+abbrev pub whole_in : Given → Option ℕ
+whole_in (given.Whole n) = n
+whole_in _ = None
+
+abbrev pub number_in : Given → ℕ
+number_in value = unwrap_or (whole_in value) 0
+
+abbrev pub flag_in : Given → Bool
+flag_in (given.Flag b) = b
+flag_in _ = false
+
+-- whether it is a list of one or more items
+abbrev pub items_in : Given → Bool
+items_in (given.Items any) = any
+items_in _ = false

@@ -1,0 +1,25 @@
+-- The fields of the operations on keys, in the order in which they are judged (AWS KMS API Reference, CreateKey and DescribeKey).
+use Rattle.std.specs.Prelude.{List, [], ◌∷◌, codes}
+use Rattle.kms_json.specs.declared.fields.Kind.TheVariants.{Text, SomeText, AnyText, Flag, List as Items}
+use Rattle.kms_json.specs.Fields.{FieldRow, always, maybe, field, not_built, key_reference}
+
+abbrev pub create_key_fields : List FieldRow
+create_key_fields =
+    field (codes "Policy") SomeText maybe ∷
+    field (codes "Description") (Text 0 8192) maybe ∷
+    field (codes "KeyUsage") AnyText maybe ∷
+    field (codes "CustomerMasterKeySpec") AnyText maybe ∷
+    field (codes "KeySpec") AnyText maybe ∷
+    field (codes "Origin") AnyText maybe ∷
+    field (codes "CustomKeyStoreId") AnyText maybe ∷
+    field (codes "BypassPolicyLockoutSafetyCheck") Flag maybe ∷
+    field (codes "Tags") Items maybe ∷
+    field (codes "MultiRegion") Flag maybe ∷
+    field (codes "XksKeyId") AnyText maybe ∷
+    []
+
+abbrev pub describe_key_fields : List FieldRow
+describe_key_fields =
+    key_reference (codes "KeyId") always ∷
+    not_built (codes "GrantTokens") ∷
+    []

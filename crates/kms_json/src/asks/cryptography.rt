@@ -1,0 +1,69 @@
+// What the operations that use keys are asked.
+use enc_context::Context;
+use kms_names::{Bytes, Text};
+
+/// What Encrypt takes (AWS KMS API Reference, Encrypt).
+#[derive(Debug, Drop)]
+pub struct Encrypt {
+    /// The reference to the key, a text of 1 to 2,048 bytes.
+    pub key_id: Text,
+    /// The bytes to be sealed, 1 to 4,096.
+    pub plaintext: Bytes,
+    /// The encryption context; one that isn't given has no pairs.
+    pub context: Context,
+    /// The algorithm, where it is given.
+    pub algorithm: Option<Text>,
+    /// Whether the call is only to say what it would answer.
+    pub dry_run: bool,
+}
+
+/// What Decrypt takes (AWS KMS API Reference, Decrypt).
+#[derive(Debug, Drop)]
+pub struct Decrypt {
+    /// The sealed text, 1 to 6,144 bytes.
+    pub blob: Bytes,
+    /// The encryption context; one that isn't given has no pairs.
+    pub context: Context,
+    /// The reference to the key, where it is given: a text of 1 to 2,048 bytes.
+    pub key_id: Option<Text>,
+    /// The algorithm, where it is given.
+    pub algorithm: Option<Text>,
+    /// Whether a recipient is given.
+    pub recipient: bool,
+    /// Whether the call is only to say what it would answer.
+    pub dry_run: bool,
+}
+
+/// What ReEncrypt takes (AWS KMS API Reference, ReEncrypt).
+#[derive(Debug, Drop)]
+pub struct ReEncrypt {
+    /// The sealed text, 1 to 6,144 bytes.
+    pub blob: Bytes,
+    /// The encryption context that it was sealed under.
+    pub source_context: Context,
+    /// The reference to the key that it was sealed under, where it is given: a text of 1 to 2,048 bytes.
+    pub source_key_id: Option<Text>,
+    /// The reference to the key to seal it under, a text of 1 to 2,048 bytes.
+    pub key_id: Text,
+    /// The encryption context to seal it under.
+    pub context: Context,
+    /// The algorithm that it was sealed by, where it is given.
+    pub source_algorithm: Option<Text>,
+    /// The algorithm to seal it by, where it is given.
+    pub algorithm: Option<Text>,
+    /// Whether the call is only to say what it would answer.
+    pub dry_run: bool,
+}
+
+/// What a request for a data key takes (AWS KMS API Reference, GenerateDataKey).
+#[derive(Debug, Drop)]
+pub struct DataKey {
+    /// The reference to the key that the data key is sealed under, a text of 1 to 2,048 bytes.
+    pub key_id: Text,
+    /// The encryption context; one that isn't given has no pairs.
+    pub context: Context,
+    /// How many bytes the data key has, 1 to 1,024.
+    pub size: u64,
+    /// Whether the call is only to say what it would answer.
+    pub dry_run: bool,
+}

@@ -1,0 +1,146 @@
+// What the operations that use keys are asked.
+ghost use Rattle.std.specs.Prelude.{◌≡◌, IfOk};
+ghost use Rattle.kms_json.specs.Building.{held};
+ghost use Rattle.kms_json.specs.CryptographyAsks as asked;
+ghost use Rattle.kms_json.specs.CryptographyFields.{encrypt_fields, decrypt_fields, re_encrypt_fields, generate_data_key_fields, generate_data_key_without_plaintext_fields, generate_random_fields};
+
+use super::next;
+use crate::asks::{DataKey, Decrypt, Encrypt, ReEncrypt, Reading};
+use crate::given::{Given, bytes_in, context_in, flag_in, number_in, text_if, text_in};
+use kms_names::NoMemory;
+use std::alloc::Global;
+use std::collections::VecDeque;
+
+pub fn encrypt(alloc: Global, values: &mut VecDeque<Given>) -> Result<Encrypt, NoMemory>
+    ensures { IfOk result (λ fields. fields ≡ asked.encrypt (held encrypt_fields values.old.items)) }
+{
+    let key_id = text_in(alloc, next(values));
+    let plaintext = bytes_in(alloc, next(values));
+    let context = context_in(alloc, next(values))?;
+    let _grant_tokens = next(values);
+    let algorithm = text_if(next(values));
+    let dry_run = flag_in(&next(values));
+    Ok(Encrypt {
+        key_id,
+        plaintext,
+        context,
+        algorithm,
+        dry_run,
+    })
+}
+
+pub fn decrypt(alloc: Global, values: &mut VecDeque<Given>) -> Result<Decrypt, NoMemory>
+    ensures { IfOk result (λ fields. fields ≡ asked.decrypt (held decrypt_fields values.old.items)) }
+{
+    let blob = bytes_in(alloc, next(values));
+    let context = context_in(alloc, next(values))?;
+    let _grant_tokens = next(values);
+    let key_id = text_if(next(values));
+    let algorithm = text_if(next(values));
+    let recipient = next(values).is_there();
+    let dry_run = flag_in(&next(values));
+    Ok(Decrypt {
+        blob,
+        context,
+        key_id,
+        algorithm,
+        recipient,
+        dry_run,
+    })
+}
+
+pub fn re_encrypt(alloc: Global, values: &mut VecDeque<Given>) -> Result<ReEncrypt, NoMemory>
+    ensures { IfOk result (λ fields. fields ≡ asked.re_encrypt (held re_encrypt_fields values.old.items)) }
+{
+    let blob = bytes_in(alloc, next(values));
+    let source_context = context_in(alloc, next(values))?;
+    let source_key_id = text_if(next(values));
+    let key_id = text_in(alloc, next(values));
+    let context = context_in(alloc, next(values))?;
+    let source_algorithm = text_if(next(values));
+    let algorithm = text_if(next(values));
+    let _grant_tokens = next(values);
+    let dry_run = flag_in(&next(values));
+    Ok(ReEncrypt {
+        blob,
+        source_context,
+        source_key_id,
+        key_id,
+        context,
+        source_algorithm,
+        algorithm,
+        dry_run,
+    })
+}
+
+// The size of a data key of this spec.
+fn size_of_spec(spec: &str) -> u64
+    ensures { result ≡ asked.spec_size spec.now }
+{
+    if spec == "AES_256" { 32 } else { 16 }
+}
+
+// The size of a data key by its spec, where that is given, or by its number of bytes.
+fn data_key_size(spec: &Given, number: &Given) -> u64
+    ensures { result ≡ asked.data_key_size spec.now number.now }
+{
+    if spec.is_absent() {
+        number_in(number)
+    } else {
+        size_of_spec(spec.text())
+    }
+}
+
+/// GenerateDataKey: the number of bytes stands before the spec.
+pub fn generate_data_key(alloc: Global, values: &mut VecDeque<Given>) -> Result<Reading, NoMemory>
+    ensures { IfOk result (λ reading. reading ≡ asked.generate_data_key (held generate_data_key_fields values.old.items)) }
+{
+    let key_id = text_in(alloc, next(values));
+    let context = context_in(alloc, next(values))?;
+    let number = next(values);
+    let size = data_key_size(&next(values), &number);
+    let _grant_tokens = next(values);
+    let recipient = next(values).is_there();
+    let dry_run = flag_in(&next(values));
+    let key = DataKey {
+        key_id,
+        context,
+        size,
+        dry_run,
+    };
+    Ok(Reading::GenerateDataKey { key, recipient })
+}
+
+/// GenerateDataKeyWithoutPlaintext: the spec stands before the number of bytes.
+pub fn generate_data_key_without_plaintext(
+    alloc: Global,
+    values: &mut VecDeque<Given>,
+) -> Result<DataKey, NoMemory>
+    ensures { IfOk result (λ key. key ≡ asked.data_key (held generate_data_key_without_plaintext_fields values.old.items)) }
+{
+    let key_id = text_in(alloc, next(values));
+    let context = context_in(alloc, next(values))?;
+    let spec = next(values);
+    let size = data_key_size(&spec, &next(values));
+    let _grant_tokens = next(values);
+    let dry_run = flag_in(&next(values));
+    Ok(DataKey {
+        key_id,
+        context,
+        size,
+        dry_run,
+    })
+}
+
+pub fn generate_random(values: &mut VecDeque<Given>) -> Reading
+    ensures { result ≡ asked.generate_random (held generate_random_fields values.old.items) }
+{
+    let size = number_in(&next(values));
+    let custom_key_store = next(values).is_there();
+    let recipient = next(values).is_there();
+    Reading::GenerateRandom {
+        size,
+        custom_key_store,
+        recipient,
+    }
+}

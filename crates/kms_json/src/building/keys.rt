@@ -1,0 +1,29 @@
+// What the operations on keys are asked.
+ghost use Rattle.std.specs.Prelude.{◌≡◌};
+ghost use Rattle.kms_json.specs.Building.{held};
+ghost use Rattle.kms_json.specs.KeyAsks as asked;
+ghost use Rattle.kms_json.specs.KeyFields.{create_key_fields};
+
+use super::next;
+use crate::asks::CreateKey;
+use crate::given::{Given, flag_in, items_in, text_if, text_in};
+use std::alloc::Global;
+use std::collections::VecDeque;
+
+pub fn create_key(alloc: Global, values: &mut VecDeque<Given>) -> CreateKey
+    ensures { result ≡ asked.create_key (held create_key_fields values.old.items) }
+{
+    CreateKey {
+        policy: text_if(next(values)),
+        description: text_in(alloc, next(values)),
+        key_usage: text_if(next(values)),
+        customer_master_key_spec: text_if(next(values)),
+        key_spec: text_if(next(values)),
+        origin: text_if(next(values)),
+        custom_key_store_id: next(values).is_there(),
+        bypass_lockout_check: flag_in(&next(values)),
+        tags: items_in(&next(values)),
+        multi_region: flag_in(&next(values)),
+        xks_key_id: next(values).is_there(),
+    }
+}

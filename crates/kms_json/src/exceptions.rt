@@ -1,0 +1,170 @@
+// Exceptions' names, texts and bodies.
+ghost use Rattle.std.specs.Prelude.{◌≡◌, IfOk, string_bytes};
+ghost use Rattle.serde_json.specs.View.{view};
+ghost use Rattle.kms_json.specs.declared.refusals.Refusal.TheVariants as refusal;
+ghost use Rattle.kms_json.specs.Exceptions.{exception, exception_name, exception_text, fixed_text, flaw_text, missing_word, limit_word, unsupported_name, refusal_data};
+
+use crate::refusals::{Limit, Missing, PolicyFlaw, Refusal, Unsupported};
+use kms_names::{Action, NoMemory, Principal, write_principal};
+use serde_json::{Value, json};
+use std::alloc::Global;
+
+fn exception_value(alloc: Global, name: &str, text: &str) -> Result<Value, NoMemory>
+    ensures { IfOk result (λ v. view v ≡ exception name.now text.now) }
+{
+    Ok(json!(in alloc; {"__type": name, "message": text})?)
+}
+
+fn name_of(refusal: &Refusal) -> &'static str
+    ensures { result.now ≡ exception_name refusal.now }
+{
+    match refusal {
+        Refusal::UnknownOperation => "UnknownOperationException",
+        Refusal::Serialization => "SerializationException",
+        Refusal::Validation(_) => "ValidationException",
+        Refusal::InvalidAliasName => "InvalidAliasNameException",
+        Refusal::DependencyTimeout { .. } => "DependencyTimeoutException",
+        Refusal::NotFound(_) => "NotFoundException",
+        Refusal::InvalidArn => "InvalidArnException",
+        Refusal::InvalidCiphertext => "InvalidCiphertextException",
+        Refusal::IncorrectKey => "IncorrectKeyException",
+        Refusal::AccessDenied { .. } => "AccessDeniedException",
+        Refusal::UnsupportedOperation(_) => "UnsupportedOperationException",
+        Refusal::InvalidKeyUsage => "InvalidKeyUsageException",
+        Refusal::MalformedPolicy(_) => "MalformedPolicyDocumentException",
+        Refusal::LimitExceeded(_) => "LimitExceededException",
+        Refusal::DryRun => "DryRunOperationException",
+    }
+}
+
+fn word_of_missing(what: Missing) -> &'static str
+    ensures { result.now ≡ missing_word what }
+{
+    match what {
+        Missing::Key => "key",
+        Missing::Alias => "alias",
+        Missing::Grant => "grant",
+    }
+}
+
+fn word_of_limit(what: Limit) -> &'static str
+    ensures { result.now ≡ limit_word what }
+{
+    match what {
+        Limit::Keys => "keys",
+        Limit::Ivs => "ivs",
+        Limit::Draws => "draws",
+    }
+}
+
+fn name_of_unsupported(field: Unsupported) -> &'static str
+    ensures { result.now ≡ unsupported_name field }
+{
+    match field {
+        Unsupported::KeyUsage => "KeyUsage",
+        Unsupported::CustomerMasterKeySpec => "CustomerMasterKeySpec",
+        Unsupported::KeySpec => "KeySpec",
+        Unsupported::Origin => "Origin",
+        Unsupported::CustomKeyStoreId => "CustomKeyStoreId",
+        Unsupported::Tags => "Tags",
+        Unsupported::MultiRegion => "MultiRegion",
+        Unsupported::XksKeyId => "XksKeyId",
+        Unsupported::Recipient => "Recipient",
+    }
+}
+
+// The text of a caller who may not do what was asked.
+fn denied_text(
+    alloc: Global,
+    caller: &Principal,
+    action: Action,
+    resource: &str,
+) -> Result<String, NoMemory>
+    ensures { IfOk result (λ t. string_bytes t ≡ exception_text (refusal.AccessDenied caller.now action resource.now)) }
+{
+    let caller = write_principal(alloc, caller)?;
+    let caller = caller.as_str();
+    let action = action.name();
+    Ok(format!(in alloc;
+        "User: {caller} is not authorized to perform: kms:{action} on resource: {resource}"
+    )?)
+}
+
+// What is wrong with a policy.
+fn text_of_flaw(alloc: Global, flaw: &PolicyFlaw) -> Result<String, NoMemory>
+    ensures { IfOk result (λ t. string_bytes t ≡ exception_text (refusal.MalformedPolicy flaw.now)) }
+{
+    let text = match flaw {
+        PolicyFlaw::TooLong => String::from_str(alloc, "Policy: TooLong.")?,
+        PolicyFlaw::NotJson => String::from_str(alloc, "Policy: NotJson.")?,
+        PolicyFlaw::BadShape(path) => {
+            let path = path.as_str();
+            format!(in alloc; "Policy: BadShape at {path}.")?
+        }
+        PolicyFlaw::Unsupported(path) => {
+            let path = path.as_str();
+            format!(in alloc; "Policy: Unsupported at {path}.")?
+        }
+        PolicyFlaw::Lockout => String::from_str(alloc, "Policy: lockout.")?,
+    };
+    Ok(text)
+}
+
+// The text of an exception that says nothing of its request; the empty text for the others.
+fn fixed_text_of(refusal: &Refusal) -> &'static str
+    ensures { result.now ≡ fixed_text refusal.now }
+{
+    match refusal {
+        Refusal::UnknownOperation => "X-Amz-Target names no operation of this service.",
+        Refusal::Serialization => "The body is not the JSON that the operation takes.",
+        Refusal::InvalidAliasName => "The alias name is not valid.",
+        Refusal::InvalidArn => "The ARN is not valid.",
+        Refusal::InvalidCiphertext => "The ciphertext does not open.",
+        Refusal::IncorrectKey => "The ciphertext is of another key.",
+        Refusal::InvalidKeyUsage => "The algorithm does not fit the key.",
+        Refusal::DryRun => "The call would have been allowed.",
+        _ => "",
+    }
+}
+
+fn text_of(alloc: Global, refusal: &Refusal) -> Result<String, NoMemory>
+    ensures { IfOk result (λ t. string_bytes t ≡ exception_text refusal.now) }
+{
+    let text = match refusal {
+        Refusal::Validation(field) => {
+            let field = field.as_str();
+            format!(in alloc; "Field {field} is not valid.")?
+        }
+        Refusal::DependencyTimeout { entries, wanted } => {
+            format!(in alloc; "The history has {entries} entries; {wanted} were asked for.")?
+        }
+        Refusal::NotFound(what) => {
+            let word = word_of_missing(*what);
+            format!(in alloc; "Not found: {word}.")?
+        }
+        Refusal::AccessDenied {
+            caller,
+            action,
+            resource,
+        } => denied_text(alloc, caller, *action, resource.as_str())?,
+        Refusal::UnsupportedOperation(field) => {
+            let field = name_of_unsupported(*field);
+            format!(in alloc; "Field {field} is not supported.")?
+        }
+        Refusal::MalformedPolicy(flaw) => text_of_flaw(alloc, flaw)?,
+        Refusal::LimitExceeded(what) => {
+            let word = word_of_limit(*what);
+            format!(in alloc; "Limit reached: {word}.")?
+        }
+        _ => String::from_str(alloc, fixed_text_of(refusal))?,
+    };
+    Ok(text)
+}
+
+/// The body of a reply that refuses.
+pub fn refusal_value(alloc: Global, refusal: &Refusal) -> Result<Value, NoMemory>
+    ensures { IfOk result (λ v. view v ≡ refusal_data refusal.now) }
+{
+    let text = text_of(alloc, refusal)?;
+    exception_value(alloc, name_of(refusal), text.as_str())
+}

@@ -1,0 +1,107 @@
+// Why requests aren't served.
+use kms_names::{Action, Principal, Text};
+
+/// What a name was looked up for and not found.
+#[derive(Clone, Copy, Debug, PartialEq, Eq)]
+pub enum Missing {
+    Key,
+    Alias,
+    Grant,
+}
+
+/// What is counted and stands at its limit.
+#[derive(Clone, Copy, Debug, PartialEq, Eq)]
+pub enum Limit {
+    Keys,
+    /// The initialization vectors of a pass.
+    Ivs,
+    /// The words of a pass's random stream.
+    Draws,
+}
+
+/// A field that is read and not supported, or not with its value.
+#[derive(Clone, Copy, Debug, PartialEq, Eq)]
+pub enum Unsupported {
+    KeyUsage,
+    CustomerMasterKeySpec,
+    KeySpec,
+    Origin,
+    CustomKeyStoreId,
+    Tags,
+    MultiRegion,
+    XksKeyId,
+    Recipient,
+}
+
+/// What is wrong with a key policy. A path is a JSON pointer (RFC 6901) into it.
+#[derive(Debug, Drop)]
+pub enum PolicyFlaw {
+    /// It has too many bytes.
+    TooLong,
+    /// It isn't JSON.
+    NotJson,
+    /// What stands at this path isn't what a policy has there.
+    BadShape(Text),
+    /// What stands at this path isn't supported.
+    Unsupported(Text),
+    /// The caller couldn't put another policy after it.
+    Lockout,
+}
+
+/// Why a request isn't served: one variant an exception.
+#[derive(Debug, Drop)]
+pub enum Refusal {
+    /// UnknownOperationException.
+    UnknownOperation,
+    /// SerializationException.
+    Serialization,
+    /// ValidationException, with the name of the field.
+    Validation(Text),
+    /// InvalidAliasNameException.
+    InvalidAliasName,
+    /// DependencyTimeoutException: the history has so many entries, and more were asked for.
+    DependencyTimeout {
+        entries: u64,
+        wanted: u64,
+    },
+    /// NotFoundException.
+    NotFound(Missing),
+    /// InvalidArnException.
+    InvalidArn,
+    /// InvalidCiphertextException.
+    InvalidCiphertext,
+    /// IncorrectKeyException.
+    IncorrectKey,
+    /// AccessDeniedException: who asked for which action on which resource.
+    AccessDenied {
+        caller: Principal,
+        action: Action,
+        resource: Text,
+    },
+    /// UnsupportedOperationException, with the field that isn't supported.
+    UnsupportedOperation(Unsupported),
+    /// InvalidKeyUsageException.
+    InvalidKeyUsage,
+    /// MalformedPolicyDocumentException, with what is wrong.
+    MalformedPolicy(PolicyFlaw),
+    /// LimitExceededException.
+    LimitExceeded(Limit),
+    /// DryRunOperationException.
+    DryRun,
+}
+
+impl Refusal {
+    ghost use Rattle.std.specs.Prelude.{◌≡◌};
+    ghost use Rattle.kms_json.specs.Exceptions.{refusal_status};
+
+    /// The HTTP status (RFC 9110, section 15). It takes no memory.
+    pub fn status(&self) -> u16
+        ensures { result ≡ refusal_status self.now }
+    {
+        match self {
+            Refusal::DependencyTimeout { .. } => 503,
+            Refusal::DryRun => 412,
+            _ => 400,
+        }
+    }
+}

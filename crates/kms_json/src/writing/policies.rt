@@ -1,0 +1,19 @@
+// What the operations on key policies answer.
+ghost use Rattle.std.specs.Prelude.{◌≡◌, IfOk};
+ghost use Rattle.serde_json.specs.View.{view};
+ghost use Rattle.kms_json.specs.PolicyReplies.{key_policy_data};
+
+use crate::objects::{Item, Member, object_of};
+use kms_names::NoMemory;
+use serde_json::Value;
+use std::alloc::Global;
+
+pub fn key_policy(alloc: Global, policy: &str) -> Result<Value, NoMemory>
+    ensures { IfOk result (λ v. view v ≡ key_policy_data policy.now) }
+{
+    let members = [
+        Member("Policy", Item::Text(policy)),
+        Member("PolicyName", Item::Text("default")),
+    ];
+    object_of(alloc, &members)
+}
