@@ -1,13 +1,13 @@
 -- A decision from what the account keeps.
-use Rattle.std.proofs.Common.{◌≡◌, List, length, Option, Some, None, Result, Ok, Err, refl, sym, ap, ◌∙◌, subst}
+use Rattle.std.proofs.Common.{◌≡◌, Bool, if◌then◌else◌, List, length, Option, Some, None, Result, Ok, Err, refl, sym, ap, ◌∙◌, subst}
 use Rattle.draw_lines.specs.Line.{Line}
 use Rattle.kms_json.specs.declared.asks.Ask.{Ask}
 use Rattle.kms_json.specs.declared.asks.AskBody.{AskBody}
 use Rattle.kms_json.specs.declared.asks.AskBody.TheVariants as ask
 use Rattle.kms_json.specs.declared.asks.Changing.{Changing}
 use Rattle.kms_json.specs.declared.asks.Reading.{Reading}
-use Rattle.kms_json.specs.declared.replies.Refusal.{Refusal}
-use Rattle.kms_json.specs.declared.replies.Refusal.TheVariants.{UnknownOperation, Serialization, Validation, DependencyTimeout, NotFound, InvalidCiphertext, IncorrectKey, AccessDenied, UnsupportedOperation, InvalidKeyUsage, LimitExceeded, DryRun}
+use Rattle.kms_json.specs.declared.refusals.Refusal.{Refusal}
+use Rattle.kms_json.proofs.Statuses.{refused_unserved}
 use Rattle.kms_json.specs.declared.replies.Reply.TheVariants.{Refused}
 use Rattle.account_core.specs.declared.decide.Decision.TheVariants as decision
 use Rattle.account_core.specs.declared.facts.RealmFacts.{RealmFacts}
@@ -59,18 +59,8 @@ made_refusal wanted e why is makes = subst (λ (s : Stop). Makes wanted (Err s))
 
 -- a refusal is a decision that refuses
 refused_is : (refusal : Refusal) → decision.Refused (Refused refusal) ≡ decision_by (Refused refusal) None
-refused_is UnknownOperation = refl
-refused_is Serialization = refl
-refused_is (Validation field) = refl
-refused_is (DependencyTimeout entries wanted) = refl
-refused_is (NotFound what) = refl
-refused_is InvalidCiphertext = refl
-refused_is IncorrectKey = refl
-refused_is (AccessDenied caller action resource) = refl
-refused_is (UnsupportedOperation field) = refl
-refused_is InvalidKeyUsage = refl
-refused_is (LimitExceeded what) = refl
-refused_is DryRun = refl
+refused_is refusal =
+    ap (λ (served : Bool). if served then decision.Served (Refused refusal) else decision.Refused (Refused refusal)) (sym (refused_unserved refusal))
 
 pub refuses : (facts : RealmFacts) (history : List Entry) (x : Ask) (why : Refusal) → decided_by (Err why) no_places ≡ decide facts history x no_places
     → decision.Refused (Refused why) ≡ decision_of facts history x

@@ -1,12 +1,12 @@
 -- What is drawn, and what is sealed after a draw.
-use Rattle.std.proofs.Common.{◌≡◌, ℕ, List, Result, Ok, Err, IfOk, sym, ap, ◌∙◌, subst, add-zero}
+use Rattle.std.proofs.Common.{◌≡◌, ℕ, List, Result, Ok, Err, IfOk, sym, ap, ◌∙◌, add-zero}
 use Rattle.draw_lines.specs.Draw.{draw_at}
 use Rattle.draw_lines.specs.Iv.{iv_at}
 use Rattle.draw_lines.specs.Line.{Line}
 use Rattle.enc_context.specs.declared.pairs.Pair.{Pair}
 use Rattle.crypto_ops.specs.Sealed.{sealed}
 use Rattle.account_core.specs.declared.facts.RealmFacts.{RealmFacts}
-use Rattle.kms_json.specs.declared.asks.DataKey.{DataKey}
+use Rattle.kms_json.specs.declared.asks.cryptography.DataKey.{DataKey}
 use Rattle.account_core.specs.declared.rows.KeyRow.{KeyRow}
 use Rattle.account_core.specs.Crypto.{words_of, sealed_key}
 use Rattle.account_core.specs.Places.{places_of, line_at, IsLineOf}

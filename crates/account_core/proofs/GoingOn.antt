@@ -1,12 +1,11 @@
 -- Places only go on, and a request that changes the account does not depend on them.
-use Rattle.std.proofs.Common.{◌≡◌, List, length, true, Option, Some, None, Result, Ok, Err, refl, sym, ap, ◌∙◌, arith}
+use Rattle.std.proofs.Common.{◌≡◌, List, length, true, Result, Ok, Err, OnErr, refl, sym, ap, ◌∙◌, arith}
 use Rattle.draw_lines.specs.Line.{Line}
 use Rattle.kms_json.specs.Asks.{changes_account}
 use Rattle.kms_json.specs.declared.asks.Ask.{Ask}
 use Rattle.kms_json.specs.declared.asks.AskBody.{AskBody}
 use Rattle.kms_json.specs.declared.asks.AskBody.TheVariants as ask
-use Rattle.kms_json.specs.declared.replies.Reply.{Reply}
-use Rattle.kms_json.specs.declared.replies.Refusal.{Refusal}
+use Rattle.kms_json.specs.declared.refusals.Refusal.{Refusal}
 use Rattle.account_core.specs.declared.facts.RealmFacts.{RealmFacts}
 use Rattle.account_core.specs.declared.entries.Entry.{Entry}
 use Rattle.account_core.specs.Places.{Places, IsUpTo, IsWithin, places_of, line_at}
@@ -63,3 +62,22 @@ within_places old new after is = record { number = is.number; words_from = is.wo
 
 pub places_at : (line new : Line) (places : Places) → places.number ≡ line.pass_number → new ≡ line_at line places → places_of new ≡ places
 places_at line new places same is = ap places_of is ∙ (λ i. record { number = sym same i; words = places.words; ivs = places.ivs })
+
+-- one that stays where it is has gone nowhere past a decision
+stays_at : (facts : RealmFacts) (history : List Entry) (x : Ask) (line : Line) → IsWithin line line (decide facts history x (places_of line)).places
+stays_at facts history x line =
+    let on = decide_goes_on facts history x (places_of line) in
+    record {
+      seed = refl;
+      boot = refl;
+      number = refl;
+      words_from = omega arith;
+      words_to = on.words_from;
+      ivs_from = omega arith;
+      ivs_to = on.ivs_from;
+    }
+
+pub stays_within : {A E : Type 0} (result : Result A E) (facts : RealmFacts) (history : List Entry) (x : Ask) (line : Line)
+    → OnErr result (IsWithin line line (decide facts history x (places_of line)).places)
+stays_within (Ok v) facts history x line = tt
+stays_within (Err e) facts history x line = stays_at facts history x line

@@ -1,6 +1,6 @@
 -- The laws of sealing.
 use Rattle.std.proofs.Common.{◌≡◌, ℕ, ◌-◌, ◌<◌, ◌≤◌, ◌^◌, max, List, [], ◌∷◌, ◌++◌, length, take, drop, get_or, codes, Bool, false, Option, Some, None, Result, Ok, refl, sym, ap, ◌∙◌, subst, if◌then◌else◌, append_assoc, arith, length-append, length-take}
-use Rattle.std.specs.Prelude.{option_and_then, ok_or}
+use Rattle.std.specs.Prelude.{ok_or}
 use Rattle.std.specs.Int.{w16, w32, to_be_bytes}
 use Rattle.std.specs.List.Sorted.{IsNonDecreasingBy}
 use Rattle.std.proofs.lemmas.List.Sorted.{IsNonDecreasingBy-push}
@@ -19,17 +19,19 @@ use Rattle.crypto_ops.specs.Sealed.{blob_head, additional_data, sealed, opened}
 use Rattle.crypto_ops.specs.Laws.{CanSeal}
 use Rattle.crypto_ops.proofs.OpeningFacts.{sealed_form, opened_blob}
 use Rattle.kms_names.specs.declared.actions.Action.TheVariants as action
+use Rattle.kms_names.specs.declared.references.KeyRef.TheVariants.{Key}
+use Rattle.authority.specs.Setting.{callers_policies}
+use Rattle.authority.specs.Allowed.{AreIdentityPolicies}
 use Rattle.kms_json.specs.declared.asks.Ask.{Ask}
 use Rattle.kms_json.specs.declared.asks.AskBody.{AskBody}
 use Rattle.kms_json.specs.declared.asks.AskBody.TheVariants as ask
 use Rattle.kms_json.specs.declared.asks.Reading.TheVariants as reading
-use Rattle.kms_json.specs.declared.asks.Decrypt.{Decrypt}
-use Rattle.kms_json.specs.declared.replies.Reply.{Reply}
+use Rattle.kms_json.specs.declared.asks.cryptography.Decrypt.{Decrypt}
 use Rattle.kms_json.specs.declared.replies.Reply.TheVariants as reply
-use Rattle.kms_json.specs.declared.replies.Refusal.{Refusal}
-use Rattle.kms_json.specs.declared.replies.Refusal.TheVariants as refusal
-use Rattle.kms_json.specs.declared.replies.Missing.TheVariants as missing
-use Rattle.kms_json.specs.declared.replies.Unsupported.TheVariants.{Recipient}
+use Rattle.kms_json.specs.declared.refusals.Refusal.{Refusal}
+use Rattle.kms_json.specs.declared.refusals.Refusal.TheVariants as refusal
+use Rattle.kms_json.specs.declared.refusals.Missing.TheVariants as missing
+use Rattle.kms_json.specs.declared.refusals.Unsupported.TheVariants.{Recipient}
 use Rattle.account_core.specs.declared.facts.RealmFacts.{RealmFacts}
 use Rattle.account_core.specs.declared.entries.Entry.{Entry}
 use Rattle.account_core.specs.declared.rows.KeyRow.{KeyRow}
@@ -39,7 +41,8 @@ use Rattle.account_core.specs.Blobs.{BlobName, name_in, named_in}
 use Rattle.account_core.specs.History.{replay, latest_of, key_with}
 use Rattle.account_core.specs.Source.{Source}
 use Rattle.account_core.specs.View.{View, view_of}
-use Rattle.account_core.specs.Steps.{unless, and_then, unfit, unsupported, key_if_given, other_key, blob_name, source_in, source_of, opens, seals, arn_of}
+use Rattle.account_core.specs.Steps.{unless, and_then, or_else, unfit, unsupported, key_referred, reference_of, key_of, key_if_given, other_key, blob_name, source_in, source_of, opens, seals, arn_of}
+use Rattle.account_core.specs.Authority.{of_context, denied, MayAsk}
 use Rattle.account_core.specs.Parts.{Outcome, takes, outcome, decided_by, only_asked}
 use Rattle.account_core.specs.Crypto.{decrypts}
 use Rattle.account_core.specs.Decide.{lacking, body_outcome, decide, IsNext, appended, kept, IsLawful, empty, longer}
@@ -48,7 +51,8 @@ use Rattle.account_core.proofs.BlobNames.{named_blob}
 use Rattle.account_core.proofs.GoingOn.{decide_goes_on}
 use Rattle.account_core.proofs.EntryFacts.{next_entry}
 use Rattle.account_core.proofs.Histories.{latest-push}
-use Rattle.account_core.proofs.LawRows.{key_size, key_stays}
+use Rattle.account_core.proofs.LawRows.{found_id, key_size, key_stays}
+use Rattle.account_core.proofs.Asking.{one_passes}
 use Rattle.account_core.proofs.LawSealings.{IsText, is_sealed}
 use Rattle.account_core.proofs.Passing.{goes_through}
 
@@ -124,22 +128,26 @@ sealed_opens facts row context text places id_is size =
 module _ (view : View) (row : KeyRow) (there : key_with view.keys row.key ≡ Some row) where
   record Given (reference : Option (List ℕ)) : Type 0 where
     given : Option KeyRow
-    is : key_if_given view.keys reference ≡ Ok given
+    is : key_if_given view reference ≡ Ok given
     same : other_key given row.key ≡ None
 
-  given_is : (reference : Option (List ℕ)) → NoneOrNames reference row.key → Given reference
+  key_is : (reference : List ℕ) → reference_of view.facts reference ≡ Ok (Key row.key) → key_of view reference ≡ Ok row
+  unfolding key_of
+  key_is reference named =
+      ap (key_referred view.keys (refusal.NotFound missing.Alias)) named ∙ ap (λ (found : Option KeyRow). ok_or found (refusal.NotFound missing.Key)) there
+
+  given_is : (reference : Option (List ℕ)) → NoneOrNames view.facts reference row.key → Given reference
   given_is None named = record { given = None; is = refl; same = refl }
   given_is (Some reference) named = record {
     given = Some row;
-    is = ap (λ (id : Option (List ℕ)). and_then (ok_or (option_and_then (key_with view.keys) id) (refusal.NotFound missing.Key)) (λ r. Ok (Some r))) named
-        ∙ ap (λ (found : Option KeyRow). and_then (ok_or found (refusal.NotFound missing.Key)) (λ r. Ok (Some r))) there;
+    is = ap (λ (found : Result KeyRow Refusal). and_then found (λ r. Ok (Some r))) (key_is reference named);
     same = ap (λ (b : Bool). if b then None else Some refusal.IncorrectKey) ((bytes_eq-Decides row.key row.key).1 refl);
   }
 
   abbrev source : List ℕ → Source
   source blob = record { row = row; version = 1; bytes = blob }
 
-  source_is : (reference : Option (List ℕ)) (blob : List ℕ) → NoneOrNames reference row.key → named_in blob ≡ Some (record { key = row.key; version = 1 })
+  source_is : (reference : Option (List ℕ)) (blob : List ℕ) → NoneOrNames view.facts reference row.key → named_in blob ≡ Some (record { key = row.key; version = 1 })
       → source_of view action.Decrypt reference blob ≡ Ok (source blob)
   source_is reference blob right named =
       let given = given_is reference right in
@@ -149,15 +157,15 @@ module _ (view : View) (row : KeyRow) (there : key_with view.keys row.key ≡ So
       ∙ ap (λ (o : Option Refusal). unless o (source_in view action.Decrypt blob (record { key = row.key; version = 1 }))) given.same
       ∙ ap (λ (o : Option KeyRow). and_then (ok_or o (refusal.AccessDenied view.caller action.Decrypt (arn_of view.facts row.key))) (λ r. Ok (record { row = r; version = 1; bytes = blob }))) there
 
-  decrypted_is : (d : Decrypt) (plaintext : List ℕ) → NoneOrNames d.key_id row.key → named_in d.blob ≡ Some (record { key = row.key; version = 1 })
-      → opened view.facts.root d.blob d.context ≡ Some plaintext → unfit d.algorithm ≡ None → d.recipient ≡ false → d.dry_run ≡ false
+  decrypted_is : (d : Decrypt) (plaintext : List ℕ) → NoneOrNames view.facts d.key_id row.key → named_in d.blob ≡ Some (record { key = row.key; version = 1 })
+      → opened view.facts.root d.blob d.context ≡ Some plaintext → denied view ((decrypts view d).questions (source d.blob)) ≡ None → unfit d.algorithm ≡ None → d.recipient ≡ false → d.dry_run ≡ false
       → outcome view (decrypts view d) ≡ Ok (record { reply = reply.Decrypted plaintext (arn_of view.facts row.key); effect = takes nothing_used })
-  decrypted_is d plaintext right named opens_to fit no_recipient no_dry_run =
+  decrypted_is d plaintext right named opens_to allowed fit no_recipient no_dry_run =
       let own : (decrypts view d).own (source d.blob) ≡ Ok plaintext =
       ap (λ (o : Option Refusal). unless o (unless (unsupported d.recipient Recipient) (opens view.facts (source d.blob) d.context))) fit
       ∙ ap (λ (b : Bool). unless (unsupported b Recipient) (opens view.facts (source d.blob) d.context)) no_recipient
       ∙ ap (λ (o : Option (List ℕ)). ok_or o refusal.InvalidCiphertext) opens_to in
-      goes_through view (decrypts view d) (source d.blob) plaintext (source_is d.key_id d.blob right named) own refl (ap only_asked no_dry_run)
+      goes_through view (decrypts view d) (source d.blob) plaintext (source_is d.key_id d.blob right named) allowed own refl (ap only_asked no_dry_run)
 
 decrypt_reply : (facts : RealmFacts) (history : List Entry) (y : Ask) (places : Places) (d : Decrypt) (o : Outcome) → lacking (length history) y.after ≡ None → y.body ≡ ask.Read (reading.Decrypt d)
     → outcome (view_of facts history y places) (decrypts (view_of facts history y places) d) ≡ Ok o → reply_to facts history y places ≡ o.reply
@@ -167,20 +175,34 @@ decrypt_reply facts history y places d o enough body is =
     ∙ ap (λ (b : AskBody). (decided_by (body_outcome facts history y places b) places).reply) body
     ∙ ap (λ (wanted : Result Outcome Refusal). (decided_by wanted places).reply) is
 
+-- who may decrypt under the key is allowed it
+may_open : (view : View) (d : Decrypt) (row : KeyRow) (context : List Pair) (blob : List ℕ) → AreIdentityPolicies (callers_policies view.facts.identities view.caller) → d.context ≡ context
+    → MayAsk view (record { action = action.Decrypt; key = Some row; particulars = of_context context })
+    → denied view (record { action = action.Decrypt; key = Some row; particulars = of_context d.context } ∷ []) ≡ None
+may_open view d row context blob kinds same may =
+    ap (λ (pairs : List Pair). denied view (record { action = action.Decrypt; key = Some row; particulars = of_context pairs } ∷ [])) same
+    ∙ ap (λ (o : Option Refusal). or_else o None) ((one_passes view (record { action = action.Decrypt; key = Some row; particulars = of_context context }) kinds).1 may)
+
 pub decrypted_again : SealedIsDecryptedAgain
-decrypted_again facts history more x y places other_places s lawful proper sealed asks =
+decrypted_again facts history more x y places other_places s lawful proper sealed kinds asks =
     let d : Decrypt = asks.fields in
+    let view : View = view_of facts (history ++ more) y other_places in
     let is = is_sealed facts history x places s sealed in
-    let there = key_stays history more is.row.key is.row is.there in
-    let made = sealed_opens facts is.row s.context s.plaintext places (key_size facts (history ++ more) is.row.key is.row lawful there) (is.size proper) in
+    let later = key_stays history more is.row.key is.row is.there in
+    let id : later.0.key ≡ is.row.key = found_id (replay (history ++ more)).keys is.row.key later.0 later.1 in
+    let made = sealed_opens facts is.row s.context s.plaintext places (key_size facts (history ++ more) is.row.key later.0 lawful later.1) (is.size proper) in
     let blob_is : d.blob ≡ seals facts is.row s.context s.plaintext places = asks.same_blob ∙ is.blob in
-    let key_is : (name_in s.blob).key ≡ is.row.key = ap (λ (b : List ℕ). (name_in b).key) is.blob ∙ made.key in
-    let answer = decrypted_is (view_of facts (history ++ more) y other_places) is.row there d s.plaintext
-    (subst (NoneOrNames d.key_id) key_is asks.right_key)
-    (ap named_in blob_is ∙ made.named)
+    let name_is : (name_in s.blob).key ≡ later.0.key = ap (λ (b : List ℕ). (name_in b).key) is.blob ∙ made.key ∙ sym id in
+    let there : key_with view.keys later.0.key ≡ Some later.0 = subst (λ (key : List ℕ). key_with view.keys key ≡ Some later.0) (sym id) later.1 in
+    let named : named_in d.blob ≡ Some (record { key = later.0.key; version = 1 }) =
+    ap named_in blob_is ∙ made.named ∙ ap (λ (key : List ℕ). Some (record { key = key; version = 1 })) (sym id) in
+    let may = may_open view d later.0 s.context d.blob kinds asks.same_context (asks.may later.0 (ap (key_with view.keys) name_is ∙ there)) in
+    let answer = decrypted_is view later.0 there d s.plaintext
+    (subst (NoneOrNames facts d.key_id) name_is asks.right_key) named
     (ap (λ (b : List ℕ). opened facts.root b d.context) blob_is ∙ ap (opened facts.root (seals facts is.row s.context s.plaintext places)) asks.same_context ∙ made.opens_to)
-    asks.fit asks.no_recipient asks.no_dry_run in
+    may asks.fit asks.no_recipient asks.no_dry_run in
     decrypt_reply facts (history ++ more) y other_places d _ asks.there asks.body answer
+    ∙ ap (λ (key : List ℕ). reply.Decrypted s.plaintext (arn_of facts key)) id
     ∙ ap (reply.Decrypted s.plaintext) (sym is.arn)
 
 -- ---- times

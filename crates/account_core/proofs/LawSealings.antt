@@ -1,25 +1,26 @@
 -- What a served sealing says: its key, its blob, its initialization vector and where it leaves the pass.
-use Rattle.std.proofs.Common.{◌≡◌, ℕ, ◌+◌, ◌-◌, ◌<◌, ◌≤◌, ◌^◌, ◌&&◌, List, length, Bool, true, false, Option, Some, None, Result, Ok, Err, refl, sym, ap, ◌∙◌, subst, if◌then◌else◌, nat_le, nat_lt, leb-true, arith, inl, inr, length-take, length-drop}
-use Rattle.std.specs.Prelude.{slice_range, option_and_then, ok_or}
-use Rattle.std.proofs.lemmas.Bool.{cases_lt, both_ways}
+use Rattle.std.proofs.Common.{◌≡◌, ℕ, ◌+◌, ◌-◌, ◌<◌, ◌≤◌, ◌^◌, ◌&&◌, List, length, Bool, true, false, Option, Some, None, Result, Ok, Err, refl, sym, ap, ◌∙◌, subst, if◌then◌else◌, nat_le, nat_lt, leb-true, arith, length-take, length-drop}
+use Rattle.std.specs.Prelude.{slice_range, ok_or}
 use Rattle.std.proofs.lemmas.Bool.Decides.{nat_tests}
-use Rattle.uuid.specs.Text.{parsed_hyphenated}
-use Rattle.draw_lines.specs.Draw.{words_for}
 use Rattle.draw_lines.proofs.DrawFacts.{draw_length}
 use Rattle.enc_context.specs.declared.pairs.Pair.{Pair}
 use Rattle.crypto_ops.specs.Sealed.{opened}
+use Rattle.kms_names.specs.declared.faults.NameFault.{NameFault}
+use Rattle.kms_names.specs.declared.faults.NameFault.TheVariants as fault
+use Rattle.kms_names.specs.declared.references.KeyRef.{KeyRef}
+use Rattle.kms_names.specs.declared.references.KeyRef.TheVariants.{Key, Alias, Elsewhere}
 use Rattle.kms_names.specs.declared.actions.Action.{Action}
 use Rattle.kms_names.specs.declared.actions.Action.TheVariants as action
 use Rattle.kms_json.specs.declared.asks.Ask.{Ask}
 use Rattle.kms_json.specs.declared.asks.AskBody.TheVariants as ask
 use Rattle.kms_json.specs.declared.asks.Reading.{Reading}
 use Rattle.kms_json.specs.declared.asks.Reading.TheVariants as reading
-use Rattle.kms_json.specs.declared.asks.ReEncrypt.{ReEncrypt}
+use Rattle.kms_json.specs.declared.asks.cryptography.ReEncrypt.{ReEncrypt}
 use Rattle.kms_json.specs.declared.replies.Reply.{Reply}
 use Rattle.kms_json.specs.declared.replies.Reply.TheVariants as reply
-use Rattle.kms_json.specs.declared.replies.Refusal.{Refusal}
-use Rattle.kms_json.specs.declared.replies.Refusal.TheVariants as refusal
-use Rattle.kms_json.specs.declared.replies.Missing.TheVariants as missing
+use Rattle.kms_json.specs.declared.refusals.Refusal.{Refusal}
+use Rattle.kms_json.specs.declared.refusals.Refusal.TheVariants as refusal
+use Rattle.kms_json.specs.declared.refusals.Missing.TheVariants as missing
 use Rattle.kms_json.specs.Asks.{IsSized, IsSizedReading}
 use Rattle.kms_json.proofs.Sizes.{asked_sized}
 use Rattle.account_core.specs.declared.facts.RealmFacts.{RealmFacts}
@@ -29,28 +30,35 @@ use Rattle.account_core.specs.declared.re_encrypt.Turning.{Turning}
 use Rattle.account_core.specs.declared.places.Uses.{Uses}
 use Rattle.account_core.specs.Places.{Places}
 use Rattle.account_core.specs.Blobs.{BlobName, name_in, named_in, has_form}
-use Rattle.account_core.specs.History.{replay, key_with, key_named}
+use Rattle.account_core.specs.History.{replay, key_with}
 use Rattle.account_core.specs.Source.{Source}
 use Rattle.account_core.specs.View.{View, view_of}
-use Rattle.account_core.specs.Steps.{unless, and_then, unfit, key_of, key_if_given, blob_name, other_key, held_key, source_in, source_of, opens, seals, draws, arn_of}
-use Rattle.account_core.specs.Parts.{Outcome, Effect, takes, limited, spent, no_more_draws, no_more_ivs, or_else, after}
+use Rattle.account_core.specs.Steps.{unless, or_else, and_then, unfit, key_referred, reference_of, key_of, key_if_given, blob_name, other_key, held_key, source_in, source_of, opens, seals, draws, arn_of}
+use Rattle.account_core.specs.Parts.{Outcome, takes, limited, spent, no_more_draws, no_more_ivs, after}
 use Rattle.account_core.specs.Crypto.{one_iv, words_and_iv, encrypts, re_encrypts, generates_data_key, generates_sealed_data_key}
 use Rattle.account_core.specs.Decide.{decide, IsProper}
-use Rattle.account_core.specs.Laws.{Sealing, reply_to, HasSealed, encrypted, re_encrypted, data_key, sealed_data_key}
+use Rattle.account_core.specs.Laws.{Sealing, HasSealed, encrypted, re_encrypted, data_key, sealed_data_key}
 use Rattle.account_core.proofs.Openings.{size_of_opened}
 use Rattle.account_core.proofs.LawRows.{found_id}
-use Rattle.account_core.proofs.Passing.{found_of, none_of, next_of, ok_of, ok_same, Passed, passed, Serves, serves_of}
+use Rattle.account_core.proofs.Passing.{found_of, next_of, ok_of, ok_same, passed, Serves, serves_of}
 
 -- ---- the keys
 
-there_of : {A B : Type 0} (f : A → Option B) (o : Option A) (wanted : B) → option_and_then f o ≡ Some wanted → (v : A) × (f v ≡ Some wanted)
-there_of f (Some v) wanted e = (v, e)
-there_of f None wanted e = cc
+-- the key that a text refers to is there
+referred : (keys : List KeyRow) (alias : Refusal) (reference : Result KeyRef NameFault) (row : KeyRow) → key_referred keys alias reference ≡ Ok row → key_with keys row.key ≡ Some row
+referred keys alias (Ok (Key id)) row e =
+    let found = ok_of (key_with keys id) (refusal.NotFound missing.Key) row e in
+    subst (λ (key : List ℕ). key_with keys key ≡ Some row) (sym (found_id keys id row found)) found
+referred keys alias (Ok (Alias name)) row e = cc
+referred keys alias (Ok Elsewhere) row e = cc
+referred keys alias (Err fault.BadArn) row e = cc
+referred keys alias (Err fault.BadAlias) row e = cc
+referred keys alias (Err fault.BadId) row e = cc
+referred keys alias (Err fault.NoMemory) row e = cc
 
-key_there : (keys : List KeyRow) (reference : List ℕ) (row : KeyRow) → key_of keys reference ≡ Ok row → key_with keys row.key ≡ Some row
-key_there keys reference row e =
-    let found = there_of (key_with keys) (parsed_hyphenated reference) row (ok_of (key_named keys reference) (refusal.NotFound missing.Key) row e) in
-    subst (λ (id : List ℕ). key_with keys id ≡ Some row) (sym (found_id keys found.0 row found.1)) found.1
+key_there : (view : View) (reference : List ℕ) (row : KeyRow) → key_of view reference ≡ Ok row → key_with view.keys row.key ≡ Some row
+unfolding key_of
+key_there view reference row e = referred view.keys (refusal.NotFound missing.Alias) (reference_of view.facts reference) row e
 
 -- ---- an initialization vector that is left
 
@@ -105,7 +113,7 @@ source_named : (view : View) (op : Action) (reference : Option (List ℕ)) (blob
     → source_of view op reference blob ≡ Ok source → IsSourceOf blob source
 source_named view op reference blob source e =
     let compared : Option KeyRow → BlobName → Result Source Refusal = λ named name. unless (other_key named name.key) (source_in view op blob name) in
-    let given = found_of (key_if_given view.keys reference) (λ (named : Option KeyRow). and_then (blob_name blob) (compared named)) source e in
+    let given = found_of (key_if_given view reference) (λ (named : Option KeyRow). and_then (blob_name blob) (compared named)) source e in
     let name = found_of (blob_name blob) (compared given.value) source given.came in
     let same = next_of (other_key given.value name.value.key) (source_in view op blob name.value) source name.came in
     let held = found_of (held_key view op name.value.key) (λ (row : KeyRow). Ok (record { row = row; version = name.value.version; bytes = blob })) source same in
@@ -173,11 +181,11 @@ module _ (facts : RealmFacts) (history : List Entry) (x : Ask) (places : Places)
   turning_is : (r : ReEncrypt) (turning : Turning) → (re_encrypts view r).found ≡ Ok turning → HasTurned r turning
   turning_is r turning e =
       let made : Source → KeyRow → Result Turning Refusal = λ source row. Ok (record { source = source; row = row }) in
-      let source = found_of (source_of view action.ReEncryptFrom r.source_key_id r.blob) (λ (s : Source). and_then (key_of view.keys r.key_id) (made s)) turning e in
-      let row = found_of (key_of view.keys r.key_id) (made source.value) turning source.came in
+      let source = found_of (source_of view action.ReEncryptFrom r.source_key_id r.blob) (λ (s : Source). and_then (key_of view r.key_id) (made s)) turning e in
+      let row = found_of (key_of view r.key_id) (made source.value) turning source.came in
       let same : ◌≡◌ {A = Turning} (record { source = source.value; row = row.value }) turning = ok_same (record { source = source.value; row = row.value }) turning row.came in
       subst (HasTurned r) same (record {
-        there = key_there view.keys r.key_id row.value row.is;
+        there = key_there view r.key_id row.value row.is;
         source = source_named view action.ReEncryptFrom r.source_key_id r.blob source.value source.is;
       })
 
@@ -201,7 +209,7 @@ is_sealed facts history x places s (encrypted e blob arn body replied) =
     let one = leaves_one facts history x places (reading.Encrypt e) (reply.Encrypted blob arn) one_iv served refl p.left (ap (λ (o : Outcome). o.effect) p.outcome_is) in
     record {
       row = p.found;
-      there = key_there seen.keys e.key_id p.found p.found_is;
+      there = key_there seen e.key_id p.found p.found_is;
       blob = cc;
       arn = cc;
       few = one.few;
@@ -240,7 +248,7 @@ is_sealed facts history x places s (data_key key recipient blob plaintext arn bo
     let drawn : plaintext ≡ draws facts key.size places = cc in
     record {
       row = p.found;
-      there = key_there seen.keys key.key_id p.found p.found_is;
+      there = key_there seen key.key_id p.found p.found_is;
       blob = blob_is ∙ ap (λ (t : List ℕ). seals facts p.found key.context t places) (sym drawn);
       arn = cc;
       few = one.few;
@@ -257,7 +265,7 @@ is_sealed facts history x places s (sealed_data_key key blob arn body replied) =
     let one = leaves_one facts history x places (reading.GenerateDataKeyWithoutPlaintext key) (reply.SealedDataKey blob arn) (words_and_iv key.size) served refl p.left (ap (λ (o : Outcome). o.effect) p.outcome_is) in
     record {
       row = p.found;
-      there = key_there seen.keys key.key_id p.found p.found_is;
+      there = key_there seen key.key_id p.found p.found_is;
       blob = cc;
       arn = cc;
       few = one.few;

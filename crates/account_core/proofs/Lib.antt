@@ -1,4 +1,5 @@
 mod Histories
+mod OwnPolicies
 mod KeyIds
 mod BlobNames
 mod Openings
@@ -8,5 +9,8 @@ pub mod GoingOn
 mod Passing
 pub mod EntryFacts
 mod LawRows
+mod Asking
+mod Refusing
+mod Referring
 mod LawSealings
 pub mod LawFacts

@@ -1,19 +1,19 @@
 -- A request that is served has passed every step, and one that passes every step is served.
-use Rattle.std.proofs.Common.{◌≡◌, ℕ, List, length, Option, Some, None, Result, Ok, Err, refl, sym, ap, ◌∙◌, subst}
+use Rattle.std.proofs.Common.{◌≡◌, List, length, Option, Some, None, Result, Ok, Err, refl, sym, ap, ◌∙◌, subst}
 use Rattle.std.specs.Prelude.{ok_or}
 use Rattle.kms_json.specs.declared.asks.Ask.{Ask}
-use Rattle.kms_json.specs.declared.asks.AskBody.{AskBody}
 use Rattle.kms_json.specs.declared.asks.AskBody.TheVariants as ask
 use Rattle.kms_json.specs.declared.asks.Reading.{Reading}
 use Rattle.kms_json.specs.declared.replies.Reply.{Reply}
 use Rattle.kms_json.specs.declared.replies.Reply.TheVariants.{Refused}
-use Rattle.kms_json.specs.declared.replies.Refusal.{Refusal}
+use Rattle.kms_json.specs.declared.refusals.Refusal.{Refusal}
 use Rattle.account_core.specs.declared.facts.RealmFacts.{RealmFacts}
 use Rattle.account_core.specs.declared.entries.Entry.{Entry}
 use Rattle.account_core.specs.Places.{Places}
 use Rattle.account_core.specs.View.{View, view_of}
 use Rattle.account_core.specs.Steps.{unless, and_then}
-use Rattle.account_core.specs.Parts.{Parts, Outcome, Decided, denied, dead_token, unfit_state, limited, only_asked, cleared, outcome, decided_by, after}
+use Rattle.account_core.specs.Authority.{denied}
+use Rattle.account_core.specs.Parts.{Parts, Outcome, dead_token, unfit_state, limited, only_asked, cleared, outcome, decided_by, after}
 use Rattle.account_core.specs.Operations.{read_outcome}
 use Rattle.account_core.specs.Decide.{lacking, body_outcome, decide}
 
@@ -100,11 +100,12 @@ module _ {F R : Type 0} (view : View) (parts : Parts F R) where
         outcome_is = ok_same (given first.value own.value) o (next_of (only_asked parts.dry_run) (Ok (given first.value own.value)) o earnest);
       }
 
-  pub goes_through : (found : F) (ready : R) → parts.found ≡ Ok found → parts.own found ≡ Ok ready → limited view (parts.effect found ready) ≡ None → only_asked parts.dry_run ≡ None
+  pub goes_through : (found : F) (ready : R) → parts.found ≡ Ok found → denied view (parts.questions found) ≡ None → parts.own found ≡ Ok ready → limited view (parts.effect found ready) ≡ None → only_asked parts.dry_run ≡ None
       → outcome view parts ≡ Ok (record { reply = parts.reply found ready; effect = parts.effect found ready })
-  goes_through found ready found_is own_is left in_earnest =
+  goes_through found ready found_is allowed own_is left in_earnest =
       let rest : F × R → Result Outcome Refusal = λ p. unless (limited view (parts.effect p.0 p.1)) (asked p) in
       ap (λ (f : Result F Refusal). and_then (and_then f (λ (v : F). unless (denied view (parts.questions v)) (live_of v))) rest) found_is
+      ∙ ap (λ (o : Option Refusal). and_then (unless o (live_of found)) rest) allowed
       ∙ ap (λ (r : Result R Refusal). and_then (and_then r (λ (v : R). Ok (found, v))) rest) own_is
       ∙ ap (λ (o : Option Refusal). unless o (asked (found, ready))) left
       ∙ ap (λ (o : Option Refusal). unless o (Ok (given found ready))) in_earnest

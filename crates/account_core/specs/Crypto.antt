@@ -1,22 +1,24 @@
 -- The operations with texts that are sealed, opened and drawn (AWS KMS API Reference, Encrypt, Decrypt, ReEncrypt,
 -- GenerateDataKey, GenerateDataKeyWithoutPlaintext, GenerateRandom): what each says of the steps.
 use Rattle.std.specs.Prelude.{ℕ, List, [], ◌∷◌, Bool, false, Some, None, Ok, ⊤}
+use Rattle.std.specs.Str.{bytes_eq}
 use Rattle.draw_lines.specs.Draw.{words_for}
 use Rattle.kms_names.specs.declared.actions.Action.{Action}
 use Rattle.kms_names.specs.declared.actions.Action.TheVariants as action
-use Rattle.kms_json.specs.declared.asks.Encrypt.{Encrypt}
-use Rattle.kms_json.specs.declared.asks.Decrypt.{Decrypt}
-use Rattle.kms_json.specs.declared.asks.ReEncrypt.{ReEncrypt}
-use Rattle.kms_json.specs.declared.asks.DataKey.{DataKey}
+use Rattle.kms_json.specs.declared.asks.cryptography.Encrypt.{Encrypt}
+use Rattle.kms_json.specs.declared.asks.cryptography.Decrypt.{Decrypt}
+use Rattle.kms_json.specs.declared.asks.cryptography.ReEncrypt.{ReEncrypt}
+use Rattle.kms_json.specs.declared.asks.cryptography.DataKey.{DataKey}
 use Rattle.kms_json.specs.declared.replies.Reply.{Reply}
 use Rattle.kms_json.specs.declared.replies.Reply.TheVariants as reply
-use Rattle.kms_json.specs.declared.replies.Unsupported.TheVariants.{Recipient, CustomKeyStoreId}
+use Rattle.kms_json.specs.declared.refusals.Unsupported.TheVariants.{Recipient, CustomKeyStoreId}
 use Rattle.account_core.specs.declared.rows.KeyRow.{KeyRow}
 use Rattle.account_core.specs.declared.re_encrypt.Turning.{Turning}
 use Rattle.account_core.specs.declared.places.Uses.{Uses}
 use Rattle.account_core.specs.Places.{nothing_used}
 use Rattle.account_core.specs.Source.{Source}
 use Rattle.account_core.specs.Steps.{unless, and_then, unfit, unsupported, key_of, source_of, opens, seals, draws, arn_of}
+use Rattle.account_core.specs.Authority.{of_context, of_turning, of_none}
 use Rattle.account_core.specs.View.{View}
 use Rattle.account_core.specs.Parts.{Parts, takes}
 
@@ -35,8 +37,8 @@ words_and_iv size = record { words = words_for size; ivs = 1 }
 -- Encrypt
 abbrev pub encrypts : View → Encrypt → Parts KeyRow ⊤
 encrypts view x = record {
-  found = key_of view.keys x.key_id;
-  questions = λ row. record { action = action.Encrypt; key = Some row } ∷ [];
+  found = key_of view x.key_id;
+  questions = λ row. record { action = action.Encrypt; key = Some row; particulars = of_context x.context } ∷ [];
   tokens = [];
   uses = λ row. record { action = action.Encrypt; key = row } ∷ [];
   own = λ row. unless (unfit x.algorithm) (Ok tt);
@@ -49,7 +51,7 @@ encrypts view x = record {
 abbrev pub decrypts : View → Decrypt → Parts Source (List ℕ)
 decrypts view x = record {
   found = source_of view action.Decrypt x.key_id x.blob;
-  questions = λ source. record { action = action.Decrypt; key = Some source.row } ∷ [];
+  questions = λ source. record { action = action.Decrypt; key = Some source.row; particulars = of_context x.context } ∷ [];
   tokens = [];
   uses = λ source. record { action = action.Decrypt; key = source.row } ∷ [];
   own = λ source. unless (unfit x.algorithm) (unless (unsupported x.recipient Recipient) (opens view.facts source x.context));
@@ -58,12 +60,18 @@ decrypts view x = record {
   reply = λ source plaintext. reply.Decrypted plaintext (arn_of view.facts source.row.key);
 }
 
+-- whether a text is sealed anew under the key that sealed it
+abbrev pub same_key : Turning → Bool
+same_key turning = bytes_eq turning.source.row.key turning.row.key
+
 -- ReEncrypt: the key that the text was sealed under is looked up, and then the one that it is sealed under
 abbrev pub re_encrypts : View → ReEncrypt → Parts Turning (List ℕ)
 re_encrypts view x = record {
   found = and_then (source_of view action.ReEncryptFrom x.source_key_id x.blob)
-      (λ source. and_then (key_of view.keys x.key_id) (λ row. Ok (record { source = source; row = row })));
-  questions = λ turning. record { action = action.ReEncryptFrom; key = Some turning.source.row } ∷ record { action = action.ReEncryptTo; key = Some turning.row } ∷ [];
+      (λ source. and_then (key_of view x.key_id) (λ row. Ok (record { source = source; row = row })));
+  questions = λ turning.
+      record { action = action.ReEncryptFrom; key = Some turning.source.row; particulars = of_turning x.source_context (same_key turning) }
+      ∷ record { action = action.ReEncryptTo; key = Some turning.row; particulars = of_turning x.context (same_key turning) } ∷ [];
   tokens = [];
   uses = λ turning. record { action = action.ReEncryptFrom; key = turning.source.row } ∷ record { action = action.ReEncryptTo; key = turning.row } ∷ [];
   own = λ turning. unless (unfit x.source_algorithm) (unless (unfit x.algorithm) (opens view.facts turning.source x.source_context));
@@ -75,8 +83,8 @@ re_encrypts view x = record {
 -- a data key: it is drawn first, and then its initialization vector is taken
 abbrev pub data_key_parts : View → DataKey → Action → Bool → (KeyRow → Reply) → Parts KeyRow ⊤
 data_key_parts view x op recipient given = record {
-  found = key_of view.keys x.key_id;
-  questions = λ row. record { action = op; key = Some row } ∷ [];
+  found = key_of view x.key_id;
+  questions = λ row. record { action = op; key = Some row; particulars = of_context x.context } ∷ [];
   tokens = [];
   uses = λ row. record { action = op; key = row } ∷ [];
   own = λ row. unless (unsupported recipient Recipient) (Ok tt);
@@ -104,7 +112,7 @@ generates_sealed_data_key view x =
 abbrev pub generates_random : View → ℕ → Bool → Bool → Parts ⊤ ⊤
 generates_random view size custom_key_store recipient = record {
   found = Ok tt;
-  questions = λ found. record { action = action.GenerateRandom; key = None } ∷ [];
+  questions = λ found. record { action = action.GenerateRandom; key = None; particulars = of_none } ∷ [];
   tokens = [];
   uses = λ found. [];
   own = λ found. unless (unsupported custom_key_store CustomKeyStoreId) (unless (unsupported recipient Recipient) (Ok tt));

@@ -4,8 +4,8 @@ use Rattle.kms_json.specs.declared.asks.Ask.{Ask}
 use Rattle.kms_json.specs.declared.asks.AskBody.{AskBody}
 use Rattle.kms_json.specs.declared.asks.AskBody.TheVariants as ask
 use Rattle.kms_json.specs.declared.replies.Reply.{Reply}
-use Rattle.kms_json.specs.declared.replies.Refusal.{Refusal}
-use Rattle.kms_json.specs.declared.replies.Refusal.TheVariants.{DependencyTimeout}
+use Rattle.kms_json.specs.declared.refusals.Refusal.{Refusal}
+use Rattle.kms_json.specs.declared.refusals.Refusal.TheVariants.{DependencyTimeout}
 use Rattle.kms_json.specs.Asks.{asked}
 use Rattle.kms_json.specs.Replies.{status_of}
 use Rattle.kms_names.specs.declared.principals.Principal.{Principal}

@@ -1,10 +1,9 @@
 -- The history of an account and the rows that its replay makes.
-use Rattle.std.specs.Prelude.{ℕ, ◌+◌, List, [], ◌∷◌, ◌++◌, max, fold, find, Option, None, option_and_then}
+use Rattle.std.specs.Prelude.{ℕ, ◌+◌, List, [], ◌∷◌, ◌++◌, max, fold, find, map, Option, None, if◌then◌else◌}
 use Rattle.std.specs.Str.{bytes_eq}
-use Rattle.uuid.specs.Text.{parsed_hyphenated}
 use Rattle.account_core.specs.declared.entries.Entry.{Entry}
 use Rattle.account_core.specs.declared.entries.What.{What}
-use Rattle.account_core.specs.declared.entries.What.TheVariants.{CreateKey}
+use Rattle.account_core.specs.declared.entries.What.TheVariants.{CreateKey, Policy}
 use Rattle.account_core.specs.declared.rows.KeyRow.{KeyRow}
 
 -- the number of entries, and the rows of keys in order of making
@@ -12,9 +11,18 @@ pub record State : Type 0 where
   pub entries : ℕ
   pub keys : List KeyRow
 
+-- the row with another policy
+abbrev pub with_policy : KeyRow → List ℕ → KeyRow
+with_policy row text = record { key = row.key; born = row.born; made = row.made; description = row.description; policy = text }
+
+-- the rows, of which those of this id have another policy
+abbrev pub policy_put : List ℕ → List ℕ → List KeyRow → List KeyRow
+policy_put key text keys = map (λ (row : KeyRow). if bytes_eq row.key key then with_policy row text else row) keys
+
 -- what an entry at this place and time does to the keys
 abbrev pub keys_after : ℕ → ℕ → What → List KeyRow → List KeyRow
-keys_after place time (CreateKey key) keys = keys ++ record { key = key; born = place; made = time } ∷ []
+keys_after place time (CreateKey key description policy) keys = keys ++ record { key = key; born = place; made = time; description = description; policy = policy } ∷ []
+keys_after place time (Policy key text) keys = policy_put key text keys
 
 -- what an entry does
 abbrev pub step : State → Entry → State
@@ -43,6 +51,3 @@ housekeeping_of history clock = None
 abbrev pub key_with : List KeyRow → List ℕ → Option KeyRow
 key_with rows id = find (λ row. bytes_eq row.key id) rows
 
--- the row of the key that a reference names: the first of this hyphenated id
-abbrev pub key_named : List KeyRow → List ℕ → Option KeyRow
-key_named rows reference = option_and_then (key_with rows) (parsed_hyphenated reference)

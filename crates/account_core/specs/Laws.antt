@@ -1,25 +1,34 @@
 -- Laws of what the account seals.
-use Rattle.std.specs.Prelude.{◌≡◌, ◌≢◌, ◌^◌, ℕ, ◌<◌, List, ◌++◌, length, slice_index, slice_range, Bool, false, Option, Some, None}
+use Rattle.std.specs.Prelude.{◌≡◌, ◌≢◌, ◌^◌, ℕ, ◌<◌, List, ◌++◌, length, slice_index, slice_range, Bool, false, Option, Some, None, Ok, All, ◌↔◌, ◌∷◌}
 use Rattle.std.specs.List.Sorted.{IsNonDecreasingBy}
-use Rattle.uuid.specs.Text.{parsed_hyphenated}
 use Rattle.blob_format.specs.Blob.{IsBlobText}
 use Rattle.enc_context.specs.declared.pairs.Pair.{Pair}
 use Rattle.crypto_ops.specs.Sealed.{opened}
+use Rattle.kms_names.specs.declared.actions.Action.TheVariants as action
+use Rattle.kms_names.specs.declared.references.KeyRef.TheVariants.{Key}
+use Rattle.authority.specs.Setting.{callers_policies}
+use Rattle.authority.specs.Allowed.{AreIdentityPolicies}
+use Rattle.kms_json.specs.declared.refusals.Refusal.{Refusal}
+use Rattle.kms_json.specs.declared.refusals.Refusal.TheVariants as refusal
 use Rattle.kms_json.specs.declared.asks.Ask.{Ask}
 use Rattle.kms_json.specs.declared.asks.AskBody.TheVariants as ask
 use Rattle.kms_json.specs.declared.asks.Reading.TheVariants as reading
-use Rattle.kms_json.specs.declared.asks.Encrypt.{Encrypt}
-use Rattle.kms_json.specs.declared.asks.Decrypt.{Decrypt}
-use Rattle.kms_json.specs.declared.asks.ReEncrypt.{ReEncrypt}
-use Rattle.kms_json.specs.declared.asks.DataKey.{DataKey}
+use Rattle.kms_json.specs.declared.asks.cryptography.Encrypt.{Encrypt}
+use Rattle.kms_json.specs.declared.asks.cryptography.Decrypt.{Decrypt}
+use Rattle.kms_json.specs.declared.asks.cryptography.ReEncrypt.{ReEncrypt}
+use Rattle.kms_json.specs.declared.asks.cryptography.DataKey.{DataKey}
 use Rattle.kms_json.specs.declared.replies.Reply.{Reply}
 use Rattle.kms_json.specs.declared.replies.Reply.TheVariants as reply
 use Rattle.account_core.specs.declared.facts.RealmFacts.{RealmFacts}
 use Rattle.account_core.specs.declared.entries.Entry.{Entry}
+use Rattle.account_core.specs.declared.rows.KeyRow.{KeyRow}
 use Rattle.account_core.specs.Ids.{key_id_at}
 use Rattle.account_core.specs.Places.{Places, IsUpTo}
 use Rattle.account_core.specs.Blobs.{BlobName, name_in, named_in}
-use Rattle.account_core.specs.Steps.{unfit, draws}
+use Rattle.account_core.specs.History.{key_with}
+use Rattle.account_core.specs.View.{View, view_of}
+use Rattle.account_core.specs.Steps.{unfit, draws, reference_of}
+use Rattle.account_core.specs.Authority.{Question, of_context, resource_of, denied, setting_of, MayAsk}
 use Rattle.account_core.specs.Decide.{lacking, decide, IsProper, IsLawful}
 
 -- a blob, the text that is sealed in it, the context that it is sealed under, and the ARN of the key
@@ -47,31 +56,38 @@ pub data HasSealed (facts : RealmFacts) (history : List Entry) (x : Ask) (places
       → reply_to facts history x places ≡ reply.SealedDataKey blob arn
       → HasSealed facts history x places (record { blob = blob; plaintext = draws facts key.size places; context = key.context; arn = arn })
 
--- a reference is left out, or is the hyphenated id of this key
-abbrev pub NoneOrNames : Option (List ℕ) → List ℕ → Type 0
-NoneOrNames None key = Unit {0}
-NoneOrNames (Some reference) key = parsed_hyphenated reference ≡ Some key
+-- a reference is left out, or refers to this key
+abbrev pub NoneOrNames : RealmFacts → Option (List ℕ) → List ℕ → Type 0
+NoneOrNames facts None key = Unit {0}
+NoneOrNames facts (Some reference) key = reference_of facts reference ≡ Ok (Key key)
 
--- the request asks, of a history of so many entries, what this blob opens to under this context. Any key that it names is the
--- blob's, any algorithm is that of symmetric keys, it has no Recipient and no DryRun, and waits for no more entries
-pub record AsksToOpen (y : Ask) (entries : ℕ) (blob : List ℕ) (context : List Pair) : Type 0 where
+-- the caller may decrypt under the key of this id with this context
+abbrev pub MayDecrypt : View → List ℕ → List Pair → Type 0
+MayDecrypt view key context =
+    (row : KeyRow) → key_with view.keys key ≡ Some row → MayAsk view (record { action = action.Decrypt; key = Some row; particulars = of_context context })
+
+-- the request asks, at a history, what this blob opens to under this context. The caller may decrypt under the blob's key, any
+-- key that it names is the blob's, any algorithm is that of symmetric keys, it has no Recipient and no DryRun, and waits for no
+-- more entries
+pub record AsksToOpen (facts : RealmFacts) (history : List Entry) (y : Ask) (places : Places) (blob : List ℕ) (context : List Pair) : Type 0 where
   pub fields : Decrypt
   pub body : y.body ≡ ask.Read (reading.Decrypt fields)
   pub same_blob : fields.blob ≡ blob
   pub same_context : fields.context ≡ context
-  pub right_key : NoneOrNames fields.key_id (name_in blob).key
+  pub right_key : NoneOrNames facts fields.key_id (name_in blob).key
+  pub may : MayDecrypt (view_of facts history y places) (name_in blob).key context
   pub fit : unfit fields.algorithm ≡ None
   pub no_recipient : fields.recipient ≡ false
   pub no_dry_run : fields.dry_run ≡ false
-  pub there : lacking entries y.after ≡ None
+  pub there : lacking (length history) y.after ≡ None
 
 -- the text that a request sealed is what Decrypt answers for its blob, with the ARN of the same key, at that history and at
--- every lawful one that goes on from it, whoever asks and by whatever pass
+-- every lawful one that goes on from it, to whoever may decrypt and by whatever pass
 abbrev pub SealedIsDecryptedAgain : Type 0
 SealedIsDecryptedAgain =
     (facts : RealmFacts) (history more : List Entry) (x y : Ask) (places other_places : Places) (sealing : Sealing)
     → IsLawful facts (history ++ more) → IsProper facts x → HasSealed facts history x places sealing
-    → AsksToOpen y (length (history ++ more)) sealing.blob sealing.context
+    → AreIdentityPolicies (callers_policies facts.identities y.caller) → AsksToOpen facts (history ++ more) y other_places sealing.blob sealing.context
     → reply_to facts (history ++ more) y other_places ≡ reply.Decrypted sealing.plaintext sealing.arn
 
 -- where a pass's requests, each at some history, leave its places: where their decisions say, or for want of memory at most there
@@ -112,3 +128,26 @@ TimesNeverFall = (facts : RealmFacts) (history : List Entry) → IsLawful facts 
 -- keys that entries at different places make have different ids
 abbrev pub KeysDiffer : Type 0
 KeysDiffer = (facts : RealmFacts) (p q : ℕ) → p < 2 ^ 48 → q < 2 ^ 48 → key_id_at facts p ≡ key_id_at facts q → p ≡ q
+
+-- ---- authority
+
+-- the step of authority passes exactly where every question is allowed by statements: no Deny statement of the key's policy or of
+-- the caller's own policies hits, and a statement of the key's policy allows the caller directly, or allows the root of the
+-- account while a statement of the caller's own policies allows it; a question about no key goes by the caller's own policies alone
+abbrev pub PassesWhereStatementsAllow : Type 0
+PassesWhereStatementsAllow =
+    (view : View) (questions : List Question) → AreIdentityPolicies (setting_of view).policies → (denied view questions ≡ None) ↔ All (MayAsk view) questions
+
+-- the first question that isn't allowed, and those before it
+pub record IsFirstDenied (view : View) (questions : List Question) (q : Question) : Type 0 where
+  pub before : List Question
+  pub behind : List Question
+  pub are : questions ≡ before ++ q ∷ behind
+  pub allowed : All (MayAsk view) before
+  pub denied : ¬ (MayAsk view q)
+
+-- and its refusal names the caller, the first action that isn't allowed, and its resource
+abbrev pub NamesTheFirstDenied : Type 0
+NamesTheFirstDenied =
+    (view : View) (questions : List Question) (why : Refusal) → AreIdentityPolicies (setting_of view).policies → denied view questions ≡ Some why
+    → (q : Question) × IsFirstDenied view questions q × (why ≡ refusal.AccessDenied view.caller q.action (resource_of view q.key))

@@ -4,19 +4,22 @@ use Rattle.kms_json.specs.declared.asks.Changing.{Changing}
 use Rattle.kms_json.specs.declared.asks.Changing.TheVariants as changing
 use Rattle.kms_json.specs.declared.asks.Reading.{Reading}
 use Rattle.kms_json.specs.declared.asks.Reading.TheVariants as reading
-use Rattle.kms_json.specs.declared.replies.Refusal.{Refusal}
+use Rattle.kms_json.specs.declared.refusals.Refusal.{Refusal}
 use Rattle.account_core.specs.View.{View}
 use Rattle.account_core.specs.Parts.{Outcome, outcome}
 use Rattle.account_core.specs.Keys.{creates_key, describes_key}
+use Rattle.account_core.specs.Policies.{puts_policy, gets_policy}
 use Rattle.account_core.specs.Crypto.{encrypts, decrypts, re_encrypts, generates_data_key, generates_sealed_data_key, generates_random}
 
 -- those that change the account
 abbrev pub change_outcome : View → Changing → Result Outcome Refusal
-change_outcome view changing.CreateKey = outcome view (creates_key view)
+change_outcome view (changing.CreateKey x) = outcome view (creates_key view x)
+change_outcome view (changing.PutKeyPolicy key_id text bypass) = outcome view (puts_policy view key_id text bypass)
 
 -- those that don't
 abbrev pub read_outcome : View → Reading → Result Outcome Refusal
 read_outcome view (reading.DescribeKey key_id) = outcome view (describes_key view key_id)
+read_outcome view (reading.GetKeyPolicy key_id) = outcome view (gets_policy view key_id)
 read_outcome view (reading.Encrypt x) = outcome view (encrypts view x)
 read_outcome view (reading.Decrypt x) = outcome view (decrypts view x)
 read_outcome view (reading.ReEncrypt x) = outcome view (re_encrypts view x)

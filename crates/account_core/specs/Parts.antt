@@ -1,24 +1,21 @@
 -- The steps of a decision in their order. Each operation says its own parts of them; the order is written here alone.
-use Rattle.std.specs.Prelude.{◌≡◌, ◌==◌, ℕ, ◌+◌, ◌^◌, List, length, ◌&&◌, nat_le, nat_lt, Bool, if◌then◌else◌, Option, Some, None, Result, Ok, Err}
+use Rattle.std.specs.Prelude.{ℕ, ◌+◌, ◌^◌, List, length, ◌&&◌, nat_le, nat_lt, Bool, if◌then◌else◌, Option, Some, None, Result, Ok, Err}
 use Rattle.kms_names.specs.declared.actions.Action.{Action}
 use Rattle.kms_json.specs.declared.replies.Reply.{Reply}
 use Rattle.kms_json.specs.declared.replies.Reply.TheVariants.{Refused}
-use Rattle.kms_json.specs.declared.replies.Refusal.{Refusal}
-use Rattle.kms_json.specs.declared.replies.Refusal.TheVariants as refusal
-use Rattle.kms_json.specs.declared.replies.Limit.TheVariants as limit
+use Rattle.kms_json.specs.declared.refusals.Refusal.{Refusal}
+use Rattle.kms_json.specs.declared.refusals.Refusal.TheVariants as refusal
+use Rattle.kms_json.specs.declared.refusals.Limit.TheVariants as limit
 use Rattle.account_core.specs.declared.entries.Entry.{Entry}
 use Rattle.account_core.specs.declared.entries.What.{What}
 use Rattle.account_core.specs.declared.entries.What.TheVariants as what
 use Rattle.account_core.specs.declared.rows.KeyRow.{KeyRow}
 use Rattle.account_core.specs.declared.places.Uses.{Uses}
 use Rattle.account_core.specs.Places.{Places}
-use Rattle.account_core.specs.Steps.{unless, and_then}
+use Rattle.account_core.specs.Steps.{unless, and_then, or_else}
+use Rattle.account_core.specs.Authority.{Question, denied}
 use Rattle.account_core.specs.View.{View}
 
--- whether the caller may do this: on a key, or where there is none on everything
-pub record Question : Type 0 where
-  pub action : Action
-  pub key : Option KeyRow
 
 -- a key whose state counts, for this action
 pub record Use : Type 0 where
@@ -43,10 +40,6 @@ pub record Parts (F R : Type 0) : Type 0 where
 
 -- ---- the steps that don't refuse yet
 
--- authority: the account's root may do everything, and no other principal calls
-abbrev pub denied : View → List Question → Option Refusal
-denied view questions = None
-
 -- grant tokens: none is taken
 abbrev pub dead_token : View → List (List ℕ) → Option Refusal
 dead_token view tokens = None
@@ -65,11 +58,6 @@ no_more_draws places words = if nat_lt 0 words && nat_lt (2 ^ 48) (places.words 
 abbrev pub no_more_ivs : Places → ℕ → Option Refusal
 no_more_ivs places ivs = if nat_lt 0 ivs && nat_lt (2 ^ 48) (places.ivs + ivs) then Some (refusal.LimitExceeded limit.Ivs) else None
 
--- the first refusal, or the second
-abbrev pub or_else : Option Refusal → Option Refusal → Option Refusal
-or_else (Some why) next = Some why
-or_else None next = next
-
 abbrev pub spent : Places → Uses → Option Refusal
 spent places uses = or_else (no_more_draws places uses.words) (no_more_ivs places uses.ivs)
 
@@ -79,7 +67,8 @@ keys_full keys = if nat_le 10000 keys then Some (refusal.LimitExceeded limit.Key
 
 -- what the entry would add to
 abbrev pub full : View → What → Option Refusal
-full view (what.CreateKey key) = keys_full (length view.keys)
+full view (what.CreateKey key description policy) = keys_full (length view.keys)
+full view (what.Policy key text) = None
 
 abbrev pub limited : View → Effect → Option Refusal
 limited view (takes uses) = spent view.places uses

@@ -1,17 +1,21 @@
 -- The steps that operations share. The first that refuses decides.
-use Rattle.std.specs.Prelude.{◌≡◌, ℕ, ◌+◌, List, codes, nat_le, Bool, if◌then◌else◌, Option, Some, None, Result, Ok, Err, ok_or, ⊤}
+use Rattle.std.specs.Prelude.{◌≡◌, ℕ, List, codes, nat_le, Bool, if◌then◌else◌, Option, Some, None, Result, Ok, Err, ok_or, ⊤}
 use Rattle.std.specs.Str.{bytes_eq}
 use Rattle.draw_lines.specs.Draw.{draw_at}
 use Rattle.draw_lines.specs.Iv.{iv_at}
 use Rattle.enc_context.specs.declared.pairs.Pair.{Pair}
 use Rattle.crypto_ops.specs.Sealed.{sealed, opened}
+use Rattle.kms_names.specs.Reading.{key_ref_of}
 use Rattle.kms_names.specs.Reference.{key_arn_text}
+use Rattle.kms_names.specs.declared.faults.NameFault.{NameFault}
+use Rattle.kms_names.specs.declared.faults.NameFault.TheVariants as fault
+use Rattle.kms_names.specs.declared.references.KeyRef.{KeyRef}
+use Rattle.kms_names.specs.declared.references.KeyRef.TheVariants.{Key, Alias, Elsewhere}
 use Rattle.kms_names.specs.declared.actions.Action.{Action}
-use Rattle.kms_names.specs.declared.principals.Principal.{Principal}
-use Rattle.kms_json.specs.declared.replies.Refusal.{Refusal}
-use Rattle.kms_json.specs.declared.replies.Refusal.TheVariants as refusal
-use Rattle.kms_json.specs.declared.replies.Missing.TheVariants as missing
-use Rattle.kms_json.specs.declared.replies.Unsupported.{Unsupported}
+use Rattle.kms_json.specs.declared.refusals.Refusal.{Refusal}
+use Rattle.kms_json.specs.declared.refusals.Refusal.TheVariants as refusal
+use Rattle.kms_json.specs.declared.refusals.Missing.TheVariants as missing
+use Rattle.kms_json.specs.declared.refusals.Unsupported.{Unsupported}
 use Rattle.account_core.specs.declared.facts.RealmFacts.{RealmFacts}
 use Rattle.account_core.specs.declared.rows.KeyRow.{KeyRow}
 use Rattle.account_core.specs.declared.stops.Stop.{Stop}
@@ -19,7 +23,7 @@ use Rattle.account_core.specs.declared.stops.Stop.TheVariants as stop
 use Rattle.blob_format.specs.declared.reading.Blob.{Blob}
 use Rattle.account_core.specs.Blobs.{BlobName, named_in}
 use Rattle.account_core.specs.Ids.{draw_seed}
-use Rattle.account_core.specs.History.{key_named, key_with}
+use Rattle.account_core.specs.History.{key_with}
 use Rattle.account_core.specs.Places.{Places}
 use Rattle.account_core.specs.Source.{Source}
 use Rattle.account_core.specs.View.{View}
@@ -30,6 +34,11 @@ use Rattle.account_core.specs.View.{View}
 abbrev pub unless : {A : Type 0} → Option Refusal → Result A Refusal → Result A Refusal
 unless (Some why) next = Err why
 unless None next = next
+
+-- the first refusal, or the second
+abbrev pub or_else : Option Refusal → Option Refusal → Option Refusal
+or_else (Some why) next = Some why
+or_else None next = next
 
 -- what comes after what was found
 abbrev pub and_then : {A B : Type 0} → Result A Refusal → (A → Result B Refusal) → Result B Refusal
@@ -48,7 +57,13 @@ GivesAs seen wanted (Ok found) = wanted ≡ Ok (seen found)
 GivesAs seen wanted (Err (stop.Refused why)) = wanted ≡ Err why
 GivesAs seen wanted (Err stop.NoMemory) = Unit {0}
 
--- a step that refuses or goes on
+-- a step that refuses or goes on, where it isn't without memory
+abbrev pub Passes : Option Refusal → Result ⊤ Stop → Type 0
+Passes wanted (Ok _) = wanted ≡ None
+Passes wanted (Err (stop.Refused why)) = wanted ≡ Some why
+Passes wanted (Err stop.NoMemory) = Unit {0}
+
+-- the same without memory
 abbrev pub stopping : Option Refusal → Result ⊤ Stop
 stopping (Some why) = Err (stop.Refused why)
 stopping None = Ok tt
@@ -63,14 +78,31 @@ unfit (Some name) = if bytes_eq name (codes "SYMMETRIC_DEFAULT") then None else 
 abbrev pub unsupported : Bool → Unsupported → Option Refusal
 unsupported given field = if given then Some (refusal.UnsupportedOperation field) else None
 
--- the key that a reference names
-abbrev pub key_of : List KeyRow → List ℕ → Result KeyRow Refusal
-key_of keys reference = ok_or (key_named keys reference) (refusal.NotFound missing.Key)
+-- the key that a text refers to: by its id, or by its ARN in this account and region. `alias` is the refusal of an alias
+abbrev pub key_referred : List KeyRow → Refusal → Result KeyRef NameFault → Result KeyRow Refusal
+key_referred keys alias (Ok (Key id)) = ok_or (key_with keys id) (refusal.NotFound missing.Key)
+key_referred keys alias (Ok (Alias name)) = Err alias
+key_referred keys alias (Ok Elsewhere) = Err (refusal.NotFound missing.Key)
+key_referred keys alias (Err fault.BadArn) = Err refusal.InvalidArn
+key_referred keys alias (Err fault.BadAlias) = Err (refusal.NotFound missing.Alias)
+key_referred keys alias (Err fault.BadId) = Err (refusal.NotFound missing.Key)
+key_referred keys alias (Err fault.NoMemory) = Err (refusal.NotFound missing.Key)
+
+abbrev pub reference_of : RealmFacts → List ℕ → Result KeyRef NameFault
+reference_of facts reference = key_ref_of reference facts.account facts.region
+
+-- where an alias may stand there is none yet
+unfoldable pub key_of : View → List ℕ → Result KeyRow Refusal
+key_of view reference = key_referred view.keys (refusal.NotFound missing.Alias) (reference_of view.facts reference)
+
+-- where a key is wanted an alias is refused
+unfoldable pub only_key_of : View → List ℕ → Result KeyRow Refusal
+only_key_of view reference = key_referred view.keys refusal.InvalidArn (reference_of view.facts reference)
 
 -- the key that a reference names, where one is given
-abbrev pub key_if_given : List KeyRow → Option (List ℕ) → Result (Option KeyRow) Refusal
-key_if_given keys None = Ok None
-key_if_given keys (Some reference) = and_then (key_of keys reference) (λ row. Ok (Some row))
+abbrev pub key_if_given : View → Option (List ℕ) → Result (Option KeyRow) Refusal
+key_if_given view None = Ok None
+key_if_given view (Some reference) = and_then (key_of view reference) (λ row. Ok (Some row))
 
 -- a reference that is given names the key of the blob
 abbrev pub other_key : Option KeyRow → List ℕ → Option Refusal
@@ -100,7 +132,7 @@ source_in view action blob name =
 -- the reference is looked up, then the blob is read, then the two are compared, then the blob's key is looked up
 abbrev pub source_of : View → Action → Option (List ℕ) → List ℕ → Result Source Refusal
 source_of view action reference blob =
-    and_then (key_if_given view.keys reference)
+    and_then (key_if_given view reference)
     (λ named. and_then (blob_name blob)
     (λ name. unless (other_key named name.key) (source_in view action blob name)))
 

@@ -1,16 +1,20 @@
 // The account.
-ghost use Rattle.std.specs.Prelude.{◌≡◌, ◌++◌, ◌∷◌, [], length, true, false, IfOk};
-ghost use Rattle.account_core.specs.History.{keys_after};
+ghost use Rattle.std.specs.Prelude.{◌≡◌, ◌++◌, ◌∷◌, [], length, true, false, IfOk, if◌then◌else◌};
+ghost use Rattle.std.specs.Str.{bytes_eq};
+ghost use Rattle.account_core.specs.History.{keys_after, with_policy, policy_put};
 
 use crate::decide::{decision_from, lacking_entries};
 use crate::operations::{change_body, read_body};
 use crate::places::Places;
 use crate::stops::Stop;
 use crate::view::View;
-use crate::{Decision, Entry, KeyRow, RealmFacts, What};
+use crate::entries::SharedEntry;
+use crate::realm::Realm;
+use crate::rows::{DefaultPolicy, HeldKey, KeyRow, same_key};
+use crate::{Decision, Entry, RealmFacts, What};
 use draw_lines::DrawLine;
 use kms_json::{Ask, AskBody, Reply};
-use kms_names::NoMemory;
+use kms_names::{KeyId, NoMemory, Text};
 use std::alloc::Global;
 use std::marker::Model;
 
@@ -18,9 +22,9 @@ use std::marker::Model;
 /// keeps beside them are the list's replay.
 #[derive(Drop)]
 pub struct Account {
-    facts: RealmFacts,
-    entries: Vec<Entry>,
-    keys: Vec<KeyRow>,
+    realm: Realm,
+    entries: Vec<SharedEntry>,
+    keys: Vec<HeldKey>,
     latest: u64,
 }
 
@@ -32,45 +36,104 @@ impl Model for Account {
 
     ghost Value = { account.Account };
 
-    ghost view = { λ a. record { facts = a.facts; entries = a.entries.items } };
+    ghost view = { λ a. record { facts = a.realm; entries = a.entries.items } };
 
     ghost invariant = { λ a. record {
       keys : a.keys.items ≡ (replay a.entries.items).keys;
       latest : a.latest ≡ latest_of a.entries.items;
-      lawful : IsLawful a.facts a.entries.items;
+      lawful : IsLawful a.realm a.entries.items;
     } };
 }
 
 // The entries with one more.
-fn with_entry(alloc: Global, entries: &[Entry], entry: &Entry) -> Result<Vec<Entry>, NoMemory>
+fn with_entry(
+    alloc: Global,
+    entries: &[SharedEntry],
+    entry: &Entry,
+) -> Result<Vec<SharedEntry>, NoMemory>
     ensures { IfOk result (λ all. all.items ≡ entries.now ++ entry.now ∷ []) }
 {
-    let mut all = Vec::new(alloc);
-    for i in 0..entries.len() {
-        all.push(entries[i].copy()?)?;
+    let mut all = Vec::with_capacity(alloc, entries.len() + 1)?;
+    for shared in entries {
+        all.push(shared.share()?)?;
     }
-    all.push(entry.copy()?)?;
+    all.push(SharedEntry::new(alloc, entry.copy()?)?)?;
+    Ok(all)
+}
+
+// The rows with one more.
+fn with_key(alloc: Global, keys: &[HeldKey], key: HeldKey) -> Result<Vec<HeldKey>, NoMemory>
+    ensures { IfOk result (λ all. all.items ≡ keys.now ++ key ∷ []) }
+{
+    let mut all = Vec::with_capacity(alloc, keys.len() + 1)?;
+    for held in keys {
+        all.push(held.share()?)?;
+    }
+    all.push(key)?;
+    Ok(all)
+}
+
+// The row, which has this policy where it is of this key.
+fn put_policy(
+    alloc: Global,
+    held: &HeldKey,
+    key: &KeyId,
+    text: &Text,
+    default: &DefaultPolicy,
+) -> Result<HeldKey, NoMemory>
+    ensures { IfOk result (λ row. row ≡ (if bytes_eq held.now.key key.now then with_policy held.now text.now else held.now)) }
+{
+    if same_key(&held.row().key, key) {
+        held.with_policy(alloc, text, default)
+    } else {
+        held.share()
+    }
+}
+
+// The rows, of which that of this key has another policy.
+fn with_policy(
+    alloc: Global,
+    keys: &[HeldKey],
+    key: &KeyId,
+    text: &Text,
+    default: &DefaultPolicy,
+) -> Result<Vec<HeldKey>, NoMemory>
+    ensures { IfOk result (λ all. all.items ≡ policy_put key.now text.now keys.now) }
+{
+    let mut all = Vec::with_capacity(alloc, keys.len())?;
+    for held in keys {
+        all.push(put_policy(alloc, held, key, text, default)?)?;
+    }
     Ok(all)
 }
 
 // The rows of keys after an entry at this place.
 fn keys_with(
     alloc: Global,
-    keys: &[KeyRow],
+    keys: &[HeldKey],
     place: u64,
     entry: &Entry,
-) -> Result<Vec<KeyRow>, NoMemory>
+    default: &DefaultPolicy,
+) -> Result<Vec<HeldKey>, NoMemory>
     ensures { IfOk result (λ all. all.items ≡ keys_after place entry.now.time entry.now.what keys.now) }
 {
-    let mut all = Vec::from_slice(alloc, keys)?;
-    match entry.what {
-        What::CreateKey { key } => all.push(KeyRow {
+    match &entry.what {
+        What::CreateKey {
             key,
-            born: place,
-            made: entry.time,
-        })?,
+            description,
+            policy,
+        } => {
+            let row = KeyRow {
+                key: *key,
+                born: place,
+                made: entry.time,
+                description: description.copy()?,
+                policy: policy.copy()?,
+            };
+            with_key(alloc, keys, HeldKey::new(alloc, row, default)?)
+        }
+        What::Policy { key, text } => with_policy(alloc, keys, key, text, default),
     }
-    Ok(all)
 }
 
 impl Account {
@@ -87,7 +150,7 @@ impl Account {
         ensures { IfOk result (λ a. a ≡ record { facts = facts; entries = [] }) }
     {
         Ok(Account {
-            facts,
+            realm: Realm::new(alloc, facts)?,
             entries: Vec::new(alloc),
             keys: Vec::new(alloc),
             latest: 0,
@@ -98,7 +161,7 @@ impl Account {
     pub fn facts(&self) -> &RealmFacts
         ensures { result.now ≡ self.now.facts }
     {
-        &self.facts
+        self.realm.facts()
     }
 
     /// The number of entries. Each of them is one that a proper request appended to those before it.
@@ -139,7 +202,7 @@ impl Account {
         let AskBody::Read(body) = &ask.body else {
             unreachable!()
         };
-        let view = self.view(ask, Places::of(places));
+        let view = self.view(alloc, ask, Places::of(places))?;
         match read_body(alloc, &view, body, places) {
             Ok(reply) => Ok(reply),
             Err(Stop::Refused(refusal)) => Ok(Reply::Refused(refusal)),
@@ -158,7 +221,7 @@ impl Account {
         let AskBody::Change(body) = &ask.body else {
             unreachable!()
         };
-        let view = self.view(ask, Places::NONE);
+        let view = self.view(alloc, ask, Places::NONE)?;
         match change_body(alloc, &view, body) {
             Ok(made) => Ok(decision_from(made)),
             Err(Stop::Refused(refusal)) => Ok(Decision::Refused(Reply::Refused(refusal))),
@@ -167,17 +230,24 @@ impl Account {
     }
 
     // What the steps of a request's decision go by.
-    fn view<'a>(&'a self, ask: &'a Ask, places: Places) -> View<'a>
-        ensures { result ≡ view_of self.now.facts self.now.entries ask.now places }
+    fn view<'a>(
+        &'a self,
+        alloc: Global,
+        ask: &'a Ask,
+        places: Places,
+    ) -> Result<View<'a>, NoMemory>
+        ensures { IfOk result (λ view. view ≡ view_of self.now.facts self.now.entries ask.now places) }
     {
-        View::new(
-            &self.facts,
+        let policies = self.realm.policies_of(alloc, &ask.caller)?;
+        Ok(View::new(
+            self.realm.facts(),
             &self.keys,
             self.entries.len() as u64,
             ask.moment.max(self.latest),
             &ask.caller,
+            policies,
             places,
-        )
+        ))
     }
 
     /// The account with one more entry, which a request appends. This one stays as it is.
@@ -187,9 +257,9 @@ impl Account {
     {
         let place = self.entries.len() as u64;
         Ok(Account {
-            facts: self.facts.copy()?,
+            realm: self.realm.share()?,
             entries: with_entry(alloc, &self.entries, entry)?,
-            keys: keys_with(alloc, &self.keys, place, entry)?,
+            keys: keys_with(alloc, &self.keys, place, entry, self.realm.default_policy())?,
             latest: entry.time,
         })
     }

@@ -3,6 +3,7 @@ ghost use Rattle.std.specs.Prelude.{◌≤◌};
 ghost use Rattle.account_core.specs.Crypto.{generates_data_key, generates_sealed_data_key};
 
 use crate::checks::{key_of, unsupported};
+use crate::particulars::of_context;
 use crate::crypto::{draw, seal};
 use crate::parts::{Operation, Reads, refuse};
 use crate::places::Uses;
@@ -11,7 +12,7 @@ use crate::stops::Stop;
 use crate::view::View;
 use draw_lines::DrawLine;
 use kms_json::{DataKey, Reply, Unsupported};
-use kms_names::{Bytes, NoMemory};
+use kms_names::{Action, Bytes, NoMemory};
 use std::alloc::Global;
 
 // The most bytes of a data key.
@@ -29,10 +30,11 @@ pub struct Drawing<'a> {
 }
 
 impl<'a> Drawing<'a> {
-    ghost use Rattle.std.specs.Prelude.{◌≡◌, ◌≤◌, IfOk, length, None};
+    ghost use Rattle.std.specs.Prelude.{◌≡◌, ◌≤◌, ◌∷◌, [], IfOk, length, None, Some};
+    ghost use Rattle.account_core.specs.Authority.{denied, of_context};
     ghost use Rattle.account_core.specs.Places.{places_of, line_at, IsLineOf};
     ghost use Rattle.account_core.specs.Parts.{after, takes, spent};
-    ghost use Rattle.account_core.specs.Steps.{Gives, key_of, draws};
+    ghost use Rattle.account_core.specs.Steps.{Passes, draws};
     ghost use Rattle.account_core.specs.Crypto.{sealed_key, words_and_iv};
 
     // What a data key uses.
@@ -43,6 +45,14 @@ impl<'a> Drawing<'a> {
             words: self.x.size.div_ceil(4),
             ivs: 1,
         }
+    }
+
+    // Whether the caller may have such a data key.
+    fn authorize(&self, alloc: Global, action: Action, lent: &Lent<'a>) -> Result<(), Stop>
+        ensures { Passes (denied self.now.view.now (record { action = action; key = Some lent.now; particulars = of_context self.now.x.now.context } ∷ [])) result }
+    {
+        let particulars = of_context(&self.x.context);
+        self.view.authorize_on(alloc, action, lent, &particulars)
     }
 
     // Draws the data key into a room of its size, and seals it.
@@ -88,8 +98,12 @@ impl<'a> Operation for GeneratingDataKey<'a> {
         self.drawing.view
     }
 
-    fn find(&self, _alloc: Global) -> Result<Lent<'a>, Stop> {
-        key_of(self.drawing.view.keys(), &self.drawing.x.key_id)
+    fn find(&self, alloc: Global) -> Result<Lent<'a>, Stop> {
+        key_of(alloc, self.drawing.view, &self.drawing.x.key_id)
+    }
+
+    fn authorize(&self, alloc: Global, found: &Lent<'a>) -> Result<(), Stop> {
+        self.drawing.authorize(alloc, Action::GenerateDataKey, found)
     }
 
     fn own(&self, _alloc: Global, _found: &Lent<'a>) -> Result<(), Stop> {
@@ -146,8 +160,12 @@ impl<'a> Operation for GeneratingSealedDataKey<'a> {
         self.drawing.view
     }
 
-    fn find(&self, _alloc: Global) -> Result<Lent<'a>, Stop> {
-        key_of(self.drawing.view.keys(), &self.drawing.x.key_id)
+    fn find(&self, alloc: Global) -> Result<Lent<'a>, Stop> {
+        key_of(alloc, self.drawing.view, &self.drawing.x.key_id)
+    }
+
+    fn authorize(&self, alloc: Global, found: &Lent<'a>) -> Result<(), Stop> {
+        self.drawing.authorize(alloc, Action::GenerateDataKeyWithoutPlaintext, found)
     }
 
     fn own(&self, _alloc: Global, _found: &Lent<'a>) -> Result<(), Stop> {

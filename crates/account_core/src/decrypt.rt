@@ -2,6 +2,7 @@
 ghost use Rattle.account_core.specs.Crypto.{decrypts};
 
 use crate::checks::{unfit, unsupported};
+use crate::particulars::of_context;
 use crate::parts::{Operation, Reads, refuse};
 use crate::places::Uses;
 use crate::sources::{Sealed, find_source};
@@ -42,6 +43,12 @@ impl<'a> Operation for Decrypting<'a> {
             &self.x.key_id,
             self.x.blob.as_slice(),
         )
+    }
+
+    fn authorize(&self, alloc: Global, found: &Sealed<'a>) -> Result<(), Stop> {
+        let particulars = of_context(&self.x.context);
+        self.view
+            .authorize_on(alloc, Action::Decrypt, found.lent(), &particulars)
     }
 
     fn own(&self, alloc: Global, found: &Sealed<'a>) -> Result<Bytes, Stop> {

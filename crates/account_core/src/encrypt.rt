@@ -3,6 +3,7 @@ ghost use Rattle.std.specs.Prelude.{◌≤◌, length};
 ghost use Rattle.account_core.specs.Crypto.{encrypts};
 
 use crate::checks::{key_of, unfit};
+use crate::particulars::of_context;
 use crate::crypto::{ONE_IV, seal};
 use crate::parts::{Operation, Reads, refuse};
 use crate::places::Uses;
@@ -11,7 +12,7 @@ use crate::stops::Stop;
 use crate::view::View;
 use draw_lines::DrawLine;
 use kms_json::{Encrypt, Reply};
-use kms_names::NoMemory;
+use kms_names::{Action, NoMemory};
 use std::alloc::Global;
 
 /// Encrypt of a text of 1 to 4,096 bytes.
@@ -38,8 +39,14 @@ impl<'a> Operation for Encrypting<'a> {
         self.view
     }
 
-    fn find(&self, _alloc: Global) -> Result<Lent<'a>, Stop> {
-        key_of(self.view.keys(), &self.x.key_id)
+    fn find(&self, alloc: Global) -> Result<Lent<'a>, Stop> {
+        key_of(alloc, self.view, &self.x.key_id)
+    }
+
+    fn authorize(&self, alloc: Global, found: &Lent<'a>) -> Result<(), Stop> {
+        let particulars = of_context(&self.x.context);
+        self.view
+            .authorize_on(alloc, Action::Encrypt, found, &particulars)
     }
 
     fn own(&self, _alloc: Global, _found: &Lent<'a>) -> Result<(), Stop> {

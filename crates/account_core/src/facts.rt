@@ -1,4 +1,5 @@
 // What is constant for a run.
+use authority::IdentityList;
 use kms_names::{AccountNumber, NoMemory, Text};
 
 /// What is constant for a run of the service.
@@ -12,6 +13,9 @@ pub struct RealmFacts {
     pub root: [u8; 32],
     /// The boot number, of which each is used once with a root secret.
     pub boot: u32,
+    /// The principals with their own policies, which are of the kind `Identity`. Where a principal stands twice, the
+    /// first counts. The account's root needs none: it may do everything.
+    pub identities: IdentityList,
 }
 
 impl RealmFacts {
@@ -26,6 +30,7 @@ impl RealmFacts {
             region: self.region.copy()?,
             root: self.root,
             boot: self.boot,
+            identities: self.identities.copy()?,
         })
     }
 }

@@ -1,54 +1,121 @@
 // The operations on keys: CreateKey and DescribeKey.
-ghost use Rattle.std.specs.Prelude.{◌≡◌, IfOk};
+ghost use Rattle.std.specs.Prelude.{◌≡◌, IfOk, codes};
 ghost use Rattle.kms_json.specs.declared.replies.Reply.TheVariants as Reply;
-ghost use Rattle.account_core.specs.Keys.{description_of, creates_key, describes_key};
+ghost use Rattle.account_core.specs.Steps.{Passes};
+ghost use Rattle.account_core.specs.Keys.{description_of, creates_key, describes_key, unsupported_unless, unserved_key, policy_or_default, refused_if_given};
 
-use crate::checks::key_of;
+use crate::checks::{key_of, unsupported};
 use crate::entries::{Entry, What};
 use crate::ids::key_id;
-use crate::parts::{Changes, Made, Operation, Reads};
+use crate::particulars::{of_key, of_policy};
+use crate::parts::{Changes, Made, Operation, Reads, refuse};
 use crate::places::Uses;
+use crate::policies::accept;
 use crate::rows::Lent;
 use crate::stops::Stop;
 use crate::view::View;
+use authority::default_policy_text;
 use draw_lines::DrawLine;
-use kms_json::{KeyMetadata, Reply};
-use kms_names::{KeyId, NoMemory, Text};
+use kms_json::{CreateKey, KeyMetadata, Refusal, Reply, SYMMETRIC_DEFAULT, Unsupported};
+use kms_names::{AccountNumber, Action, KeyId, NoMemory, Text};
 use std::alloc::Global;
 
 // A key as replies describe it.
-fn description(
-    alloc: Global,
+fn metadata(
     view: &View<'_>,
     key: KeyId,
-    made: u64,
+    created: u64,
+    description: &Text,
 ) -> Result<KeyMetadata, NoMemory>
-    ensures { IfOk result (λ metadata. metadata ≡ description_of view.now.facts key made) }
+    ensures { IfOk result (λ metadata. metadata ≡ description_of view.now.facts key created description.now) }
 {
     let facts = view.facts();
     Ok(KeyMetadata {
         account: facts.account,
-        region: Text::from_str(alloc, facts.region.as_str())?,
+        region: facts.region.copy()?,
         key,
-        created: made,
+        created,
+        description: description.copy()?,
     })
+}
+
+// The refusal of a text that isn't the one that is served.
+fn unsupported_unless(wanted: &str, given: &Option<Text>, field: Unsupported) -> Option<Refusal>
+    ensures { result ≡ unsupported_unless wanted.now given.now field }
+{
+    match given {
+        Some(given) if given.as_str() != wanted => Some(Refusal::UnsupportedOperation(field)),
+        _ => None,
+    }
+}
+
+// Stops at what isn't served.
+fn serve_only(x: &CreateKey) -> Result<(), Stop>
+    ensures { Passes (unserved_key x.now) result }
+{
+    refuse(unsupported_unless("ENCRYPT_DECRYPT", &x.key_usage, Unsupported::KeyUsage))?;
+    refuse(unsupported_unless(
+        SYMMETRIC_DEFAULT,
+        &x.customer_master_key_spec,
+        Unsupported::CustomerMasterKeySpec,
+    ))?;
+    refuse(unsupported_unless(SYMMETRIC_DEFAULT, &x.key_spec, Unsupported::KeySpec))?;
+    refuse(unsupported_unless("AWS_KMS", &x.origin, Unsupported::Origin))?;
+    refuse(unsupported(x.custom_key_store_id, Unsupported::CustomKeyStoreId))?;
+    refuse(unsupported(x.tags, Unsupported::Tags))?;
+    refuse(unsupported(x.multi_region, Unsupported::MultiRegion))?;
+    refuse(unsupported(x.xks_key_id, Unsupported::XksKeyId))
+}
+
+// Stops at the refusal of a policy that is given.
+fn accept_if_given(
+    alloc: Global,
+    view: &View<'_>,
+    policy: &Option<Text>,
+    bypass: bool,
+) -> Result<(), Stop>
+    ensures { Passes (refused_if_given view.now policy.now bypass) result }
+{
+    match policy {
+        Some(text) => {
+            let key = key_id(view.facts(), view.place());
+            accept(alloc, view, &key, text, bypass)
+        }
+        None => Ok(()),
+    }
+}
+
+// The policy of a key: what is given, or the default policy.
+fn policy_or_default(
+    alloc: Global,
+    account: &AccountNumber,
+    policy: &Option<Text>,
+) -> Result<Text, NoMemory>
+    ensures { IfOk result (λ text. text ≡ policy_or_default account.now policy.now) }
+{
+    match policy {
+        Some(text) => text.copy(),
+        None => default_policy_text(alloc, account),
+    }
 }
 
 /// CreateKey.
 #[derive(Drop)]
-pub struct CreateKey<'a> {
+pub struct CreatingKey<'a> {
     /// What its steps go by.
     pub view: &'a View<'a>,
+    /// What it asks.
+    pub x: &'a CreateKey,
 }
 
-impl<'a> Operation for CreateKey<'a> {
+impl<'a> Operation for CreatingKey<'a> {
     type Found = ();
 
     type Ready = ();
 
-    ghost seen = { λ x. x.view.now };
+    ghost seen = { λ op. op.view.now };
 
-    ghost parts = { λ x. creates_key x.view.now };
+    ghost parts = { λ op. creates_key op.view.now op.x.now };
 
     fn view(&self) -> &View<'_> {
         self.view
@@ -58,8 +125,20 @@ impl<'a> Operation for CreateKey<'a> {
         Ok(())
     }
 
-    fn own(&self, _alloc: Global, _found: &()) -> Result<(), Stop> {
-        Ok(())
+    fn authorize(&self, alloc: Global, _found: &()) -> Result<(), Stop> {
+        let particulars = of_policy(self.x.bypass_lockout_check);
+        self.view
+            .authorize(alloc, Action::CreateKey, &particulars)
+    }
+
+    fn own(&self, alloc: Global, _found: &()) -> Result<(), Stop> {
+        serve_only(self.x)?;
+        accept_if_given(
+            alloc,
+            self.view,
+            &self.x.policy,
+            self.x.bypass_lockout_check,
+        )
     }
 
     fn dry_run(&self) -> bool {
@@ -67,16 +146,23 @@ impl<'a> Operation for CreateKey<'a> {
     }
 }
 
-impl<'a> Changes for CreateKey<'a> {
+impl<'a> Changes for CreatingKey<'a> {
     fn make(&self, alloc: Global, _found: (), _ready: ()) -> Result<Made, NoMemory> {
         let time = self.view.moment();
-        let key = key_id(self.view.facts(), self.view.place());
-        let metadata = description(alloc, self.view, key, time)?;
+        let facts = self.view.facts();
+        let key = key_id(facts, self.view.place());
+        let metadata = metadata(self.view, key, time, &self.x.description)?;
+        let description = self.x.description.copy()?;
+        let policy = policy_or_default(alloc, &facts.account, &self.x.policy)?;
         Ok(Made {
             reply: Reply::Metadata(metadata),
             entry: Some(Entry {
                 time,
-                what: What::CreateKey { key },
+                what: What::CreateKey {
+                    key,
+                    description,
+                    policy,
+                },
             }),
         })
     }
@@ -84,28 +170,33 @@ impl<'a> Changes for CreateKey<'a> {
 
 /// DescribeKey.
 #[derive(Drop)]
-pub struct DescribeKey<'a> {
+pub struct DescribingKey<'a> {
     /// What its steps go by.
     pub view: &'a View<'a>,
     /// The reference to the key.
     pub key_id: &'a Text,
 }
 
-impl<'a> Operation for DescribeKey<'a> {
+impl<'a> Operation for DescribingKey<'a> {
     type Found = Lent<'a>;
 
     type Ready = ();
 
-    ghost seen = { λ x. x.view.now };
+    ghost seen = { λ op. op.view.now };
 
-    ghost parts = { λ x. describes_key x.view.now x.key_id.now };
+    ghost parts = { λ op. describes_key op.view.now op.key_id.now };
 
     fn view(&self) -> &View<'_> {
         self.view
     }
 
-    fn find(&self, _alloc: Global) -> Result<Lent<'a>, Stop> {
-        key_of(self.view.keys(), self.key_id)
+    fn find(&self, alloc: Global) -> Result<Lent<'a>, Stop> {
+        key_of(alloc, self.view, self.key_id)
+    }
+
+    fn authorize(&self, alloc: Global, found: &Lent<'a>) -> Result<(), Stop> {
+        self.view
+            .authorize_on(alloc, Action::DescribeKey, found, &of_key())
     }
 
     fn own(&self, _alloc: Global, _found: &Lent<'a>) -> Result<(), Stop> {
@@ -117,19 +208,20 @@ impl<'a> Operation for DescribeKey<'a> {
     }
 }
 
-impl<'a> Reads for DescribeKey<'a> {
+impl<'a> Reads for DescribingKey<'a> {
     fn uses(&self) -> Uses {
         Uses::NOTHING
     }
 
     fn serve(
         &self,
-        alloc: Global,
+        _alloc: Global,
         found: Lent<'a>,
         _ready: (),
         _line: &mut DrawLine,
     ) -> Result<Reply, NoMemory> {
         let row = found.row();
-        Ok(Reply::Metadata(description(alloc, self.view, row.key, row.made)?))
+        let metadata = metadata(self.view, row.key, row.made, &row.description)?;
+        Ok(Reply::Metadata(metadata))
     }
 }

@@ -1,12 +1,12 @@
-//! Laws of what the account seals. Each stands as the contract of a function that does nothing.
+//! Laws of what the account answers. Each stands as the contract of a function that does nothing.
 
-ghost use Rattle.account_core.specs.Laws.{SealedIsDecryptedAgain, OnePassRepeatsNoIv, BlobsAreNamed, NamedAreBlobs, TimesNeverFall, KeysDiffer};
+ghost use Rattle.account_core.specs.Laws.{SealedIsDecryptedAgain, OnePassRepeatsNoIv, BlobsAreNamed, NamedAreBlobs, TimesNeverFall, KeysDiffer, PassesWhereStatementsAllow, NamesTheFirstDenied};
 
 /// What Encrypt, ReEncrypt or a data key call answered as sealed under a context, Decrypt opens to the
 /// text that was sealed, at that history and at every lawful one that goes on from it: under an equal
-/// context, for any caller and any pass, where the key is left out or is the blob's, the algorithm is
-/// left out or that of symmetric keys, and the request has no Recipient and no DryRun, and waits for no
-/// entry that isn't there. The reply names the key that sealed the text.
+/// context, for any pass and any caller whom statements allow it, where the key is left out or is the
+/// blob's, the algorithm is left out or that of symmetric keys, and the request has no Recipient and no
+/// DryRun, and waits for no entry that isn't there. The reply names the key that sealed the text.
 pub fn sealed_is_decrypted_again()
     ensures { SealedIsDecryptedAgain }
 {}
@@ -32,4 +32,19 @@ pub fn times_never_fall()
 /// Keys that are made at different places of a history have different ids. A place is below 2^48.
 pub fn keys_differ()
     ensures { KeysDiffer }
+{}
+
+/// Authority passes exactly where for each thing that the request asks no Deny statement of the key's
+/// policy or of the caller's own policies hits, and a statement of the key's policy allows the caller
+/// directly, or allows the root of the account while a statement of the caller's own policies allows it;
+/// what is about no key goes by the caller's own policies alone. The root is allowed everything that no
+/// key's policy is asked about.
+pub fn authority_passes_where_statements_allow()
+    ensures { PassesWhereStatementsAllow }
+{}
+
+/// A denial names the caller and the first thing that the request asks and isn't allowed: the action and
+/// its resource.
+pub fn denial_names_the_first_denied()
+    ensures { NamesTheFirstDenied }
 {}

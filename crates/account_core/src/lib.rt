@@ -17,22 +17,26 @@ mod ids;
 mod keys;
 mod laws;
 mod operations;
+mod particulars;
 mod parts;
 mod places;
+mod policies;
 mod random;
 mod re_encrypt;
+mod realm;
 mod rows;
 mod sources;
 mod stops;
 mod view;
 
 pub use account::Account;
+pub use authority::{Identity, IdentityList, PolicyList};
 pub use decide::Decision;
 pub use entries::{Entry, What};
 pub use facts::RealmFacts;
 pub use ids::draw_line;
 pub use laws::{
-    blobs_name_their_keys, keys_differ, one_pass_repeats_no_iv, sealed_is_decrypted_again,
-    times_never_fall,
+    authority_passes_where_statements_allow, blobs_name_their_keys, denial_names_the_first_denied,
+    keys_differ, one_pass_repeats_no_iv, sealed_is_decrypted_again, times_never_fall,
 };
 pub use rows::KeyRow;

@@ -9,8 +9,9 @@ ghost use Rattle.account_core.specs.Operations.{change_outcome, read_outcome};
 use crate::data_keys::{Drawing, GeneratingDataKey, GeneratingSealedDataKey};
 use crate::decrypt::Decrypting;
 use crate::encrypt::Encrypting;
-use crate::keys::{CreateKey, DescribeKey};
+use crate::keys::{CreatingKey, DescribingKey};
 use crate::parts::{Made, change, read};
+use crate::policies::{GettingPolicy, PuttingPolicy};
 use crate::random::GeneratingRandom;
 use crate::re_encrypt::ReEncrypting;
 use crate::stops::Stop;
@@ -24,7 +25,21 @@ pub fn change_body(alloc: Global, view: &View<'_>, body: &Changing) -> Result<Ma
     ensures { Makes (change_outcome view.now body.now) result }
 {
     match body {
-        Changing::CreateKey => change(alloc, &CreateKey { view }),
+        Changing::CreateKey(x) => change(alloc, &CreatingKey { view, x }),
+        Changing::PutKeyPolicy {
+            key_id,
+            policy,
+            bypass_lockout_check,
+        } => {
+            let bypass = *bypass_lockout_check;
+            let putting = PuttingPolicy {
+                view,
+                key_id,
+                policy,
+                bypass,
+            };
+            change(alloc, &putting)
+        }
     }
 }
 
@@ -41,7 +56,8 @@ pub fn read_body(
     ensures { Settles (decided_by (read_outcome view.now body.now) (places_of line.old)) line.old result line.new }
 {
     match body {
-        Reading::DescribeKey { key_id } => read(alloc, &DescribeKey { view, key_id }, line),
+        Reading::DescribeKey { key_id } => read(alloc, &DescribingKey { view, key_id }, line),
+        Reading::GetKeyPolicy { key_id } => read(alloc, &GettingPolicy { view, key_id }, line),
         Reading::Encrypt(x) => read(alloc, &Encrypting { view, x }, line),
         Reading::Decrypt(x) => read(alloc, &Decrypting { view, x }, line),
         Reading::ReEncrypt(x) => read(alloc, &ReEncrypting { view, x }, line),

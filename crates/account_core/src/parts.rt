@@ -3,7 +3,8 @@
 ghost use Rattle.std.specs.Prelude.{◌≡◌, IfOk, OnOk, OnErr, None, length};
 ghost use Rattle.account_core.specs.Places.{places_of, line_at, IsLineOf, IsWithin};
 ghost use Rattle.account_core.specs.View.{View as SeenView};
-ghost use Rattle.account_core.specs.Steps.{Gives, stopping};
+ghost use Rattle.account_core.specs.Steps.{Gives, Passes, stopping};
+ghost use Rattle.account_core.specs.Authority.{denied};
 ghost use Rattle.account_core.specs.Parts.{Parts, takes, cleared, outcome, decided_by, spent, full, limited, only_asked, after};
 ghost use Rattle.account_core.specs.Settling.{Settles, Makes, effect_with};
 
@@ -41,6 +42,10 @@ pub trait Operation {
     /// Looks its references up, in order.
     fn find(&self, alloc: Global) -> Result<Self::Found, Stop>
         ensures { Gives (parts self.now).found result };
+
+    /// Whether the caller may do what it asks: its questions, in order.
+    fn authorize(&self, alloc: Global, found: &Self::Found) -> Result<(), Stop>
+        ensures { Passes (denied (seen self.now) ((parts self.now).questions found.now)) result };
 
     /// Its own refusals, in order.
     fn own(&self, alloc: Global, found: &Self::Found) -> Result<Self::Ready, Stop>
@@ -127,7 +132,7 @@ fn full(view: &View<'_>, what: &What) -> Option<Refusal>
         What::CreateKey { .. } if view.keys().len() >= KEYS => {
             Some(Refusal::LimitExceeded(Limit::Keys))
         }
-        What::CreateKey { .. } => None,
+        What::CreateKey { .. } | What::Policy { .. } => None,
     }
 }
 
@@ -146,6 +151,7 @@ fn clear<O: Operation>(alloc: Global, operation: &O) -> Result<(O::Found, O::Rea
     ensures { Gives (cleared (O.seen operation.now) (O.parts operation.now)) result }
 {
     let found = operation.find(alloc)?;
+    operation.authorize(alloc, &found)?;
     let ready = operation.own(alloc, &found)?;
     Ok((found, ready))
 }

@@ -4,13 +4,14 @@ ghost use Rattle.account_core.specs.Crypto.{generates_random};
 
 use crate::checks::unsupported;
 use crate::crypto::draw;
+use crate::particulars::of_none;
 use crate::parts::{Operation, Reads, refuse};
 use crate::places::Uses;
 use crate::stops::Stop;
 use crate::view::View;
 use draw_lines::DrawLine;
 use kms_json::{Reply, Unsupported};
-use kms_names::{Bytes, NoMemory};
+use kms_names::{Action, Bytes, NoMemory};
 use std::alloc::Global;
 
 // The most bytes that are drawn at once.
@@ -46,6 +47,11 @@ impl<'a> Operation for GeneratingRandom<'a> {
 
     fn find(&self, _alloc: Global) -> Result<(), Stop> {
         Ok(())
+    }
+
+    fn authorize(&self, alloc: Global, _found: &()) -> Result<(), Stop> {
+        self.view
+            .authorize(alloc, Action::GenerateRandom, &of_none())
     }
 
     fn own(&self, _alloc: Global, _found: &()) -> Result<(), Stop> {

@@ -5,7 +5,8 @@ use crate::checks::{key_of, unfit};
 use crate::crypto::{ONE_IV, Sealable, seal};
 use crate::parts::{Operation, Reads, refuse};
 use crate::places::Uses;
-use crate::rows::Lent;
+use crate::particulars::of_turning;
+use crate::rows::{Lent, same_key};
 use crate::sources::{Sealed, find_source};
 use crate::stops::Stop;
 use crate::view::View;
@@ -53,8 +54,18 @@ impl<'a> Operation for ReEncrypting<'a> {
             &self.x.source_key_id,
             self.x.blob.as_slice(),
         )?;
-        let row = key_of(self.view.keys(), &self.x.key_id)?;
+        let row = key_of(alloc, self.view, &self.x.key_id)?;
         Ok(Turning { source, row })
+    }
+
+    fn authorize(&self, alloc: Global, found: &Turning<'a>) -> Result<(), Stop> {
+        let same = same_key(found.source.key(), &found.row.row().key);
+        let from = of_turning(&self.x.source_context, same);
+        let to = of_turning(&self.x.context, same);
+        self.view
+            .authorize_on(alloc, Action::ReEncryptFrom, found.source.lent(), &from)?;
+        self.view
+            .authorize_on(alloc, Action::ReEncryptTo, &found.row, &to)
     }
 
     fn own(&self, alloc: Global, found: &Turning<'a>) -> Result<Sealable, Stop> {

@@ -51,7 +51,7 @@ fn held<'a>(alloc: Global, view: &View<'a>, action: Action, key: &KeyId) -> Resu
     ensures { Gives (held_key view.now action key.now) result }
 {
     match row_of(view.keys(), key) {
-        Some(row) => Ok(Lent::new(row)),
+        Some(held) => Ok(Lent::new(held)),
         None => Err(Stop::Refused(Refusal::AccessDenied {
             caller: view.caller().copy()?,
             action,
@@ -71,7 +71,7 @@ pub fn find_source<'a>(
 ) -> Result<Sealed<'a>, Stop>
     ensures { Gives (source_of view.now action reference.now bytes.now) result }
 {
-    let named = key_if_given(view.keys(), reference)?;
+    let named = key_if_given(alloc, view, reference)?;
     let blob = read(bytes)?;
     refuse(other_key(&named, &blob.key))?;
     let lent = held(alloc, view, action, &blob.key)?;
@@ -81,6 +81,13 @@ pub fn find_source<'a>(
 impl<'a> Sealed<'a> {
     ghost use Rattle.std.specs.Prelude.{◌≡◌, ◌≤◌, length, IfOk};
     ghost use Rattle.account_core.specs.Steps.{Gives, opens};
+
+    /// Its key's row, lent.
+    pub fn lent(&self) -> &Lent<'a>
+        ensures { result.now ≡ self.now.row }
+    {
+        &self.lent
+    }
 
     /// Its key.
     pub fn key(&self) -> &KeyId

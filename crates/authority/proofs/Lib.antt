@@ -6,4 +6,5 @@ mod DocumentFacts
 mod Results
 mod QuestionFacts
 mod CallerFacts
-mod LawFacts
+pub mod LawFacts
+pub mod KindFacts

@@ -3,7 +3,7 @@ use Rattle.std.proofs.Common.{◌≡◌, ◌≢◌, ◌<◌, ◌^◌, ◌⊎◌,
 use Rattle.std.proofs.lemmas.List.{map-append}
 use Rattle.kms_json.specs.declared.asks.Ask.{Ask}
 use Rattle.kms_json.specs.declared.asks.AskBody.{AskBody}
-use Rattle.kms_json.specs.declared.replies.Refusal.{Refusal}
+use Rattle.kms_json.specs.declared.refusals.Refusal.{Refusal}
 use Rattle.kms_json.specs.declared.replies.Reply.{Reply}
 use Rattle.kms_json.specs.Asks.{asked, changes_account}
 use Rattle.account_core.specs.declared.facts.RealmFacts.{RealmFacts}

@@ -5,7 +5,7 @@ use Rattle.kms_json.specs.declared.asks.Ask.{Ask}
 use Rattle.kms_json.specs.declared.asks.AskBody.{AskBody}
 use Rattle.kms_json.specs.declared.replies.Reply.{Reply}
 use Rattle.kms_json.specs.declared.replies.Reply.TheVariants.{Refused}
-use Rattle.kms_json.specs.declared.replies.Refusal.{Refusal}
+use Rattle.kms_json.specs.declared.refusals.Refusal.{Refusal}
 use Rattle.kms_json.specs.Asks.{asked, changes_account}
 use Rattle.http_front.specs.declared.message.HttpFault.{HttpFault}
 use Rattle.kms_session.specs.declared.trust.Trust.{Trust}

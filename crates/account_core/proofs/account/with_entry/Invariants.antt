@@ -1,5 +1,5 @@
 use Rattle.std.proofs.Common.{◌≡◌, take}
 use Rattle.account_core.proofs.account.with_entry.Given as goal
 
-abbrev pub invariant-loop-i : goal.invariant-loop-i
-invariant-loop-i l = l.all.items ≡ take l.i l.entries
+abbrev pub invariant-loop-shared : goal.invariant-loop-shared
+invariant-loop-shared l = l.all.items ≡ take l.shared-index l.entries

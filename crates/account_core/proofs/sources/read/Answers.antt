@@ -1,5 +1,5 @@
 use Rattle.std.proofs.Common.{Option, ap, ok_or, rules}
-use Rattle.kms_json.specs.declared.replies.Refusal.TheVariants as refusal
+use Rattle.kms_json.specs.declared.refusals.Refusal.TheVariants as refusal
 use Rattle.account_core.specs.Blobs.{BlobName}
 use Rattle.account_core.proofs.BlobNames.{named_read, named_none}
 use Rattle.account_core.proofs.sources.read.Goals as goal

@@ -19,5 +19,5 @@ invariant_of-result c =
     record {
       keys = keys ∙ sym (replay-push history entry) ∙ ap (λ h. (replay h).keys) (sym grown);
       latest = sym (latest-push history entry) ∙ ap latest_of (sym grown);
-      lawful = lawful_more c.self.inside.facts c.in_ok-copy.field-0 history c.in_ok-with_entry.field-0.items entry c.in_ok-copy.ensures grown c.self.invariant.lawful next;
+      lawful = lawful_more c.self.inside.realm c.in_ok-share.field-0 history c.in_ok-with_entry.field-0.items entry c.in_ok-share.ensures grown c.self.invariant.lawful next;
     }

@@ -1,7 +1,6 @@
 use Rattle.std.proofs.Common.{◌≡◌, ℕ, length, sym, ap, ◌∙◌}
 use Rattle.account_core.specs.Account.{Account}
 use Rattle.account_core.specs.Places.{no_places}
-use Rattle.account_core.specs.View.{view_of}
 use Rattle.account_core.specs.Parts.{decided_by}
 use Rattle.account_core.specs.Decide.{lacking}
 use Rattle.account_core.proofs.Decisions.{refused_first, by_change, made_refusal, refuses, makes}
@@ -21,7 +20,7 @@ returns-in-Ok c =
     let x = c.args.ask.now in
     let number : c.len.result ≡ length a.entries = c.len.ensures ∙ c.self.inside.entries.ok.0 ∙ ap (λ (s : Account). length s.entries) c.self.view_is in
     let enough = c.in_default.ensures ∙ ap (λ (n : ℕ). lacking n x.after) number in
-    let is = by_change a.facts a.entries x no_places c.view-view.result c.in-Change.body enough c.in-Change.is c.view-view.ensures in
+    let is = by_change a.facts a.entries x no_places c.in_ok-view.view c.in-Change.body enough c.in-Change.is c.in_ok-view.ensures in
     c.decision_from.ensures ∙ makes a.facts a.entries x c.in-Ok.made (sym (ap (λ o. decided_by o no_places) c.in-Ok.ensures) ∙ is)
 
 pub returns-in-Err-Refused : goal.returns-in-Err-Refused
@@ -30,6 +29,6 @@ returns-in-Err-Refused c =
     let x = c.args.ask.now in
     let number : c.len.result ≡ length a.entries = c.len.ensures ∙ c.self.inside.entries.ok.0 ∙ ap (λ (s : Account). length s.entries) c.self.view_is in
     let enough = c.in_default.ensures ∙ ap (λ (n : ℕ). lacking n x.after) number in
-    let is = by_change a.facts a.entries x no_places c.view-view.result c.in-Change.body enough c.in-Change.is c.view-view.ensures in
+    let is = by_change a.facts a.entries x no_places c.in_ok-view.view c.in-Change.body enough c.in-Change.is c.in_ok-view.ensures in
     let refused = made_refusal _ c.in-Err-Refused.field-0 c.in-Err-Refused.refusal c.in-Err-Refused.field-0-is c.in-Err-Refused.ensures in
     refuses a.facts a.entries x c.in-Err-Refused.refusal (sym (ap (λ o. decided_by o no_places) refused) ∙ is)

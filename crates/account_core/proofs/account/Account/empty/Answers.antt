@@ -5,7 +5,7 @@ use Rattle.account_core.proofs.account.Account.empty.Goals as goal
 
 pub invariant_of-result : goal.invariant_of-result
 invariant_of-result c = record {
-  keys = c.new-2.ensures.items ∙ ap (λ entries. (replay entries).keys) (sym c.new.ensures.items);
-  latest = ap latest_of (sym c.new.ensures.items);
-  lawful = lawful_nothing c.args.facts c.new.result.items c.new.ensures.items;
+  keys = c.new-3.ensures.items ∙ ap (λ entries. (replay entries).keys) (sym c.new-2.ensures.items);
+  latest = ap latest_of (sym c.new-2.ensures.items);
+  lawful = lawful_nothing c.in_ok-new.field-0 c.new-2.result.items c.new-2.ensures.items;
 }

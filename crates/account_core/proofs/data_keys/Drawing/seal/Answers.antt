@@ -1,5 +1,3 @@
-use Rattle.std.proofs.Common.{◌≡◌}
-use Rattle.account_core.specs.Steps.{draws}
 use Rattle.account_core.proofs.Drawing.{drawn_is, sealed_is, ok_where}
 use Rattle.account_core.proofs.data_keys.Drawing.seal.Goals as goal
 

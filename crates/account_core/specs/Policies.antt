@@ -1,0 +1,87 @@
+-- The operations on the policies of keys (AWS KMS API Reference, PutKeyPolicy, GetKeyPolicy): what each says of the steps.
+use Rattle.std.specs.Prelude.{◌≡◌, ℕ, List, [], ◌∷◌, Bool, false, if◌then◌else◌, Option, Some, None, option_map, Ok, ⊤}
+use Rattle.kms_names.specs.declared.actions.Action.TheVariants as action
+use Rattle.kms_json.specs.declared.refusals.Refusal.{Refusal}
+use Rattle.kms_json.specs.declared.refusals.Refusal.TheVariants as refusal
+use Rattle.kms_json.specs.declared.refusals.PolicyFlaw.{PolicyFlaw}
+use Rattle.kms_json.specs.declared.refusals.PolicyFlaw.TheVariants as flaw
+use Rattle.kms_json.specs.declared.replies.Reply.TheVariants as reply
+use Rattle.policy_doc.specs.declared.faults.PolicyFault.{PolicyFault}
+use Rattle.policy_doc.specs.declared.faults.PolicyFault.TheVariants as fault
+use Rattle.policy_doc.specs.declared.policies.Policy.{Policy}
+use Rattle.authority.specs.KeyPolicy.{fault_in, policy_in}
+use Rattle.authority.specs.Allowed.{is_allowed}
+use Rattle.account_core.specs.declared.entries.What.TheVariants as what
+use Rattle.account_core.specs.declared.rows.KeyRow.{KeyRow}
+use Rattle.account_core.specs.declared.stops.Stop.{Stop}
+use Rattle.account_core.specs.declared.stops.Stop.TheVariants as stop
+use Rattle.account_core.specs.Places.{nothing_used}
+use Rattle.account_core.specs.Steps.{unless, only_key_of, arn_of}
+use Rattle.account_core.specs.Authority.{setting_of, of_key, of_policy}
+use Rattle.account_core.specs.View.{View}
+use Rattle.account_core.specs.Parts.{Parts, takes, appends}
+
+-- a fault of a document, as a refusal tells it
+abbrev pub flaw_of : PolicyFault → PolicyFlaw
+flaw_of fault.TooLong = flaw.TooLong
+flaw_of fault.NotJson = flaw.NotJson
+flaw_of (fault.BadShape path) = flaw.BadShape path
+flaw_of (fault.Unsupported path) = flaw.Unsupported path
+flaw_of fault.NoMemory = flaw.NotJson
+
+-- the refusal of a document with this fault
+abbrev pub malformed : PolicyFault → Refusal
+malformed why = refusal.MalformedPolicy (flaw_of why)
+
+-- the stop at a fault, and at the first of a document, unless for want of memory
+abbrev pub StopsAt : PolicyFault → Stop → Type 0
+StopsAt fault.NoMemory s = s ≡ stop.NoMemory
+StopsAt why s = s ≡ stop.Refused (malformed why)
+
+abbrev pub IsStopAt : Option PolicyFault → Stop → Type 0
+IsStopAt first (stop.Refused why) = option_map malformed first ≡ Some why
+IsStopAt first stop.NoMemory = Unit {0}
+
+-- with this policy in place the caller may put the key's policy again
+unfoldable pub may_put_again : View → Policy → List ℕ → Bool
+may_put_again view policy key =
+    is_allowed (setting_of view) (Some policy) (record { action = action.PutKeyPolicy; resource = arn_of view.facts key; particulars = of_policy false })
+
+-- the lockout check, which may be passed over
+abbrev pub locked_out : View → Policy → List ℕ → Bool → Option Refusal
+locked_out view policy key bypass = if bypass then None else (if may_put_again view policy key then None else Some (refusal.MalformedPolicy flaw.Lockout))
+
+-- the document's fault comes first
+abbrev pub refused_by : Option PolicyFault → Option Refusal → Option Refusal
+refused_by (Some why) next = Some (malformed why)
+refused_by None next = next
+
+-- a new policy of a key
+unfoldable pub policy_refused : View → List ℕ → List ℕ → Bool → Option Refusal
+policy_refused view key text bypass = refused_by (fault_in text) (locked_out view (policy_in text) key bypass)
+
+-- PutKeyPolicy
+abbrev pub puts_policy : View → List ℕ → List ℕ → Bool → Parts KeyRow ⊤
+puts_policy view reference text bypass = record {
+  found = only_key_of view reference;
+  questions = λ row. record { action = action.PutKeyPolicy; key = Some row; particulars = of_policy bypass } ∷ [];
+  tokens = [];
+  uses = λ row. record { action = action.PutKeyPolicy; key = row } ∷ [];
+  own = λ row. unless (policy_refused view row.key text bypass) (Ok tt);
+  effect = λ row ready. appends (record { time = view.moment; what = what.Policy row.key text });
+  dry_run = false;
+  reply = λ row ready. reply.Done;
+}
+
+-- GetKeyPolicy: the text as it was put
+abbrev pub gets_policy : View → List ℕ → Parts KeyRow ⊤
+gets_policy view reference = record {
+  found = only_key_of view reference;
+  questions = λ row. record { action = action.GetKeyPolicy; key = Some row; particulars = of_key } ∷ [];
+  tokens = [];
+  uses = λ row. record { action = action.GetKeyPolicy; key = row } ∷ [];
+  own = λ row. Ok tt;
+  effect = λ row ready. takes nothing_used;
+  dry_run = false;
+  reply = λ row ready. reply.KeyPolicy row.policy;
+}
