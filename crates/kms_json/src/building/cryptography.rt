@@ -11,6 +11,7 @@ use kms_names::NoMemory;
 use std::alloc::Global;
 use std::collections::VecDeque;
 
+/// Encrypt.
 pub fn encrypt(alloc: Global, values: &mut VecDeque<Given>) -> Result<Encrypt, NoMemory>
     ensures { IfOk result (λ fields. fields ≡ asked.encrypt (held encrypt_fields values.old.items)) }
 {
@@ -29,6 +30,7 @@ pub fn encrypt(alloc: Global, values: &mut VecDeque<Given>) -> Result<Encrypt, N
     })
 }
 
+/// Decrypt.
 pub fn decrypt(alloc: Global, values: &mut VecDeque<Given>) -> Result<Decrypt, NoMemory>
     ensures { IfOk result (λ fields. fields ≡ asked.decrypt (held decrypt_fields values.old.items)) }
 {
@@ -49,6 +51,7 @@ pub fn decrypt(alloc: Global, values: &mut VecDeque<Given>) -> Result<Decrypt, N
     })
 }
 
+/// ReEncrypt.
 pub fn re_encrypt(alloc: Global, values: &mut VecDeque<Given>) -> Result<ReEncrypt, NoMemory>
     ensures { IfOk result (λ fields. fields ≡ asked.re_encrypt (held re_encrypt_fields values.old.items)) }
 {
@@ -132,6 +135,7 @@ pub fn generate_data_key_without_plaintext(
     })
 }
 
+/// GenerateRandom.
 pub fn generate_random(values: &mut VecDeque<Given>) -> Reading
     ensures { result ≡ asked.generate_random (held generate_random_fields values.old.items) }
 {

@@ -10,6 +10,7 @@ use crate::given::{Given, flag_in, items_in, text_if, text_in};
 use std::alloc::Global;
 use std::collections::VecDeque;
 
+/// CreateKey.
 pub fn create_key(alloc: Global, values: &mut VecDeque<Given>) -> CreateKey
     ensures { result ≡ asked.create_key (held create_key_fields values.old.items) }
 {

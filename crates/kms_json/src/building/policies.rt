@@ -10,6 +10,7 @@ use crate::given::{Given, flag_in, text_in};
 use std::alloc::Global;
 use std::collections::VecDeque;
 
+/// PutKeyPolicy.
 pub fn put_key_policy(alloc: Global, values: &mut VecDeque<Given>) -> Changing
     ensures { result ≡ asked.put_key_policy (held put_key_policy_fields values.old.items) }
 {

@@ -18,6 +18,7 @@ pub fn base64(alloc: Global, bytes: &Bytes) -> Result<String, NoMemory>
     Ok(STANDARD.encode(alloc, bytes.as_slice())?)
 }
 
+/// What Encrypt answers.
 pub fn encrypted<'a>(alloc: Global, blob: &'a str, arn: &'a str) -> Result<Value, NoMemory>
     ensures { IfOk result (λ v. view v ≡ encrypted_data blob.now arn.now) }
 {
@@ -29,6 +30,7 @@ pub fn encrypted<'a>(alloc: Global, blob: &'a str, arn: &'a str) -> Result<Value
     object_of(alloc, &members)
 }
 
+/// What Decrypt answers.
 pub fn decrypted<'a>(alloc: Global, plaintext: &'a str, arn: &'a str) -> Result<Value, NoMemory>
     ensures { IfOk result (λ v. view v ≡ decrypted_data plaintext.now arn.now) }
 {
@@ -40,6 +42,7 @@ pub fn decrypted<'a>(alloc: Global, plaintext: &'a str, arn: &'a str) -> Result<
     object_of(alloc, &members)
 }
 
+/// What ReEncrypt answers.
 pub fn re_encrypted<'a>(
     alloc: Global,
     blob: &'a str,
@@ -61,6 +64,7 @@ pub fn re_encrypted<'a>(
     object_of(alloc, &members)
 }
 
+/// What GenerateDataKey answers.
 pub fn data_key<'a>(
     alloc: Global,
     blob: &'a str,
@@ -77,6 +81,7 @@ pub fn data_key<'a>(
     object_of(alloc, &members)
 }
 
+/// What GenerateDataKeyWithoutPlaintext answers.
 pub fn sealed_data_key<'a>(alloc: Global, blob: &'a str, arn: &'a str) -> Result<Value, NoMemory>
     ensures { IfOk result (λ v. view v ≡ sealed_data_key_data blob.now arn.now) }
 {
@@ -87,6 +92,7 @@ pub fn sealed_data_key<'a>(alloc: Global, blob: &'a str, arn: &'a str) -> Result
     object_of(alloc, &members)
 }
 
+/// What GenerateRandom answers.
 pub fn random(alloc: Global, plaintext: &str) -> Result<Value, NoMemory>
     ensures { IfOk result (λ v. view v ≡ random_data plaintext.now) }
 {

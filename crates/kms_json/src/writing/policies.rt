@@ -8,6 +8,7 @@ use kms_names::NoMemory;
 use serde_json::Value;
 use std::alloc::Global;
 
+/// What GetKeyPolicy answers.
 pub fn key_policy(alloc: Global, policy: &str) -> Result<Value, NoMemory>
     ensures { IfOk result (λ v. view v ≡ key_policy_data policy.now) }
 {
