@@ -1,3 +1,5 @@
-pub mod PartLemmas
-pub mod ScanLemmas
-pub mod Requests
+pub mod Bytes
+pub mod DigitLemmas
+pub mod Parts
+pub mod Heads
+pub mod Answering

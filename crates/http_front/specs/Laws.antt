@@ -1,0 +1,24 @@
+-- Laws about messages at the front of bytes.
+use Rattle.std.specs.Prelude.{◌≡◌, ◌⊎◌, ℕ, List, ◌++◌}
+use Rattle.httparse.specs.Grammar.{NeverHasRequest}
+use Rattle.http_front.specs.declared.judge.HttpFault.{HttpFault}
+use Rattle.http_front.specs.Message.{Message, IsMessage, IsOpen, IsRefused, IsCrowded}
+
+-- the bytes begin with a message
+abbrev pub HasMessage : List ℕ → Type 0
+HasMessage bytes = (m : Message) × (text : List ℕ) × (rest : List ℕ) × IsMessage m text × (bytes ≡ text ++ rest)
+
+-- no message begins another, and bytes begin with one message at most
+abbrev pub OneMessage : Type 0
+OneMessage =
+    (m n : Message) (text other rest last : List ℕ) → IsMessage m text → IsMessage n other → text ++ rest ≡ other ++ last
+    → (m ≡ n) × (text ≡ other) × (rest ≡ last)
+
+-- What the bytes begin with decides the answer. Only bytes that are hopeless or crowded may also be read on.
+pub record IsOneAnswer (bytes : List ℕ) : Type 0 where
+  pub not_message_and_open : HasMessage bytes → IsOpen bytes → ⊥
+  pub not_message_and_refused : (why : HttpFault) → HasMessage bytes → IsRefused bytes why → ⊥
+  pub open_and_refused : (why : HttpFault) → IsOpen bytes → IsRefused bytes why → NeverHasRequest bytes ⊎ IsCrowded bytes
+
+abbrev pub OneAnswer : Type 0
+OneAnswer = (bytes : List ℕ) → IsOneAnswer bytes

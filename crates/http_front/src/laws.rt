@@ -1,0 +1,13 @@
+// What follows from the definitions alone.
+ghost use Rattle.http_front.specs.Laws.{OneMessage, OneAnswer};
+
+/// No message begins another: bytes begin with one message at most, and a stream is cut in one way.
+pub fn one_message()
+    ensures { OneMessage }
+{}
+
+/// What bytes begin with decides what `next_message` answers: a message, more bytes, or a fault. Only
+/// where no head can come of them, or none of at most 64 headers, may it ask for more bytes or refuse them.
+pub fn one_answer()
+    ensures { OneAnswer }
+{}
