@@ -3,13 +3,19 @@ use Rattle.std.proofs.Common.{◌≡◌, ◌<◌, ◌≤◌, ◌+◌, ◌-◌, �
 use Rattle.httparse.specs.Grammar.{RequestHead, print_request, HasNoRequest, NeverHasRequest, MayBecomeRequest}
 use Rattle.httparse.proofs.GrammarLemmas.{ReadsRequest-append}
 use Rattle.http_front.specs.declared.judge.HttpFault.{HttpFault}
-use Rattle.http_front.specs.Heading.{Heading, heading_of}
-use Rattle.http_front.specs.Judge.{judged, closes_after}
+use Rattle.http_front.specs.Heading.{Heading, heading_of, values_of}
+use Rattle.http_front.specs.Judge.{judged, closes_after, size_within, size_in}
+use Rattle.http_front.specs.Digits.{number_in}
+use Rattle.std.proofs.Common.{nat_le, cond, true, false, Option, Some, None, codes, rules, [], ◌∷◌, append-nil, arith}
+use Rattle.httparse.specs.Grammar.{ReadsRequest, print_request}
+use Rattle.std.proofs.lemmas.Bool.Decides.{nat_tests}
+use Rattle.httparse.specs.Grammar.{lf}
+use Rattle.httparse.proofs.OnLiterals.{httparse_on_literals}
 use Rattle.http_front.specs.Message.{Message, IsMessage, HasHead, AwaitsHead, AwaitsBody, Awaits, awaits_head, awaits_body, IsCrowded, IsRefused, hopeless, long_head, crowded, at_fault, CutsOff}
 use Rattle.http_front.specs.Laws.{HasMessage, OneAnswer}
 use Rattle.http_front.proofs.Bytes.{same_sizes}
 use Rattle.http_front.proofs.Heads.{one_head, not_hopeless, not_crowded, longest_head, shows_head, head_of_message, exceeds_front, overflows_front}
-use Rattle.http_front.specs.declared.judge.HttpFault.TheVariants.{TooLong}
+use Rattle.http_front.specs.declared.judge.HttpFault.TheVariants.{NotPost, NotRoot, Chunked, TooLong}
 use Rattle.http_front.specs.declared.parsed.Parsed.{Parsed}
 use Rattle.http_front.specs.Parsed.{Shows, headers_in}
 use Rattle.httparse.specs.Spans.{RequestExceeds, RequestOverflows}
@@ -79,11 +85,28 @@ awaited_or_refused : {bytes : List ℕ} {whole : ℕ} {why : HttpFault} → Awai
 awaited_or_refused (awaits_head a) r = head_or_refused a r
 awaited_or_refused (awaits_body a) r = absurd (body_or_refused a r)
 
+two_refusals : {bytes : List ℕ} {why other : HttpFault} → IsRefused bytes why → IsRefused bytes other → (why ≡ other) ⊎ NeverHasRequest bytes
+two_refusals (hopeless never) r = inr never
+two_refusals r (hopeless never) = inr never
+two_refusals (long_head a) (long_head b) = inl refl
+two_refusals (long_head a) (crowded b) = inl refl
+two_refusals (crowded a) (long_head b) = inl refl
+two_refusals (crowded a) (crowded b) = inl refl
+two_refusals {bytes} (long_head a) (at_fault {head} {rest} has fault) = absurd (longest_head bytes head rest a has)
+two_refusals {bytes} (at_fault {head} {rest} has fault) (long_head a) = absurd (longest_head bytes head rest a has)
+two_refusals {bytes} (crowded a) (at_fault {head} {rest} has fault) = absurd (not_crowded bytes head rest a has)
+two_refusals {bytes} (at_fault {head} {rest} has fault) (crowded a) = absurd (not_crowded bytes head rest a has)
+two_refusals {bytes} (at_fault {head} {rest} {why} has fault) (at_fault {head = other} {rest = last} {why = second} k again) =
+    let heads = one_head bytes head other rest last has k in
+    let says : Err why ≡ Err second = sym fault ∙ ap judged (ap heading_of heads.0) ∙ again in
+    inl cc
+
 pub one_answer_lem : OneAnswer
 one_answer_lem bytes = record {
   not_message_and_open = λ h o. not_awaited h o.1;
   not_message_and_refused = λ why h r. not_refused h r;
   open_and_refused = λ why o r. awaited_or_refused o.1 r;
+  two_faults = λ why other r q. two_refusals r q;
 }
 
 -- ---- what a head that was parsed comes to
@@ -132,3 +155,82 @@ head_awaited bytes few none goes_on =
 
 pub crowded_front : (bytes : List ℕ) → RequestExceeds 64 (take 16384 bytes) → RequestOverflows 64 (take 16384 bytes) → IsRefused bytes TooLong
 crowded_front bytes e o = crowded (record { exceeds = exceeds_front 16384 bytes 64 e; overflows = overflows_front 16384 bytes 64 o })
+
+-- ---- how long things are
+
+sized_small : (n : ℕ) (value : Option ℕ) → size_within value ≡ Ok n → n ≤ 131072
+sized_small n None e = cc
+sized_small n (Some k) e = within (nat_le k 131072) refl e
+  where
+    within : (b : Bool) → nat_le k 131072 ≡ b → cond b (Ok k) (Err TooLong) ≡ Ok n → n ≤ 131072
+    within true is e = let same : k ≡ n = cc in grind (arith, nat_tests, is, same)
+    within false is e = cc
+
+sizes_small : (n : ℕ) (values : List (List ℕ)) → size_in values ≡ Ok n → n ≤ 131072
+sizes_small n [] e = cc
+sizes_small n (value ∷ []) e = sized_small n (number_in 9 value) e
+sizes_small n (value ∷ other ∷ more) e = cc
+
+past : (b : Bool) (why : HttpFault) (r : Result ℕ HttpFault) (n : ℕ) → cond b (Err why) r ≡ Ok n → r ≡ Ok n
+past true why r n e = cc
+past false why r n e = e
+
+pub judged_small : (h : Heading) (n : ℕ) → judged h ≡ Ok n → n ≤ 131072
+judged_small h n e =
+    let a = past _ NotPost _ n e in
+    let b = past _ NotRoot _ n a in
+    sizes_small n (values_of (codes "Content-Length") h) (past _ Chunked _ n b)
+
+pub whole_fits : {bytes : List ℕ} {whole : ℕ} → Awaits bytes whole → whole ≤ 147456
+whole_fits (awaits_head a) = omega (arith, a.few)
+whole_fits (awaits_body a) = omega (arith, a.is_whole, a.has.short, judged_small (heading_of a.head) a.size a.judged_size)
+
+pub whole_more : {bytes : List ℕ} {whole : ℕ} → Awaits bytes whole → length bytes < whole
+whole_more (awaits_head a) = omega arith
+whole_more {bytes} (awaits_body a) =
+    let size : length bytes ≡ length (print_request a.head) + length a.rest = ap length a.has.reads.1 ∙ length-append (print_request a.head) a.rest in
+    omega (arith, size, a.is_whole, a.few)
+
+-- bytes that are awaited are awaited where some of them have come
+pub awaits_more : {bytes : List ℕ} {whole : ℕ} (piece : List ℕ) → Awaits bytes whole → length (bytes ++ piece) < whole → Awaits (bytes ++ piece) whole
+awaits_more {bytes} {whole} [] a short = subst (λ (all : List ℕ). Awaits all whole) (sym (append-nil bytes)) a
+awaits_more {bytes} (byte ∷ piece) (awaits_head a) short = absurd (omega (arith, length-append bytes (byte ∷ piece)))
+awaits_more {bytes} (byte ∷ piece) (awaits_body a) short =
+    let more = byte ∷ piece in
+    let size : length bytes ≡ length (print_request a.head) + length a.rest = ap length a.has.reads.1 ∙ length-append (print_request a.head) a.rest in
+    awaits_body (record {
+      head = a.head;
+      rest = a.rest ++ more;
+      has = head_on more a.has;
+      size = a.size;
+      judged_size = a.judged_size;
+      is_whole = a.is_whole;
+      few = omega (arith, size, a.is_whole, length-append bytes more, length-append a.rest more);
+    })
+
+-- ---- no bytes
+
+abbrev small_head : RequestHead
+small_head = record { blank = []; method = codes "A"; target = codes "/"; minor = 1; line_end = lf; fields = []; last = lf }
+
+small_text : (text : List ℕ) × ReadsRequest text small_head []
+unfolding httparse_on_literals
+small_text = (print_request small_head, (record { method = search rules; target = search rules; target_text = search rules; minor = search rules; fields = search rules }, sym (append-nil (print_request small_head))))
+
+print_some : (h : RequestHead) → 0 < length (print_request h)
+unfolding print_request
+print_some h = simp length-append (omega arith)
+
+pub message_some : {m : Message} {text : List ℕ} → IsMessage m text → 0 < length text
+message_some {m} {text} is = omega (arith, print_some is.head, ap length is.has.reads.1, length-append (print_request is.head) m.body)
+
+pub empty_awaited : Awaits [] 1
+empty_awaited = awaits_head (record {
+  few = omega arith;
+  none = λ h rest reads. let size : 0 ≡ length (print_request h) + length rest = ap length reads.1 ∙ length-append (print_request h) rest in absurd (omega (arith, print_some h, size));
+  goes_on = inl (small_text.0, small_head, small_text.1);
+})
+
+pub empty_decided : NeverHasRequest [] ⊎ IsCrowded [] → ⊥
+empty_decided (inl never) = never small_text.0 small_head [] small_text.1
+empty_decided (inr many) = absurd (omega (arith, many.overflows small_text.0 small_head [] small_text.1))

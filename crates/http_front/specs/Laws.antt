@@ -1,8 +1,8 @@
 -- Laws about messages at the front of bytes.
-use Rattle.std.specs.Prelude.{◌≡◌, ◌⊎◌, ℕ, List, ◌++◌}
+use Rattle.std.specs.Prelude.{◌≡◌, ◌⊎◌, ◌<◌, ℕ, List, ◌++◌, length}
 use Rattle.httparse.specs.Grammar.{NeverHasRequest}
 use Rattle.http_front.specs.declared.judge.HttpFault.{HttpFault}
-use Rattle.http_front.specs.Message.{Message, IsMessage, IsOpen, IsRefused, IsCrowded}
+use Rattle.http_front.specs.Message.{Message, IsMessage, Awaits, IsOpen, IsRefused, IsCrowded}
 
 -- the bytes begin with a message
 abbrev pub HasMessage : List ℕ → Type 0
@@ -14,11 +14,17 @@ OneMessage =
     (m n : Message) (text other rest last : List ℕ) → IsMessage m text → IsMessage n other → text ++ rest ≡ other ++ last
     → (m ≡ n) × (text ≡ other) × (rest ≡ last)
 
--- What the bytes begin with decides the answer. Only bytes that are hopeless or crowded may also be read on.
+-- no message is whole before the bytes are as many as is said
+abbrev pub StillAwaited : Type 0
+StillAwaited = (bytes piece : List ℕ) (whole : ℕ) → Awaits bytes whole → length (bytes ++ piece) < whole → Awaits (bytes ++ piece) whole
+
+-- What the bytes begin with decides the answer, but for this: bytes that no head can come of, or that are crowded, may also be read on;
+-- and those that no head can come of may bear two faults.
 pub record IsOneAnswer (bytes : List ℕ) : Type 0 where
   pub not_message_and_open : HasMessage bytes → IsOpen bytes → ⊥
   pub not_message_and_refused : (why : HttpFault) → HasMessage bytes → IsRefused bytes why → ⊥
   pub open_and_refused : (why : HttpFault) → IsOpen bytes → IsRefused bytes why → NeverHasRequest bytes ⊎ IsCrowded bytes
+  pub two_faults : (why other : HttpFault) → IsRefused bytes why → IsRefused bytes other → (why ≡ other) ⊎ NeverHasRequest bytes
 
 abbrev pub OneAnswer : Type 0
 OneAnswer = (bytes : List ℕ) → IsOneAnswer bytes

@@ -1,9 +1,15 @@
 // What follows from the definitions alone.
-ghost use Rattle.http_front.specs.Laws.{OneMessage, OneAnswer};
+ghost use Rattle.http_front.specs.Laws.{OneMessage, OneAnswer, StillAwaited};
 
 /// No message begins another: bytes begin with one message at most, and a stream is cut in one way.
 pub fn one_message()
     ensures { OneMessage }
+{}
+
+/// No message is whole before the buffer has as many bytes as `Step::NeedMore` says: what is awaited
+/// stays awaited until then.
+pub fn still_awaited()
+    ensures { StillAwaited }
 {}
 
 /// What bytes begin with decides what `next_message` answers: a message, more bytes, or a fault. Only
