@@ -12,7 +12,7 @@ use Rattle.std.proofs.lemmas.Bool.Decides.{nat_tests}
 use Rattle.httparse.specs.Grammar.{lf}
 use Rattle.httparse.proofs.OnLiterals.{httparse_on_literals}
 use Rattle.http_front.specs.Message.{Message, IsMessage, HasHead, AwaitsHead, AwaitsBody, Awaits, awaits_head, awaits_body, IsCrowded, IsRefused, hopeless, long_head, crowded, at_fault, CutsOff}
-use Rattle.http_front.specs.Laws.{HasMessage, OneAnswer}
+use Rattle.http_front.specs.Laws.{OneFault, HasMessage, OneAnswer}
 use Rattle.http_front.proofs.Bytes.{same_sizes}
 use Rattle.http_front.proofs.Heads.{one_head, not_hopeless, not_crowded, longest_head, shows_head, head_of_message, exceeds_front, overflows_front}
 use Rattle.http_front.specs.declared.judge.HttpFault.TheVariants.{NotPost, NotRoot, Chunked, TooLong}
@@ -108,6 +108,23 @@ one_answer_lem bytes = record {
   open_and_refused = λ why o r. awaited_or_refused o.1 r;
   two_faults = λ why other r q. two_refusals r q;
 }
+
+module _ {bytes : List ℕ} {head : RequestHead} {rest : List ℕ} {why : HttpFault} (has : HasHead bytes head rest) (fault : judged (heading_of head) ≡ Err why) where
+  fault_not_open : {whole : ℕ} → Awaits bytes whole → ⊥
+  fault_not_open (awaits_head a) = a.none head rest has.reads
+  fault_not_open (awaits_body a) = body_or_refused a (at_fault has fault)
+
+  no_other_fault : {other : HttpFault} → IsRefused bytes other → other ≡ why
+  no_other_fault (hopeless never) = absurd (not_hopeless bytes head rest never has)
+  no_other_fault (long_head long) = absurd (longest_head bytes head rest long has)
+  no_other_fault (crowded many) = absurd (not_crowded bytes head rest many has)
+  no_other_fault (at_fault {head = second} {rest = last} {why = other} k again) =
+      let heads = one_head bytes head second rest last has k in
+      let says : Err other ≡ Err why = sym again ∙ ap judged (ap heading_of (sym heads.0)) ∙ fault in
+      cc
+
+pub one_fault_lem : OneFault
+one_fault_lem bytes head rest why has fault = record { not_open = λ o. fault_not_open has fault o.1; no_other = λ other r. no_other_fault has fault r }
 
 -- ---- what a head that was parsed comes to
 

@@ -1,5 +1,5 @@
 // What follows from the definitions alone.
-ghost use Rattle.http_front.specs.Laws.{OneMessage, OneAnswer, StillAwaited};
+ghost use Rattle.http_front.specs.Laws.{OneMessage, OneAnswer, OneFault, StillAwaited};
 
 /// No message begins another: bytes begin with one message at most, and a stream is cut in one way.
 pub fn one_message()
@@ -16,4 +16,9 @@ pub fn still_awaited()
 /// where no head can come of them, or none of at most 64 headers, may it ask for more bytes or refuse them.
 pub fn one_answer()
     ensures { OneAnswer }
+{}
+
+/// A whole head that has a fault is refused with that fault alone: the first in the order of `HttpFault`.
+pub fn one_fault()
+    ensures { OneFault }
 {}
