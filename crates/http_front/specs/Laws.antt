@@ -1,5 +1,5 @@
 -- Laws about messages at the front of bytes.
-use Rattle.std.specs.Prelude.{◌≡◌, ◌⊎◌, ◌<◌, ℕ, List, ◌++◌, length, Err}
+use Rattle.std.specs.Prelude.{◌≡◌, ◌≢◌, ◌⊎◌, ◌<◌, ◌==◌, ◌||◌, if◌then◌else◌, ℕ, zero, suc, List, [], ◌∷◌, ◌++◌, length, Bool, Err}
 use Rattle.httparse.specs.Grammar.{RequestHead, NeverHasRequest}
 use Rattle.http_front.specs.declared.judge.HttpFault.{HttpFault}
 use Rattle.http_front.specs.Heading.{heading_of}
@@ -19,6 +19,36 @@ OneMessage =
 -- no message is whole before the bytes are as many as is said
 abbrev pub StillAwaited : Type 0
 StillAwaited = (bytes piece : List ℕ) (whole : ℕ) → Awaits bytes whole → length (bytes ++ piece) < whole → Awaits (bytes ++ piece) whole
+
+-- ---- the lines of a crowded head
+
+abbrev pub is_end_byte : ℕ → Bool
+is_end_byte c = c == 13 || c == 10
+
+-- what stands behind the CR and LF bytes at the front
+abbrev pub behind_ends : List ℕ → List ℕ
+behind_ends [] = []
+behind_ends (c ∷ bytes) = if is_end_byte c then behind_ends bytes else c ∷ bytes
+
+-- what stands behind so many line feeds
+abbrev pub behind_lines : ℕ → List ℕ → List ℕ
+behind_lines zero bytes = bytes
+behind_lines (suc n) [] = []
+behind_lines (suc n) (c ∷ bytes) = if c == 10 then behind_lines n bytes else behind_lines (suc n) bytes
+
+-- behind the CR and LF bytes at the front stand 65 lines, and then a byte that is neither CR nor LF
+pub record HasManyLines (bytes : List ℕ) : Type 0 where
+  pub first : ℕ
+  pub rest : List ℕ
+  pub is : behind_lines 65 (behind_ends bytes) ≡ first ∷ rest
+  pub not_cr : first ≢ 13
+  pub not_lf : first ≢ 10
+
+-- a request line, 64 lines and the front of one more
+abbrev pub CrowdedHasManyLines : Type 0
+CrowdedHasManyLines = (bytes : List ℕ) → IsCrowded bytes → HasManyLines bytes
+
+-- ---- one answer
 
 -- What the bytes begin with decides the answer, but for this: bytes that no head can come of, or that are crowded, may also be read on;
 -- and those that no head can come of may bear two faults.

@@ -1,5 +1,5 @@
 // What follows from the definitions alone.
-ghost use Rattle.http_front.specs.Laws.{OneMessage, OneAnswer, OneFault, StillAwaited};
+ghost use Rattle.http_front.specs.Laws.{OneMessage, OneAnswer, OneFault, StillAwaited, CrowdedHasManyLines};
 
 /// No message begins another: bytes begin with one message at most, and a stream is cut in one way.
 pub fn one_message()
@@ -21,4 +21,10 @@ pub fn one_answer()
 /// A whole head that has a fault is refused with that fault alone: the first in the order of `HttpFault`.
 pub fn one_fault()
     ensures { OneFault }
+{}
+
+/// Bytes that are crowded have, behind the CR and LF bytes at their front, 65 lines and then the front
+/// of one more that isn't empty: a request line and more than 64 headers.
+pub fn crowded_has_many_lines()
+    ensures { CrowdedHasManyLines }
 {}
