@@ -1,3 +1,6 @@
-pub mod PartLemmas
-pub mod ScanLemmas
-pub mod Requests
+pub mod Bytes
+pub mod DigitLemmas
+pub mod Parts
+pub mod Heads
+pub mod Answering
+pub mod ManyLines

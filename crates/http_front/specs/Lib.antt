@@ -1,3 +1,8 @@
-pub mod Parts
+pub mod Digits
+pub mod Heading
+pub mod Judge
+pub mod Places
 pub mod Message
+pub mod Parsed
 pub mod Head
+pub mod Laws

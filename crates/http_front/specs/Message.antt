@@ -1,83 +1,91 @@
--- The form of a message, and how a stream is cut into messages.
-use Rattle.std.specs.Prelude.{◌≡◌, ◌≢◌, ◌≤◌, ◌-◌, ℕ, List, [], ◌∷◌, ◌++◌, length, take, codes}
-use Rattle.http_front.specs.declared.parts.Class.TheVariants.{Letter, Digit}
-use Rattle.http_front.specs.Parts.{Then, IsText, HasSize, IsRun, IsLine, value_of}
-use Rattle.http_front.specs.declared.message.Cut.{Cut}
+-- What a message is, and what a buffer begins with.
+use Rattle.std.specs.Prelude.{◌≡◌, ◌<◌, ◌≤◌, ◌+◌, ℕ, List, length, take, drop, map, All, Ok, Err}
+use Rattle.httparse.specs.Grammar.{RequestHead, print_request, ReadsRequest, HasNoRequest, NeverHasRequest, MayBecomeRequest}
+use Rattle.httparse.specs.Spans.{RequestOverflows, RequestExceeds, header_bytes, IsHeaderWithin}
+use Rattle.http_front.specs.declared.judge.HttpFault.{HttpFault}
+use Rattle.http_front.specs.declared.judge.HttpFault.TheVariants.{BadHead, TooLong}
 use Rattle.http_front.specs.declared.message.Step.{Step}
 use Rattle.http_front.specs.declared.message.Step.TheVariants as step
+use Rattle.http_front.specs.Heading.{Heading, heading_of}
+use Rattle.http_front.specs.Judge.{judged, closes_after}
+use Rattle.http_front.specs.Places.{Places, size_of}
 
 -- what a message says
 pub record Message : Type 0 where
-  pub operation : List ℕ
-  pub digits : List ℕ
+  pub head : Heading
   pub body : List ℕ
 
--- the lines of a head, up to what differs
-abbrev pub before_operation : List ℕ
-before_operation = codes "POST / HTTP/1.1\r\nHost: localhost\r\nContent-Type: application/x-amz-json-1.1\r\nX-Amz-Target: TrentService."
+-- The bytes begin with this head, and then these follow. A head is one that `httparse` states, of at most 64 headers and 16,384 bytes.
+pub record HasHead (bytes : List ℕ) (head : RequestHead) (rest : List ℕ) : Type 0 where
+  pub reads : ReadsRequest bytes head rest
+  pub few : length head.fields ≤ 64
+  pub short : length (print_request head) ≤ 16384
 
-abbrev pub before_length : List ℕ
-before_length = codes "\nContent-Length: "
-
-abbrev pub before_body : List ℕ
-before_body = codes "\n\r\n"
-
-abbrev pub text_of : Message → List ℕ
-text_of m = before_operation ++ ((m.operation ++ 13 ∷ []) ++ (before_length ++ ((m.digits ++ 13 ∷ []) ++ (before_body ++ m.body))))
-
--- the value of X-Amz-Target
-abbrev pub target_in : Message → List ℕ
-target_in m = codes "TrentService." ++ m.operation
-
--- the bytes of a message
+-- the bytes of a message: a head without fault, and a body of the size that it gives
 pub record IsMessage (m : Message) (bytes : List ℕ) : Type 0 where
-  pub text : bytes ≡ text_of m
-  pub operation : IsRun Letter m.operation
-  pub digits : IsRun Digit m.digits
-  pub size : length m.body ≡ value_of m.digits
+  pub head : RequestHead
+  pub has : HasHead bytes head m.body
+  pub says : m.head ≡ heading_of head
+  pub size : judged m.head ≡ Ok (length m.body)
 
--- ---- the same as texts in parts
+-- ---- a buffer that begins with no message yet
 
--- the number in a line
-abbrev pub size_in : List ℕ → ℕ
-size_in line = value_of (take (length line - 1) line)
+-- it is shorter than the longest head, begins with none, and may become one
+pub record AwaitsHead (bytes : List ℕ) : Type 0 where
+  pub few : length bytes < 16384
+  pub none : HasNoRequest bytes
+  pub goes_on : MayBecomeRequest bytes
 
-abbrev pub AfterLength : List ℕ → List ℕ → Type 0
-AfterLength line = Then (IsText before_body) (λ _. HasSize (size_in line))
+-- it begins with a head without fault, whose message has so many bytes, and isn't so long
+pub record AwaitsBody (bytes : List ℕ) (whole : ℕ) : Type 0 where
+  pub head : RequestHead
+  pub rest : List ℕ
+  pub has : HasHead bytes head rest
+  pub size : ℕ
+  pub judged_size : judged (heading_of head) ≡ Ok size
+  pub is_whole : whole ≡ length (print_request head) + size
+  pub few : length rest < size
 
-abbrev pub AfterSecond : List ℕ → Type 0
-AfterSecond = Then (IsLine Digit) AfterLength
+-- no message is whole, and none will be before the buffer has so many bytes
+pub data Awaits (bytes : List ℕ) : ℕ → Type 0 where
+  awaits_head : AwaitsHead bytes → Awaits bytes (length bytes + 1)
+  awaits_body : {whole : ℕ} → AwaitsBody bytes whole → Awaits bytes whole
 
-abbrev pub AfterOperation : List ℕ → Type 0
-AfterOperation = Then (IsText before_length) (λ _. AfterSecond)
+abbrev pub IsOpen : List ℕ → Type 0
+IsOpen bytes = (whole : ℕ) × Awaits bytes whole
 
-abbrev pub AfterFirst : List ℕ → Type 0
-AfterFirst = Then (IsLine Letter) (λ _. AfterOperation)
+-- ---- a buffer that is refused
 
-abbrev pub IsRequest : List ℕ → Type 0
-IsRequest = Then (IsText before_operation) (λ _. AfterFirst)
+-- no head stands in as many bytes as a head may have
+pub record HasLongHead (bytes : List ℕ) : Type 0 where
+  pub many : 16384 ≤ length bytes
+  pub none : HasNoRequest (take 16384 bytes)
 
--- ---- a buffer
+-- a front of it, ended here, is a head of more than 64 headers, and however it goes on, it begins with no head of fewer
+pub record IsCrowded (bytes : List ℕ) : Type 0 where
+  pub exceeds : RequestExceeds 64 bytes
+  pub overflows : RequestOverflows 64 bytes
 
--- the bytes begin with no message
-abbrev pub BeginsWithNone : List ℕ → Type 0
-BeginsWithNone bytes = (m : Message) (text rest : List ℕ) → IsMessage m text → bytes ≢ text ++ rest
+-- the faults, each by its cause
+pub data IsRefused (bytes : List ℕ) : HttpFault → Type 0 where
+  hopeless : NeverHasRequest bytes → IsRefused bytes BadHead
+  long_head : HasLongHead bytes → IsRefused bytes TooLong
+  crowded : IsCrowded bytes → IsRefused bytes TooLong
+  at_fault : {head : RequestHead} {rest : List ℕ} {why : HttpFault} → HasHead bytes head rest → judged (heading_of head) ≡ Err why → IsRefused bytes why
 
--- more bytes would make a message of them
-abbrev pub IsUnfinished : List ℕ → Type 0
-IsUnfinished bytes = (m : Message) × (more : List ℕ) × IsMessage m (bytes ++ more)
+-- ---- the cut of a message
 
--- however they go on, they begin with no message
-abbrev pub IsHopeless : List ℕ → Type 0
-IsHopeless bytes = (more : List ℕ) → BeginsWithNone (bytes ++ more)
-
--- this cut of the bytes is this message
-pub record CutsOff (bytes : List ℕ) (cut : Cut) (m : Message) : Type 0 where
-  pub within : cut.len ≤ length bytes
-  pub message : IsMessage m (take cut.len bytes)
+-- the bytes begin with this message, and its parts stand at these places
+pub record CutsOff (bytes : List ℕ) (cut : Places) (m : Message) : Type 0 where
+  pub within : size_of cut ≤ length bytes
+  pub message : IsMessage m (take (size_of cut) bytes)
+  pub fields : map (header_bytes bytes) cut.headers ≡ m.head.fields
+  pub fields_within : All (IsHeaderWithin (length bytes)) cut.headers
+  pub body : take cut.body (drop cut.head bytes) ≡ m.body
+  pub closes : cut.closes ≡ closes_after m.head
 
 -- what the bytes begin with
 abbrev pub Begins : List ℕ → Step → Type 0
 Begins bytes (step.Message cut) = (m : Message) × CutsOff bytes cut m
-Begins bytes step.NeedMore = BeginsWithNone bytes × IsUnfinished bytes
-Begins bytes (step.Bad fault) = IsHopeless bytes
+Begins bytes (step.NeedMore whole) = Awaits bytes whole
+Begins bytes (step.Bad why) = IsRefused bytes why

@@ -9,6 +9,9 @@ use std::marker::Model;
 
 const ROOM: usize = 320;
 
+// The line that ends a head.
+const EMPTY_LINE: &[u8] = b"\r\n";
+
 /// The head of a reply, in a fixed room. Contracts see the list of its bytes.
 #[derive(Drop)]
 pub struct Head {
@@ -75,7 +78,11 @@ fn reason(status: u16) -> &'static [u8]
         200 => b"OK",
         400 => b"Bad Request",
         404 => b"Not Found",
+        405 => b"Method Not Allowed",
+        411 => b"Length Required",
         412 => b"Precondition Failed",
+        413 => b"Content Too Large",
+        501 => b"Not Implemented",
         503 => b"Service Unavailable",
         _ => b"Internal Server Error",
     }
@@ -119,6 +126,6 @@ fn head_at(status: u16, size: usize, date: &[u8; 29], front: u64, closes: bool) 
     head.push_number(front);
     head.push(b"\r\n");
     head.push(close(closes));
-    head.push(b"\r\n");
+    head.push(EMPTY_LINE);
     head
 }

@@ -1,9 +1,17 @@
-//! HTTP messages: the cut of a stream into messages, and the heads of replies. No call takes memory.
+//! HTTP messages (RFC 9110 and RFC 9112): the cut of a stream into messages, and the heads of replies. No call takes memory.
 #![tactic(auto)]
 
+mod closing;
+mod digits;
+mod fields;
 mod head;
+mod judge;
+mod laws;
 mod message;
-mod parts;
+mod parsed;
 
+pub use digits::decimal;
 pub use head::{Head, write_head};
-pub use message::{Cut, HttpFault, Step, body_of, next_message, target_of};
+pub use judge::HttpFault;
+pub use laws::{crowded_has_many_lines, one_answer, one_fault, one_message, still_awaited};
+pub use message::{Cut, Step, next_message};

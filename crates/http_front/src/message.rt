@@ -1,183 +1,137 @@
 // Messages at the front of a buffer.
-ghost use Rattle.std.specs.Prelude.{◌≡◌, ◌≤◌, ◌∷◌, ◌++◌, ℕ, List, length, drop};
-ghost use Rattle.http_front.specs.Parts.{Scans, IsRun, IsLine, IsFirstLine, FitsAfter, shifted};
-ghost use Rattle.http_front.specs.Message.{Begins, size_in, AfterLength, AfterSecond, AfterOperation, AfterFirst, IsRequest, Message, IsMessage, target_in};
+ghost use Rattle.std.specs.Prelude.{◌≡◌, ◌≤◌, ℕ, length, take, drop, slice_get, option_copied, option_map};
+ghost use Rattle.httparse.specs.Grammar.{RequestHead};
+ghost use Rattle.http_front.specs.Heading.{values_of, heading_of};
+ghost use Rattle.http_front.specs.Judge.{judged};
+ghost use Rattle.http_front.specs.Places.{size_of};
+ghost use Rattle.http_front.specs.Parsed.{Shows};
+ghost use Rattle.http_front.specs.Message.{Begins, CutsOff, Message};
 
-use crate::parts::{Class, Scan, run_len, scan_line, scan_size, scan_text, small_value};
+use crate::closing::closes;
+use crate::fields::value_at;
+use crate::judge::{HttpFault, judge};
+use crate::parsed::{Look, Parsed, look_at};
+use httparse::spans::HeaderSpan;
+use std::marker::Model;
 
-/// Where a message ends.
-#[derive(Clone, Copy, Debug, PartialEq, Eq)]
+// The longest head, in bytes.
+const LONGEST_HEAD: usize = 16_384;
+
+/// A message that was found at the front of a buffer: the places of its parts. Contracts see them as `Places`.
+#[derive(Drop)]
 pub struct Cut {
-    /// The number of the message's bytes.
-    pub len: usize,
+    headers: [HeaderSpan; 64],
+    count: usize,
+    head: usize,
+    body: usize,
+    closes: bool,
 }
 
-/// Why bytes are no HTTP message that is served.
-#[derive(Clone, Copy, Debug, PartialEq, Eq)]
-pub enum HttpFault {
-    /// No message begins so.
-    BadHead,
+impl Model for Cut {
+    ghost use Rattle.std.specs.Prelude.{◌+◌, ◌<◌, ◌≤◌, ◌^◌, take};
+    ghost use Rattle.http_front.specs.Places.{Places};
+
+    ghost Value = { Places };
+
+    ghost view = { λ c. record { headers = take c.count c.headers; head = c.head; body = c.body; closes = c.closes } };
+
+    ghost invariant = { λ c. (c.count ≤ 64) × (c.head + c.body < 2 ^ 64) };
 }
 
 /// What a buffer begins with.
-#[derive(Clone, Copy, Debug, PartialEq, Eq)]
+#[derive(Drop)]
 pub enum Step {
     /// A whole message.
     Message(Cut),
-    /// The front of a message.
-    NeedMore,
-    /// Bytes that begin no message, however they go on.
+    /// No message yet, and none before the buffer has so many bytes.
+    NeedMore(usize),
+    /// Bytes that are refused.
     Bad(HttpFault),
 }
 
-const BEFORE_OPERATION: &[u8] =
-    b"POST / HTTP/1.1\r\nHost: localhost\r\nContent-Type: application/x-amz-json-1.1\r\nX-Amz-Target: TrentService.";
-
-// What stands before the operation in X-Amz-Target.
-const SERVICE: &[u8] = b"TrentService.";
-
-const BEFORE_LENGTH: &[u8] = b"\nContent-Length: ";
-
-const BEFORE_BODY: &[u8] = b"\n\r\n";
-
-fn after(bytes: &[u8], count: usize) -> &[u8]
-    requires { count ≤ length bytes.now }
-    ensures { result.now ≡ drop count bytes.now }
-{
-    &bytes[count..]
-}
-
-// What a scan has found, counted from some bytes before.
-fn shift(count: usize, scan: Scan) -> Scan
-    requires { FitsAfter count scan }
-    ensures { result ≡ shifted count scan }
-{
-    match scan {
-        Scan::Whole(n) => Scan::Whole(count + n),
-        Scan::Short => Scan::Short,
-        Scan::Differs => Scan::Differs,
+impl Cut {
+    /// The value of the k-th header of this name, counted from 0 in the order of the head; None where the
+    /// head has at most k of them. Names are compared without case (RFC 9110, section 5.1). The buffer is
+    /// the one in which the message was found.
+    pub fn header<'a>(&self, buffer: &'a [u8], name: &str, k: usize) -> Option<&'a [u8]>
+        requires { (m : Message) × CutsOff buffer.now self.now m }
+        ensures { (m : Message) → CutsOff buffer.now self.now m → option_copied result ≡ slice_get (values_of name.now m.head) k }
+    {
+        value_at(&self.headers[..self.count], buffer, name.as_bytes(), k)
     }
-}
 
-fn scan_after_length(bytes: &[u8], size: usize) -> Scan
-    ensures { (line : List ℕ) → size_in line ≡ size → Scans (AfterLength line) bytes.now result }
-{
-    match scan_text(bytes, BEFORE_BODY) {
-        Scan::Whole(n) => {
-            let rest = after(bytes, n);
-            let scan = scan_size(rest, size);
-            shift(n, scan)
+    /// The name and the value of the i-th header, counted from 0; None from the number of headers on. The
+    /// buffer is the one in which the message was found.
+    pub fn header_at<'a>(&self, buffer: &'a [u8], i: usize) -> Option<(&'a [u8], &'a [u8])>
+        requires { (m : Message) × CutsOff buffer.now self.now m }
+        ensures { (m : Message) → CutsOff buffer.now self.now m → option_map (λ f. (f.0.now, f.1.now)) result ≡ slice_get m.head.fields i }
+    {
+        if i >= self.count {
+            return None;
         }
-        Scan::Short => Scan::Short,
-        Scan::Differs => Scan::Differs,
+        let header = self.headers[i];
+        Some((header.name.of(buffer), header.value.of(buffer)))
+    }
+
+    /// The body. The buffer is the one in which the message was found.
+    pub fn body<'a>(&self, buffer: &'a [u8]) -> &'a [u8]
+        requires { (m : Message) × CutsOff buffer.now self.now m }
+        ensures { (m : Message) → CutsOff buffer.now self.now m → result.now ≡ m.body }
+    {
+        &buffer[self.head..self.head + self.body]
+    }
+
+    /// The number of the message's bytes.
+    pub fn len(&self) -> usize
+        ensures { result ≡ size_of self.now }
+    {
+        self.head + self.body
+    }
+
+    /// Whether the connection closes after the reply (RFC 9112, section 9.3).
+    pub fn closes(&self) -> bool
+        ensures { result ≡ self.now.closes }
+    {
+        self.closes
     }
 }
 
-fn scan_after_second(bytes: &[u8]) -> Scan
-    ensures { Scans AfterSecond bytes.now result }
+fn first(bytes: &[u8], most: usize) -> &[u8]
+    ensures { result.now ≡ take most bytes.now }
 {
-    match scan_line(bytes, Class::Digit) {
-        Scan::Whole(n) => {
-            let size = line_size(&bytes[..n]);
-            let rest = after(bytes, n);
-            let scan = scan_after_length(rest, size);
-            shift(n, scan)
-        }
-        Scan::Short => Scan::Short,
-        Scan::Differs => Scan::Differs,
+    &bytes[..bytes.len().min(most)]
+}
+
+// What a buffer begins with that has this head.
+fn with_head(parsed: Parsed, buffer: &[u8]) -> Step
+    requires { (head : RequestHead) × Shows buffer.now parsed head × (parsed.spans.len ≤ 16384) }
+    ensures { Begins buffer.now result }
+{
+    let head = parsed.spans.len;
+    match judge(&parsed, buffer) {
+        Err(why) => Step::Bad(why),
+        Ok(body) if body > buffer.len() - head => Step::NeedMore(head + body),
+        Ok(body) => Step::Message(Cut {
+            closes: closes(&parsed, buffer),
+            count: parsed.spans.headers,
+            headers: parsed.headers,
+            head,
+            body,
+        }),
     }
 }
 
-fn scan_after_operation(bytes: &[u8]) -> Scan
-    ensures { Scans AfterOperation bytes.now result }
-{
-    match scan_text(bytes, BEFORE_LENGTH) {
-        Scan::Whole(n) => {
-            let rest = after(bytes, n);
-            let scan = scan_after_second(rest);
-            shift(n, scan)
-        }
-        Scan::Short => Scan::Short,
-        Scan::Differs => Scan::Differs,
-    }
-}
-
-fn scan_after_first(bytes: &[u8]) -> Scan
-    ensures { Scans AfterFirst bytes.now result }
-{
-    match scan_line(bytes, Class::Letter) {
-        Scan::Whole(n) => {
-            let rest = after(bytes, n);
-            let scan = scan_after_operation(rest);
-            shift(n, scan)
-        }
-        Scan::Short => Scan::Short,
-        Scan::Differs => Scan::Differs,
-    }
-}
-
-fn scan_request(bytes: &[u8]) -> Scan
-    ensures { Scans IsRequest bytes.now result }
-{
-    match scan_text(bytes, BEFORE_OPERATION) {
-        Scan::Whole(n) => {
-            let rest = after(bytes, n);
-            let scan = scan_after_first(rest);
-            shift(n, scan)
-        }
-        Scan::Short => Scan::Short,
-        Scan::Differs => Scan::Differs,
-    }
-}
-
-// The number in a line.
-fn line_size(line: &[u8]) -> usize
-    requires { IsLine Class.Digit line.now }
-    ensures { result ≡ size_in line.now }
-{
-    let digits = &line[..line.len() - 1];
-    small_value(digits).unwrap() as usize
-}
-
-/// What the buffer begins with.
+/// What the buffer begins with (`Begins`). A head is read by `httparse` in its default configuration
+/// from the first 16,384 bytes and has at most 64 headers. The faults of a whole head come at once, in the
+/// order of `HttpFault`, without waiting for its body.
 pub fn next_message(buffer: &[u8]) -> Step
     ensures { Begins buffer.now result }
 {
-    match scan_request(buffer) {
-        Scan::Whole(len) => Step::Message(Cut { len }),
-        Scan::Short => Step::NeedMore,
-        Scan::Differs => Step::Bad(HttpFault::BadHead),
+    match look_at(first(buffer, LONGEST_HEAD)) {
+        Look::Whole(parsed) => with_head(parsed, buffer),
+        Look::Short if buffer.len() < LONGEST_HEAD => Step::NeedMore(buffer.len() + 1),
+        Look::Short => Step::Bad(HttpFault::TooLong),
+        Look::Crowded => Step::Bad(HttpFault::TooLong),
+        Look::Differs => Step::Bad(HttpFault::BadHead),
     }
-}
-
-// What follows a run and the end of its line.
-fn after_line(bytes: &[u8], class: Class) -> &[u8]
-    requires { IsFirstLine class bytes.now }
-    ensures { (run tail : List ℕ) → IsRun class run → bytes.now ≡ run ++ 13 ∷ tail → result.now ≡ tail }
-{
-    let n = run_len(bytes, class);
-    after(bytes, n + 1)
-}
-
-/// The value of the header X-Amz-Target of a message.
-pub fn target_of(text: &[u8]) -> &[u8]
-    requires { (m : Message) × IsMessage m text.now }
-    ensures { (m : Message) → IsMessage m text.now → result.now ≡ target_in m }
-{
-    let operation = after(text, BEFORE_OPERATION.len());
-    let n = run_len(operation, Class::Letter);
-    let target = after(text, BEFORE_OPERATION.len() - SERVICE.len());
-    &target[..SERVICE.len() + n]
-}
-
-/// The body of a message.
-pub fn body_of(text: &[u8]) -> &[u8]
-    requires { (m : Message) × IsMessage m text.now }
-    ensures { (m : Message) → IsMessage m text.now → result.now ≡ m.body }
-{
-    let first = after(text, BEFORE_OPERATION.len());
-    let second = after_line(first, Class::Letter);
-    let length = after(second, BEFORE_LENGTH.len());
-    let third = after_line(length, Class::Digit);
-    after(third, BEFORE_BODY.len())
 }

@@ -1,39 +1,45 @@
 -- A run keeps its pass's history lawful, and takes initialization vectors in order.
-use Rattle.std.proofs.Common.{◌≡◌, ◌≢◌, ◌<◌, ◌^◌, ◌⊎◌, inl, inr, ℕ, List, [], ◌∷◌, ◌++◌, length, Bool, true, false, Option, Some, None, Result, Ok, Err, refl, sym, ap, ◌∙◌, subst, arith}
+use Rattle.std.proofs.Common.{◌≡◌, ◌<◌, ◌⊎◌, inl, inr, ℕ, List, [], ◌∷◌, ◌++◌, Bool, true, Option, Some, None, Result, Ok, Err, refl, sym, ap, ◌∙◌, subst}
 use Rattle.std.proofs.lemmas.List.{map-append}
 use Rattle.kms_json.specs.declared.asks.Ask.{Ask}
 use Rattle.kms_json.specs.declared.asks.AskBody.{AskBody}
 use Rattle.kms_json.specs.declared.refusals.Refusal.{Refusal}
 use Rattle.kms_json.specs.declared.replies.Reply.{Reply}
-use Rattle.kms_json.specs.Asks.{asked, changes_account}
+use Rattle.kms_json.specs.Asks.{changes_account}
 use Rattle.account_core.specs.declared.facts.RealmFacts.{RealmFacts}
 use Rattle.account_core.specs.declared.entries.Entry.{Entry}
 use Rattle.account_core.specs.declared.places.Places.{Places}
 use Rattle.account_core.specs.Places.{IsUpTo, no_places}
 use Rattle.account_core.specs.History.{housekeeping_of}
 use Rattle.account_core.specs.Decide.{decide, account_of, IsProper, IsNext, appended, kept, IsLawful, longer}
-use Rattle.account_core.specs.Laws.{Sealing, HasSealed, PassGoesOn, no_request, one_more, wants_memory as left_short, iv_in}
+use Rattle.account_core.specs.Laws.{Sealing, HasSealed, PassGoesOn, no_request, one_more, wants_memory as left_short}
 use Rattle.account_core.proofs.GoingOn.{same_entry}
 use Rattle.account_core.proofs.LawFacts.{no_iv_again as account_law}
-use Rattle.http_front.specs.Message.{target_in}
+use Rattle.kms_session.specs.Asked.{asked_once, asked_in, after_in}
+use Rattle.kms_session.specs.declared.asked.After.{After}
+use Rattle.kms_session.specs.declared.asked.After.TheVariants.{Entries, Malformed}
+use Rattle.http_front.specs.Heading.{values_of}
+use Rattle.std.proofs.Common.{codes}
+use Rattle.kms_session.proofs.AskedLemmas.{once_asked}
 use Rattle.publish_pass.specs.Answers.{Answer}
-use Rattle.publish_pass.specs.Pass.{Pass, Reads, Wants, WantsChange, Changes, making_any, keeping_house, entries_of}
+use Rattle.publish_pass.specs.Pass.{Pass, Changes, making_any, keeping_house, entries_of}
 use Rattle.kms_session.specs.declared.trust.Trust.{Trust}
-use Rattle.kms_session.specs.Run.{Item, whole, fault, Plan, answered, asks, caller_of, planned, plan_of, Answers, early, reads, changes, Wanting, wants_nothing, wants_read, wants_change, Replies, answers, wants_memory, SessionRun, begins, goes_on}
+use Rattle.kms_session.specs.Run.{Item, whole, fault, asks, caller_of, planned, plan_of, Answers, early, reads, changes, Wanting, wants_nothing, wants_read, wants_change, Replies, answers, wants_memory, SessionRun, begins, goes_on}
 use Rattle.kms_session.specs.Laws.{RunsKeepLawful, SealsAt, OneSessionRepeatsNoIv}
-use Rattle.kms_session.proofs.ReplyLemmas.{facts_kept}
 
 -- ---- a request of a session is proper
 
 module _ (facts : RealmFacts) (trust : Trust) (c : ℕ) (before : c < 253402300800) (caller : account_of (caller_of trust) ≡ facts.account) (x : Ask) where
-  proper_of : (target text : List ℕ) (r : Result AskBody Refusal) → asked target text ≡ r → planned trust c r ≡ asks x → IsProper facts x
-  proper_of target text (Ok body) is e =
-      let same : ◌≡◌ {A = Ask} (record { body = body; caller = caller_of trust; moment = c; after = None }) x = cc in
-      subst (IsProper facts) same (record { target = target; text = text; body = is; caller = caller; moment = before })
-  proper_of target text (Err refusal) is e = cc
+  proper_of : (values : List (List ℕ)) (text : List ℕ) (r : Result AskBody Refusal) (after : After) → asked_once values text ≡ r → planned trust c r after ≡ asks x → IsProper facts x
+  proper_of values text (Ok body) (Entries after) is e =
+      let same : ◌≡◌ {A = Ask} (record { body = body; caller = caller_of trust; moment = c; after = after }) x = cc in
+      let target = once_asked values text body is in
+      subst (IsProper facts) same (record { target = target.0; text = text; body = target.1; caller = caller; moment = before })
+  proper_of values text (Ok body) Malformed is e = cc
+  proper_of values text (Err refusal) after is e = cc
 
   proper_item : (item : Item) → plan_of trust item c ≡ asks x → IsProper facts x
-  proper_item (whole m) e = proper_of (target_in m) m.body (asked (target_in m) m.body) refl e
+  proper_item (whole m) e = proper_of (values_of (codes "X-Amz-Target") m.head) m.body (asked_in m) (after_in m) refl e
   proper_item (fault why) e = cc
 
 -- ---- a pass whose history is lawful

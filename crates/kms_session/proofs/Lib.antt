@@ -1,4 +1,5 @@
 mod Wires
+mod AskedLemmas
 mod Messages
 mod Runs
 mod ReplyLemmas

@@ -1,18 +1,17 @@
--- How long a message is.
-use Rattle.std.proofs.Common.{◌≡◌, ◌<◌, ◌≤◌, ℕ, List, [], ◌∷◌, ◌++◌, length, sym, ap, ◌∙◌, append-nil, arith, length-append}
-use Rattle.std.proofs.Common.{true, false, ◌==◌, suc, subst}
+-- How long a buffer is.
+use Rattle.std.proofs.Common.{◌≡◌, ◌<◌, ℕ, List, [], ◌∷◌, ◌++◌, length, sym, arith}
+use Rattle.std.proofs.Common.{Bool, true, false, ◌||◌, ◌+◌, ◌==◌, suc, subst}
 use Rattle.std.proofs.lemmas.Bool.Decides.{nat_tests}
-use Rattle.http_front.specs.Message.{Message, IsMessage, BeginsWithNone, IsUnfinished}
+use Rattle.http_front.specs.Message.{Awaits}
+use Rattle.http_front.proofs.Answering.{whole_fits, whole_more, awaits_more}
 
-pub message_fits : {m : Message} {text : List ℕ} → IsMessage m text → length text ≤ 147456
-message_fits {m} {text} is = omega (arith, simp length-append at (ap length is.text))
+pub awaited_fits : {bytes : List ℕ} {whole : ℕ} → Awaits bytes whole → length bytes < 147456
+awaited_fits a = omega (arith, whole_fits a, whole_more a)
 
-pub some_more : (bytes more : List ℕ) (m : Message) → IsMessage m (bytes ++ more) → BeginsWithNone bytes → length bytes < 147456
-some_more bytes [] m is none = absurd (none m (bytes ++ []) [] is (sym (append-nil bytes) ∙ sym (append-nil (bytes ++ []))))
-some_more bytes (byte ∷ more) m is none = omega (arith, message_fits is, simp length-append at (message_fits is))
-
-pub unfinished_fits : (bytes : List ℕ) → BeginsWithNone bytes × IsUnfinished bytes → length bytes < 147456
-unfinished_fits bytes h = some_more bytes h.1.1 h.1.0 h.1.2 h.0
+-- where fewer have come than are awaited
+pub awaited_on : {bytes all : List ℕ} {whole : ℕ} (piece : List ℕ) → Awaits bytes whole → all ≡ bytes ++ piece → length all < whole → Awaits all whole
+awaited_on {bytes} {all} {whole} piece a grows short =
+    subst (λ (now : List ℕ). Awaits now whole) (sym grows) (awaits_more piece a (subst (λ (now : List ℕ). length now < whole) grows short))
 
 not_empty : (n : ℕ) → true ≡ (suc n == 0) → ⊥
 not_empty n is = grind (arith, nat_tests)
@@ -27,8 +26,6 @@ empty_buffer buffer (byte ∷ bytes) same is = absurd (not_empty (length bytes) 
 pub some_left : (buffer bytes : List ℕ) → bytes ≡ buffer → false ≡ (length bytes == 0) → 0 < length buffer
 some_left buffer bytes same is = subst (λ (all : List ℕ). 0 < length all) same (positive (length bytes) is)
 
-pub same : (m n : ℕ) → m ≡ n → (m == n) ≡ true
-same m n is = grind (arith, nat_tests)
-
-pub other : (m n : ℕ) → ¬ (m ≡ n) → (m == n) ≡ false
-other m n is = grind (arith, nat_tests)
+pub not_last : (closed : Bool) (number : ℕ) → false ≡ (closed || (number + 1 == 100000)) → number < 100000 → number + 1 < 100000
+not_last true number is few = cc
+not_last false number is few = grind (arith, nat_tests)

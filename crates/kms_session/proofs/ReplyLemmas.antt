@@ -7,12 +7,20 @@ use Rattle.publish_pass.specs.declared.pass.Answered.{Answered}
 use Rattle.http_front.specs.Head.{IsHead}
 use Rattle.kms_json.specs.declared.asks.Ask.{Ask}
 use Rattle.kms_json.specs.declared.replies.Reply.{Reply}
-use Rattle.kms_json.specs.Asks.{asked, changes_account}
+use Rattle.kms_json.specs.declared.replies.Reply.TheVariants.{Refused}
+use Rattle.kms_json.specs.Asks.{AnswersFor, refusal_of, changes_account}
 use Rattle.account_core.specs.declared.entries.Entry.{Entry}
 use Rattle.account_core.specs.History.{housekeeping_of}
 use Rattle.account_core.specs.Decide.{decide}
 use Rattle.kms_session.specs.declared.trust.Trust.{Trust}
-use Rattle.http_front.specs.Message.{Message, target_in}
+use Rattle.http_front.specs.Message.{Message}
+use Rattle.std.proofs.Common.{Result, Err}
+use Rattle.kms_json.specs.declared.asks.AskBody.{AskBody}
+use Rattle.kms_json.specs.declared.asks.JsonFault.{JsonFault}
+use Rattle.kms_json.specs.declared.asks.JsonFault.TheVariants.{UnknownOperation, Serialization, Validation, NoMemory}
+use Rattle.kms_json.specs.declared.replies.Refusal.{Refusal}
+use Rattle.kms_session.specs.Asked.{asked_in, after_in}
+use Rattle.kms_session.specs.declared.asked.After.{After}
 use Rattle.publish_pass.specs.Answers.{Answer, answer_in, answer_of}
 use Rattle.kms_session.specs.Answers.{IsReplyText, five_hundred}
 use Rattle.publish_pass.specs.Pass.{Pass, Reads, Wants, WantsChange, Changes, keeping_house, making_any, entries_of}
@@ -118,9 +126,20 @@ replied_given sent s t plan other a body second closes old new same is gives rep
     let P : List ℕ → Type 0 = λ b. MatchBool sent (SendsReply (record { status = a.status; body = b }) second a.front closes old new) (SendsReplyShort (record { status = a.status; body = b }) second a.front closes old new) in
     replied sent s plan (answer_in a) second a.front closes old new t (subst (λ (p : Plan). Answers s p (answer_in a) t) same gives.answers) gives.front (subst P is reply)
 
--- what a message comes to, from its parts
-pub plan_from : (trust : Trust) (c : ℕ) (m : Message) (target body : List ℕ) → target ≡ target_in m → body ≡ m.body → planned trust c (asked target body) ≡ plan_of trust (whole m) c
-plan_from trust c m target body is has = ap₂ (λ (t : List ℕ) (b : List ℕ). planned trust c (asked t b)) is has
+-- what a message comes to, from what it asks
+pub plan_from : (trust : Trust) (c : ℕ) (m : Message) (r : Result AskBody Refusal) (after : After) → asked_in m ≡ r → after ≡ after_in m → planned trust c r after ≡ plan_of trust (whole m) c
+plan_from trust c m r after is has = ap₂ (λ (r : Result AskBody Refusal) (a : After). planned trust c r a) (sym is) has
+
+-- what is refused, whatever else stands
+pub refused_is : (r : Result AskBody Refusal) (fault : JsonFault) (refusal : Refusal) → AnswersFor r (Err fault) → Some refusal ≡ refusal_of fault → r ≡ Err refusal
+refused_is r UnknownOperation refusal is e = cc
+refused_is r Serialization refusal is e = cc
+refused_is r (Validation field) refusal is e = cc
+refused_is r NoMemory refusal is e = cc
+
+pub refused_plan : (trust : Trust) (c : ℕ) (m : Message) (fault : JsonFault) (refusal : Refusal) → AnswersFor (asked_in m) (Err fault) → Some refusal ≡ refusal_of fault
+    → answered (answer_of (Refused refusal)) ≡ plan_of trust (whole m) c
+refused_plan trust c m fault refusal is e = plan_from trust c m (Err refusal) (after_in m) (refused_is (asked_in m) fault refusal is e) refl
 
 any_facts : (s t : Pass) (entry : Option Entry) → t ≡ making_any s entry → t.facts ≡ s.facts
 any_facts s t None is = ap (λ (p : Pass). p.facts) is

@@ -1,13 +1,13 @@
 -- How a run goes on.
-use Rattle.std.proofs.Common.{◌≡◌, ◌<◌, ◌+◌, ℕ, List, [], ◌∷◌, ◌++◌, Bool, true, false, refl, sym, ap, ◌∙◌, append_assoc, append-nil, add-zero, add_assoc, length, Option, length-append, subst, drop, arith}
+use Rattle.std.proofs.Common.{◌≡◌, ◌<◌, ◌+◌, ℕ, List, [], ◌∷◌, ◌++◌, Bool, true, false, ◌||◌, ◌==◌, refl, sym, ap, ◌∙◌, append_assoc, append-nil, add-zero, add_assoc, length, Option, length-append, subst, drop, arith}
 use Rattle.std.proofs.lemmas.List.{take-append-drop}
 use Rattle.kms_io.specs.Wire.{Wire, with_more, with_first, TellsMore}
 use Rattle.kms_io.specs.declared.link.Move.{Move}
-use Rattle.http_front.specs.declared.message.Cut.{Cut}
-use Rattle.http_front.specs.declared.message.HttpFault.{HttpFault}
+use Rattle.http_front.specs.Places.{Places, size_of}
+use Rattle.http_front.specs.declared.judge.HttpFault.{HttpFault}
 use Rattle.kms_session.specs.declared.trust.Trust.{Trust}
 use Rattle.kms_session.specs.Inbox.{Receives}
-use Rattle.http_front.specs.Message.{Message, IsHopeless, CutsOff}
+use Rattle.http_front.specs.Message.{Message, IsRefused, CutsOff}
 use Rattle.kms_session.specs.Run.{Item, whole, fault, closes_at, plan_of, Turn, goes_on, begins, Cuts, nothing, message, no_message}
 use Rattle.publish_pass.specs.Pass.{Pass}
 use Rattle.kms_session.specs.Pace.{Gathers, no_read, one_read, no_bytes, PutsOut, no_write, one_write, Paced, paced_from, then_read, then_nothing, then_answer, then_write}
@@ -100,24 +100,28 @@ serves_item {trust} {start} {old} {new} {count} {buffer} {reply} {more} item c b
   write_faults = omega (arith, s.write_faults, sends.faults);
 }
 
+-- whether the reply to a message closes
+pub message_closes : {buffer : List ℕ} {cut : Places} {closes : Bool} (m : Message) (number : ℕ) → closes ≡ (cut.closes || (number + 1 == 100000)) → CutsOff buffer cut m → closes ≡ closes_at number (whole m)
+message_closes m number is cuts = is ∙ ap (λ (b : Bool). b || (number + 1 == 100000)) cuts.closes
+
 -- a message at the front of the buffer is cut off
-cuts_message : {trust : Trust} {start old : Outside} {count : ℕ} {buffer : List ℕ} {closes : Bool} (cut : Cut) (m : Message) (s : Serves trust start old false count buffer) → CutsOff buffer cut m
-    → closes ≡ closes_at count (whole m) → Cuts s.input closes (s.items ++ whole m ∷ []) (drop cut.len buffer)
+cuts_message : {trust : Trust} {start old : Outside} {count : ℕ} {buffer : List ℕ} {closes : Bool} (cut : Places) (m : Message) (s : Serves trust start old false count buffer) → CutsOff buffer cut m
+    → closes ≡ closes_at count (whole m) → Cuts s.input closes (s.items ++ whole m ∷ []) (drop (size_of cut) buffer)
 cuts_message {buffer = buffer} cut m s cuts is =
-    message s.cuts (sym (take-append-drop cut.len buffer)) cuts.message (is ∙ ap (λ n. closes_at n (whole m)) (sym s.number))
+    message s.cuts (sym (take-append-drop (size_of cut) buffer)) cuts.message (is ∙ ap (λ n. closes_at n (whole m)) (sym s.number))
 
 -- a message at the front of the buffer is answered
-pub serves_message : {trust : Trust} {start old new : Outside} {count c : ℕ} {buffer : List ℕ} {closes : Bool} (cut : Cut) (m : Message) → Serves trust start old false count buffer → CutsOff buffer cut m
+pub serves_message : {trust : Trust} {start old new : Outside} {count c : ℕ} {buffer : List ℕ} {closes : Bool} (cut : Places) (m : Message) → Serves trust start old false count buffer → CutsOff buffer cut m
     → closes ≡ closes_at count (whole m) → c < 253402300800 → TellsMore old.clock (c ∷ []) new.clock
     → Responds old.pass (plan_of trust (whole m) c) c closes old.wire new.wire new.pass
-    → Serves trust start new closes (count + 1) (drop cut.len buffer)
+    → Serves trust start new closes (count + 1) (drop (size_of cut) buffer)
 serves_message {c = c} {closes = closes} cut m s cuts is bound tells r = serves_item (whole m) c bound closes s (cuts_message cut m s cuts is) is r.replies r.sends tells
 
--- bytes that no message begins with are answered
-pub serves_fault : {trust : Trust} {start old new : Outside} {count c : ℕ} {buffer : List ℕ} (why : HttpFault) → Serves trust start old false count buffer → IsHopeless buffer
+-- bytes that are refused are answered
+pub serves_fault : {trust : Trust} {start old new : Outside} {count c : ℕ} {buffer : List ℕ} (why : HttpFault) → Serves trust start old false count buffer → IsRefused buffer why
     → c < 253402300800 → TellsMore old.clock (c ∷ []) new.clock → Responds old.pass (plan_of trust (fault why) c) c true old.wire new.wire new.pass
     → Serves trust start new true (count + 1) buffer
-serves_fault {c = c} why s hopeless bound tells r = serves_item (fault why) c bound true s (no_message why s.cuts hopeless) refl r.replies r.sends tells
+serves_fault {c = c} why s refused bound tells r = serves_item (fault why) c bound true s (no_message why s.cuts refused) refl r.replies r.sends tells
 
 -- the same, where the test has come out
 pub serves_where : {trust : Trust} {start new : Outside} {count : ℕ} {rest : List ℕ} {closes is : Bool} → closes ≡ is → Serves trust start new closes count rest → Serves trust start new is count rest
@@ -127,14 +131,14 @@ pub serves_rest : {trust : Trust} {start new : Outside} {count : ℕ} {rest same
 serves_rest {trust} {start} {new} {count} {closes = closes} e s = subst (Serves trust start new closes count) (sym e) s
 
 -- a reply to a message that was cut short ends the session
-pub breaks_at_message : {trust : Trust} {start old new : Outside} {count c : ℕ} {buffer : List ℕ} {closes : Bool} (cut : Cut) (m : Message) → Serves trust start old false count buffer → CutsOff buffer cut m
+pub breaks_at_message : {trust : Trust} {start old new : Outside} {count c : ℕ} {buffer : List ℕ} {closes : Bool} (cut : Places) (m : Message) → Serves trust start old false count buffer → CutsOff buffer cut m
     → closes ≡ closes_at count (whole m) → c < 253402300800 → TellsMore old.clock (c ∷ []) new.clock
     → RespondsShort old.pass (plan_of trust (whole m) c) c closes old.wire new.wire new.pass → BreaksOff trust start new
 breaks_at_message {old = old} {count = count} {c = c} {buffer = buffer} {closes = closes} cut m s cuts is bound tells r = record {
   so_far = old;
   count = count;
   buffer = buffer;
-  rest = drop cut.len buffer;
+  rest = drop (size_of cut) buffer;
   item = whole m;
   c = c;
   closes = closes;
@@ -149,11 +153,11 @@ breaks_at_message {old = old} {count = count} {c = c} {buffer = buffer} {closes 
   rose = rose_since _ _ _ s.write_faults r.short.rose;
 }
 
--- and so does one to what no message begins with
-pub breaks_at_fault : {trust : Trust} {start old new : Outside} {count c : ℕ} {buffer : List ℕ} (why : HttpFault) → Serves trust start old false count buffer → IsHopeless buffer
+-- and so does one to bytes that are refused
+pub breaks_at_fault : {trust : Trust} {start old new : Outside} {count c : ℕ} {buffer : List ℕ} (why : HttpFault) → Serves trust start old false count buffer → IsRefused buffer why
     → c < 253402300800 → TellsMore old.clock (c ∷ []) new.clock
     → RespondsShort old.pass (plan_of trust (fault why) c) c true old.wire new.wire new.pass → BreaksOff trust start new
-breaks_at_fault {old = old} {count = count} {c = c} {buffer = buffer} why s hopeless bound tells r = record {
+breaks_at_fault {old = old} {count = count} {c = c} {buffer = buffer} why s refused bound tells r = record {
   so_far = old;
   count = count;
   buffer = buffer;
@@ -162,7 +166,7 @@ breaks_at_fault {old = old} {count = count} {c = c} {buffer = buffer} why s hope
   c = c;
   closes = true;
   serves = s;
-  cuts = no_message why s.cuts hopeless;
+  cuts = no_message why s.cuts refused;
   is = refl;
   before_year_10000 = bound;
   told = tells;

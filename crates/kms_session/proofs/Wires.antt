@@ -7,7 +7,8 @@ use Rattle.kms_io.specs.Wire.{Wire, with_more, with_first, TellsMore, RoseBy}
 use Rattle.kms_io.specs.Link.{Takes, Sends}
 use Rattle.kms_io.specs.declared.link.Move.{Move}
 use Rattle.kms_io.specs.declared.link.Move.TheVariants.{In, Out}
-use Rattle.kms_session.specs.Pace.{IsOpen, Gathers, no_read, one_read, no_bytes, PutsOut, no_write, one_write}
+use Rattle.http_front.specs.Message.{IsOpen}
+use Rattle.kms_session.specs.Pace.{no_read, one_read, no_bytes, PutsOut, no_write, one_write}
 use Rattle.kms_session.specs.Session.{SendsWhole, SendsShort}
 use Rattle.kms_session.specs.Inbox.{Receives, Gets, GetsNothing}
 

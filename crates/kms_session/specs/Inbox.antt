@@ -8,7 +8,7 @@ use Rattle.kms_io.specs.declared.link.Took.TheVariants.{Got, End, Failed}
 use Rattle.kms_session.specs.declared.waiting.Awaited.{Awaited}
 use Rattle.kms_session.specs.declared.waiting.Awaited.TheVariants as awaited
 use Rattle.kms_session.specs.Pace.{Gathers}
-use Rattle.http_front.specs.Message.{Message, CutsOff, IsHopeless, BeginsWithNone, IsUnfinished}
+use Rattle.http_front.specs.Message.{Message, CutsOff, IsOpen, IsRefused}
 
 -- these bytes came from the link to the end of the buffer, by reads that each found it open
 pub record Receives (old : Wire) (before : List ℕ) (new : Wire) (after : List ℕ) : Type 0 where
@@ -41,6 +41,6 @@ Fills old before Failed new after = GetsNothing old before new after × RoseBy 1
 -- what the buffer begins with, once no further read is needed or possible
 abbrev pub Finds : Wire → Wire → List ℕ → Awaited → Type 0
 Finds old new buffer (awaited.Message cut) = (m : Message) × CutsOff buffer cut m
-Finds old new buffer (awaited.Bad fault) = IsHopeless buffer
-Finds old new buffer awaited.End = BeginsWithNone buffer × IsUnfinished buffer × IsAtEnd new
-Finds old new buffer awaited.Failed = BeginsWithNone buffer × RoseBy 1 old.read_faults new.read_faults
+Finds old new buffer (awaited.Bad fault) = IsRefused buffer fault
+Finds old new buffer awaited.End = IsOpen buffer × IsAtEnd new
+Finds old new buffer awaited.Failed = IsOpen buffer × RoseBy 1 old.read_faults new.read_faults

@@ -1,18 +1,27 @@
 -- Laws about the cut of a stream and the ends of a session.
-use Rattle.std.specs.Prelude.{◌≡◌, ◌≢◌, ℕ, List, length, Bool, Some}
+use Rattle.std.specs.Prelude.{◌≡◌, ◌≢◌, ◌⊎◌, ℕ, List, [], ◌∷◌, ◌++◌, length, Bool, Some}
+use Rattle.httparse.specs.Grammar.{NeverHasRequest}
+use Rattle.http_front.specs.declared.judge.HttpFault.{HttpFault}
+use Rattle.http_front.specs.Message.{IsCrowded}
 use Rattle.kms_session.specs.declared.trust.Trust.{Trust}
 use Rattle.kms_json.specs.declared.asks.Ask.{Ask}
 use Rattle.kms_json.specs.declared.replies.Reply.{Reply}
 use Rattle.account_core.specs.Decide.{account_of, IsLawful}
 use Rattle.account_core.specs.Laws.{Sealing, HasSealed, iv_in}
 use Rattle.publish_pass.specs.Pass.{Pass, Reads, entries_of}
-use Rattle.kms_session.specs.Run.{Item, Cuts, SessionRun, caller_of, plan_of, asks}
+use Rattle.kms_session.specs.Run.{Item, fault, Cuts, SessionRun, caller_of, plan_of, asks}
 use Rattle.kms_session.specs.Session.{Outside, EndsBetween, EndsClosed, EndsInside}
+
+-- The items are the same, or they end in two names of one fault: bytes that no head can come of may bear another fault, as one
+-- of too many headers.
+pub data AreAlike (rest : List ℕ) (items others : List Item) : Type 0 where
+  same_items : items ≡ others → AreAlike rest items others
+  two_names : (front : List Item) (why other : HttpFault) → items ≡ front ++ fault why ∷ [] → others ≡ front ++ fault other ∷ [] → NeverHasRequest rest → AreAlike rest items others
 
 -- a stream is cut in one way
 abbrev pub OneCut : Type 0
 OneCut = (stream : List ℕ) (closes other : Bool) (items others : List Item) (rest last : List ℕ) → Cuts stream closes items rest → Cuts stream other others last
-    → length items ≡ length others → (items ≡ others) × (rest ≡ last)
+    → length items ≡ length others → AreAlike rest items others × (rest ≡ last)
 
 -- the bytes taken before and after are told
 pub record TellsTaken (old new : Outside) : Type 0 where
@@ -21,11 +30,12 @@ pub record TellsTaken (old new : Outside) : Type 0 where
   pub tells_before : old.wire.taken ≡ Some before
   pub tells_after : new.wire.taken ≡ Some after
 
--- no two of the ends that are no faults hold of one session
+-- No two of the ends that are no faults hold of one session, but for this: a session whose rest no head can come of, or has more
+-- than 64 headers, may be cut off or closed.
 pub record IsOneEnd (trust : Trust) (old new : Outside) : Type 0 where
   pub not_ended_and_closed : EndsBetween trust old new → EndsClosed trust old new → ⊥
   pub not_ended_and_cut_off : EndsBetween trust old new → EndsInside trust old new → ⊥
-  pub not_cut_off_and_closed : EndsInside trust old new → EndsClosed trust old new → ⊥
+  pub cut_off_and_closed : (inside : EndsInside trust old new) → EndsClosed trust old new → NeverHasRequest inside.rest ⊎ IsCrowded inside.rest
 
 abbrev pub OneEnd : Type 0
 OneEnd = (trust : Trust) (old new : Outside) → TellsTaken old new → IsOneEnd trust old new

@@ -1,5 +1,6 @@
 pub mod Answers
 pub mod Inbox
+pub mod Asked
 pub mod Run
 pub mod Pace
 pub mod Session

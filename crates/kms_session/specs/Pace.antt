@@ -3,14 +3,10 @@ use Rattle.std.specs.Prelude.{◌≡◌, ◌<◌, ◌+◌, ℕ, List, [], ◌∷
 use Rattle.kms_io.specs.Wire.{TellsMore}
 use Rattle.kms_io.specs.declared.link.Move.{Move}
 use Rattle.kms_io.specs.declared.link.Move.TheVariants.{In, Out}
-use Rattle.http_front.specs.Message.{BeginsWithNone, IsUnfinished}
+use Rattle.http_front.specs.Message.{IsOpen}
 use Rattle.publish_pass.specs.Pass.{Pass}
 use Rattle.kms_session.specs.declared.trust.Trust.{Trust}
 use Rattle.kms_session.specs.Run.{Item, Turn, Cuts, closes_at}
-
--- the bytes are no whole message, and more of them may make one
-abbrev pub IsOpen : List ℕ → Type 0
-IsOpen bytes = BeginsWithNone bytes × IsUnfinished bytes
 
 -- these bytes came behind those before, by reads that each found an open buffer
 pub data Gathers (told : Option (List Move)) (before : List ℕ) : List ℕ → Option (List Move) → Type 0 where

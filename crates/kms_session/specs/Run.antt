@@ -1,28 +1,33 @@
 -- A session as a run of turns over what is due.
-use Rattle.std.specs.Prelude.{◌≡◌, ◌<◌, ◌+◌, ◌==◌, ℕ, List, [], ◌∷◌, ◌++◌, length, Bool, true, false, None, Result, Ok, Err}
+use Rattle.std.specs.Prelude.{◌≡◌, ◌<◌, ◌+◌, ◌==◌, ℕ, List, [], ◌∷◌, ◌++◌, length, Bool, true, false, ◌||◌, Result, Ok, Err, codes}
 use Rattle.kms_names.specs.declared.principals.Principal.{Principal}
 use Rattle.kms_json.specs.declared.asks.Ask.{Ask}
 use Rattle.kms_json.specs.declared.asks.AskBody.{AskBody}
 use Rattle.kms_json.specs.declared.replies.Reply.{Reply}
 use Rattle.kms_json.specs.declared.replies.Reply.TheVariants.{Refused}
-use Rattle.kms_json.specs.declared.refusals.Refusal.{Refusal}
-use Rattle.kms_json.specs.Asks.{asked, changes_account}
-use Rattle.http_front.specs.declared.message.HttpFault.{HttpFault}
+use Rattle.kms_json.specs.declared.replies.Refusal.{Refusal}
+use Rattle.kms_json.specs.declared.replies.Refusal.TheVariants.{Validation}
+use Rattle.kms_json.specs.Asks.{changes_account}
+use Rattle.http_front.specs.declared.judge.HttpFault.{HttpFault}
 use Rattle.kms_session.specs.declared.trust.Trust.{Trust}
 use Rattle.kms_session.specs.declared.trust.Trust.TheVariants.{Word}
-use Rattle.http_front.specs.Message.{Message, IsMessage, IsHopeless, target_in}
+use Rattle.http_front.specs.Judge.{closes_after}
+use Rattle.http_front.specs.Message.{Message, IsMessage, IsRefused}
+use Rattle.kms_session.specs.Asked.{asked_in, after_in}
+use Rattle.kms_session.specs.declared.asked.After.{After}
+use Rattle.kms_session.specs.declared.asked.After.TheVariants.{Entries, Malformed}
 use Rattle.publish_pass.specs.Answers.{Answer, answer_of}
 use Rattle.kms_session.specs.Answers.{fault_answer, IsReplyText, five_hundred}
 use Rattle.publish_pass.specs.Pass.{Pass, Reads, Changes, Wants, WantsChange}
 
--- what is answered: a message, or bytes that no message begins with
+-- what is answered: a message, or bytes that are refused
 pub data Item : Type 0 where
   whole : Message → Item
   fault : HttpFault → Item
 
 -- whether the reply to the item at this place, counted from 0, closes the session
 abbrev pub closes_at : ℕ → Item → Bool
-closes_at place (whole m) = place + 1 == 100000
+closes_at place (whole m) = closes_after m.head || (place + 1 == 100000)
 closes_at place (fault why) = true
 
 -- the caller that is trusted
@@ -34,12 +39,14 @@ pub data Plan : Type 0 where
   answered : Answer → Plan
   asks : Ask → Plan
 
-abbrev pub planned : Trust → ℕ → Result AskBody Refusal → Plan
-planned trust c (Ok body) = asks (record { body = body; caller = caller_of trust; moment = c; after = None })
-planned trust c (Err refusal) = answered (answer_of (Refused refusal))
+-- the header x-kms-after is judged after all that the body asks
+abbrev pub planned : Trust → ℕ → Result AskBody Refusal → After → Plan
+planned trust c (Ok body) (Entries after) = asks (record { body = body; caller = caller_of trust; moment = c; after = after })
+planned trust c (Ok body) Malformed = answered (answer_of (Refused (Validation (codes "x-kms-after"))))
+planned trust c (Err refusal) after = answered (answer_of (Refused refusal))
 
 abbrev pub plan_of : Trust → Item → ℕ → Plan
-plan_of trust (whole m) c = planned trust c (asked (target_in m) m.body)
+plan_of trust (whole m) c = planned trust c (asked_in m) (after_in m)
 plan_of trust (fault why) c = answered (fault_answer why)
 
 -- the answer to a plan, and what the pass holds afterwards
@@ -79,4 +86,4 @@ pub data Cuts (stream : List ℕ) : Bool → List Item → List ℕ → Type 0 w
       → Cuts stream false items rest → rest ≡ text ++ more → IsMessage m text → closes ≡ closes_at (length items) (whole m)
       → Cuts stream closes (items ++ whole m ∷ []) more
   no_message : {items : List Item} {rest : List ℕ} (why : HttpFault)
-      → Cuts stream false items rest → IsHopeless rest → Cuts stream true (items ++ fault why ∷ []) rest
+      → Cuts stream false items rest → IsRefused rest why → Cuts stream true (items ++ fault why ∷ []) rest

@@ -5,7 +5,7 @@ use Rattle.kms_io.specs.Link.{Sends, IsAtEnd}
 use Rattle.kms_session.specs.declared.trust.Trust.{Trust}
 use Rattle.kms_session.specs.declared.session.SessionEnd.{SessionEnd}
 use Rattle.kms_session.specs.declared.session.SessionEnd.TheVariants.{Ended, Closed, CutOff, ReadFault, WriteFault, NoMemory}
-use Rattle.http_front.specs.Message.{BeginsWithNone, IsUnfinished}
+use Rattle.http_front.specs.Message.{IsOpen}
 use Rattle.publish_pass.specs.Pass.{Pass}
 use Rattle.kms_session.specs.Pace.{PutsOut, Paced}
 use Rattle.kms_session.specs.Run.{Item, Plan, Replies, Turn, Cuts, SessionRun, closes_at}
@@ -81,8 +81,7 @@ pub record EndsInside (trust : Trust) (old new : Outside) : Type 0 where
   pub rest : List ℕ
   pub serves : Serves trust old new false count rest
   pub some : 0 < length rest
-  pub unfinished : IsUnfinished rest
-  pub none : BeginsWithNone rest
+  pub awaits : IsOpen rest
   pub at_end : IsAtEnd new.wire
 
 -- a read failed where no message was whole
@@ -90,7 +89,7 @@ pub record EndsUnread (trust : Trust) (old new : Outside) : Type 0 where
   pub count : ℕ
   pub rest : List ℕ
   pub serves : Serves trust old new false count rest
-  pub none : BeginsWithNone rest
+  pub awaits : IsOpen rest
   pub rose : RoseBy 1 old.wire.read_faults new.wire.read_faults
 
 -- a session so far, and then one more turn whose reply was cut short

@@ -1,6 +1,7 @@
 //! One connection: messages are read, answered in their order, and the replies are written.
 #![tactic(auto)]
 
+mod asked;
 mod inbox;
 mod laws;
 mod outbox;

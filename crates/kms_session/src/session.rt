@@ -1,23 +1,25 @@
 // One connection, from its first byte to its end.
-ghost use Rattle.std.specs.Prelude.{◌≡◌, ◌+◌, ◌<◌, MatchBool, IfOk, OnErr, true, false};
+ghost use Rattle.std.specs.Prelude.{◌≡◌, ◌+◌, ◌<◌, ◌==◌, ◌||◌, ℕ, List, Ok, MatchBool, IfOk, OnErr, true, false, codes};
 ghost use Rattle.kms_json.specs.Asks.{asked, refusal_of};
+ghost use Rattle.kms_json.specs.declared.replies.Refusal.TheVariants.{Validation};
 ghost use Rattle.kms_json.specs.declared.replies.Reply.TheVariants.{Refused};
 ghost use Rattle.account_core.specs.Decide.{account_of, IsProper};
 ghost use Rattle.publish_pass.specs.Answers.{answer_of};
 ghost use Rattle.kms_session.specs.Answers.{fault_answer};
 ghost use Rattle.kms_session.specs.Run.{whole, asks, answered, caller_of, plan_of, planned, Wanting};
-ghost use Rattle.http_front.specs.Message.{Message, IsMessage};
+ghost use Rattle.http_front.specs.Message.{Message, CutsOff};
 ghost use Rattle.kms_session.specs.Replying.{Gives};
 ghost use Rattle.kms_session.specs.Session.{Outside, outside, Responds, RespondsShort, Serves, EndsBy, GoesOn};
 
+use crate::asked::{After, after_of, asked_of};
 use crate::inbox::Inbox;
 use crate::outbox::{send, send_reply};
 use crate::trust::Trust;
 use crate::waiting::{Awaited, await_message};
-use http_front::{HttpFault, body_of, target_of};
+use http_front::{Cut, HttpFault};
 use kms_io::{Clock, Gate, Link};
-use kms_json::{Ask, JsonFault, Refusal, Reply, read_ask};
-use kms_names::{NoMemory, Principal};
+use kms_json::{Ask, AskBody, JsonFault, Refusal, Reply};
+use kms_names::{NoMemory, Principal, Text};
 use publish_pass::{Answered, Pass, Realm, Service, answer_with};
 use std::alloc::Global;
 use std::sync::Wait;
@@ -33,7 +35,8 @@ const FIVE_HUNDRED: &[u8] =
 pub enum SessionEnd {
     /// The input ended between two messages.
     Ended,
-    /// A reply that closes was written whole: to an HTTP fault, or to message 100,000.
+    /// A reply that closes was written whole: to a message that closes, to bytes that are refused, or to
+    /// message 100,000.
     Closed,
     /// The input ended inside a message, for which nothing was written.
     CutOff,
@@ -79,6 +82,12 @@ fn fault_body(fault: HttpFault) -> &'static [u8]
 {
     match fault {
         HttpFault::BadHead => b"{\"__type\":\"HttpFault\",\"message\":\"BadHead\"}",
+        HttpFault::NotPost => b"{\"__type\":\"HttpFault\",\"message\":\"NotPost\"}",
+        HttpFault::NotRoot => b"{\"__type\":\"HttpFault\",\"message\":\"NotRoot\"}",
+        HttpFault::Chunked => b"{\"__type\":\"HttpFault\",\"message\":\"Chunked\"}",
+        HttpFault::TwoLengths => b"{\"__type\":\"HttpFault\",\"message\":\"TwoLengths\"}",
+        HttpFault::NoLength => b"{\"__type\":\"HttpFault\",\"message\":\"NoLength\"}",
+        HttpFault::TooLong => b"{\"__type\":\"HttpFault\",\"message\":\"TooLong\"}",
     }
 }
 
@@ -87,6 +96,12 @@ fn fault_status(fault: HttpFault) -> u16
 {
     match fault {
         HttpFault::BadHead => 400,
+        HttpFault::NotPost => 405,
+        HttpFault::NotRoot => 404,
+        HttpFault::Chunked => 501,
+        HttpFault::TwoLengths => 400,
+        HttpFault::NoLength => 411,
+        HttpFault::TooLong => 413,
     }
 }
 
@@ -121,29 +136,58 @@ fn answer_refusal<R: Realm>(
     answer_with(alloc, pass.seen(), &Reply::Refused(refusal))
 }
 
-// Answers a message of this target and body.
-fn answer_message<W: Wait, R: Realm, G: Gate>(
+// Answers a message whose header x-kms-after is malformed.
+fn answer_malformed<R: Realm>(alloc: Global, pass: &Pass<R>) -> Result<Answered, NoMemory>
+    ensures { IfOk result (λ a. Gives pass.now (answered (answer_of (Refused (Validation (codes "x-kms-after"))))) a pass.now) }
+{
+    let field = Text::from_str(alloc, "x-kms-after")?;
+    answer_refusal(alloc, pass, Refusal::Validation(field))
+}
+
+// Answers a message that asks this.
+fn answer_body<W: Wait, R: Realm, G: Gate>(
     host: &Host<'_, W, R, G>,
     pass: &mut Pass<R>,
-    target: &[u8],
-    body: &[u8],
+    body: AskBody,
+    after: After,
     now: u64,
 ) -> Result<Answered, NoMemory>
     requires now { now < 253402300800 }
     requires caller { account_of (caller_of host.now.trust.now) ≡ pass.old.facts.account }
-    ensures answer { IfOk result (λ a. Gives pass.old (planned host.now.trust.now now (asked target.now body.now)) a pass.new) }
-    ensures wants { OnErr result (Wanting pass.old (planned host.now.trust.now now (asked target.now body.now)) pass.new) }
+    requires asked { (target : List ℕ) × (text : List ℕ) × (asked target text ≡ Ok body) }
+    ensures answer { IfOk result (λ a. Gives pass.old (planned host.now.trust.now now (Ok body) after) a pass.new) }
+    ensures wants { OnErr result (Wanting pass.old (planned host.now.trust.now now (Ok body) after) pass.new) }
 {
-    match read_ask(host.alloc, target, body) {
-        Ok(body) => {
+    match after {
+        After::Entries(after) => {
             let ask = Ask {
                 body,
                 caller: caller(host.trust)?,
                 moment: now,
-                after: None,
+                after,
             };
             answer_ask(host, pass, &ask)
         }
+        After::Malformed => answer_malformed(host.alloc, pass),
+    }
+}
+
+// Answers a message.
+fn answer_message<W: Wait, R: Realm, G: Gate>(
+    host: &Host<'_, W, R, G>,
+    pass: &mut Pass<R>,
+    cut: &Cut,
+    buffer: &[u8],
+    now: u64,
+) -> Result<Answered, NoMemory>
+    requires now { now < 253402300800 }
+    requires caller { account_of (caller_of host.now.trust.now) ≡ pass.old.facts.account }
+    requires message { (m : Message) × CutsOff buffer.now cut.now m }
+    ensures answer { (m : Message) → CutsOff buffer.now cut.now m → IfOk result (λ a. Gives pass.old (plan_of host.now.trust.now (whole m) now) a pass.new) }
+    ensures wants { (m : Message) → CutsOff buffer.now cut.now m → OnErr result (Wanting pass.old (plan_of host.now.trust.now (whole m) now) pass.new) }
+{
+    match asked_of(host.alloc, cut, buffer) {
+        Ok(body) => answer_body(host, pass, body, after_of(cut, buffer), now),
         Err(fault) => match refusal_in(fault) {
             Some(refusal) => answer_refusal(host.alloc, pass, refusal),
             None => Err(NoMemory),
@@ -156,24 +200,25 @@ fn respond<W: Wait, R: Realm, L: Link, G: Gate>(
     host: &Host<'_, W, R, G>,
     pass: &mut Pass<R>,
     link: &mut L,
-    message: &[u8],
+    cut: &Cut,
+    buffer: &[u8],
     now: u64,
     closes: bool,
 ) -> bool
     requires now { now < 253402300800 }
     requires caller { account_of (caller_of host.now.trust.now) ≡ pass.old.facts.account }
-    requires message { (m : Message) × IsMessage m message.now }
-    ensures { (m : Message) → IsMessage m message.now → MatchBool result
+    requires message { (m : Message) × CutsOff buffer.now cut.now m }
+    ensures { (m : Message) → CutsOff buffer.now cut.now m → MatchBool result
         (Responds pass.old (plan_of host.now.trust.now (whole m) now) now closes (L.shows link.old) (L.shows link.new) pass.new)
         (RespondsShort pass.old (plan_of host.now.trust.now (whole m) now) now closes (L.shows link.old) (L.shows link.new) pass.new) }
 {
-    match answer_message(host, pass, target_of(message), body_of(message), now) {
+    match answer_message(host, pass, cut, buffer, now) {
         Ok(a) => send_reply(link, a.status, a.body.as_slice(), now, a.front, closes),
         Err(NoMemory) => send(link, FIVE_HUNDRED),
     }
 }
 
-// Answers bytes that are no message. It is false where the link failed.
+// Answers bytes that are refused. It is false where the link failed.
 fn respond_fault<R: Realm, L: Link>(
     pass: &Pass<R>,
     link: &mut L,
@@ -195,6 +240,14 @@ fn respond_fault<R: Realm, L: Link>(
     )
 }
 
+// Whether the session closes after the reply to the message of this number, counted from 0.
+fn closes_after(cut: &Cut, number: u64) -> bool
+    requires { number < 100000 }
+    ensures { result ≡ (cut.now.closes || (number + 1 == 100000)) }
+{
+    cut.closes() || number + 1 == MESSAGES
+}
+
 // Awaits one message and answers it.
 fn serve_one<W: Wait, R: Realm, L: Link, C: Clock, G: Gate>(
     host: &Host<'_, W, R, G>,
@@ -212,13 +265,12 @@ fn serve_one<W: Wait, R: Realm, L: Link, C: Clock, G: Gate>(
 {
     match await_message(inbox, link) {
         Awaited::Message(cut) => {
-            let closes = number + 1 == MESSAGES;
+            let closes = closes_after(&cut, number);
             let now = clock.now();
-            let message = &inbox.bytes()[..cut.len];
-            if !respond(host, pass, link, message, now, closes) {
+            if !respond(host, pass, link, &cut, inbox.bytes(), now, closes) {
                 return Some(SessionEnd::WriteFault);
             }
-            inbox.drop_front(cut.len);
+            inbox.drop_front(cut.len());
             if closes {
                 Some(SessionEnd::Closed)
             } else {

@@ -26,6 +26,31 @@ pub struct Wanted {
     pub body: String,
 }
 
+impl Request {
+    /// The same request.
+    pub fn copy(&self, alloc: Global) -> Result<Request, AllocError> {
+        Ok(match self {
+            Request::Ask { operation, body } => Request::Ask {
+                operation: String::from_str(alloc, operation.as_str())?,
+                body: String::from_str(alloc, body.as_str())?,
+            },
+            Request::Raw(bytes) => Request::Raw(bytes.as_slice().to_vec(alloc)?),
+        })
+    }
+}
+
+impl Wanted {
+    /// The same reply.
+    pub fn copy(&self, alloc: Global) -> Result<Wanted, AllocError> {
+        Ok(Wanted {
+            closes: self.closes,
+            status: self.status,
+            front: self.front,
+            body: String::from_str(alloc, self.body.as_str())?,
+        })
+    }
+}
+
 /// A range of numbers, from the first to the last.
 #[derive(Clone, Copy)]
 pub struct Span {

@@ -21,10 +21,12 @@ use std::sync::Wait;
 use std::{fs, io, rt};
 
 // The scripts, each with the cases that show one thing.
-const SCRIPTS: [&str; 8] = [
+const SCRIPTS: [&str; 10] = [
     "first_path.txt",
     "pieces.txt",
     "faults.txt",
+    "heads.txt",
+    "entries_asked_for.txt",
     "sealing.txt",
     "draws.txt",
     "refusals_in_order.txt",

@@ -32,6 +32,20 @@ fn wanted(alloc: Global, answer: &Answer<'_>, body: String) -> Wanted {
     }
 }
 
+// Adds the last request and the last reply so many more times. It is false where there is none.
+fn add_again(alloc: Global, case: &mut Case, count: usize) -> Result<bool, AllocError> {
+    let (Some(request), Some(reply)) = (case.requests.pop(), case.replies.pop()) else {
+        return Ok(false);
+    };
+    for _ in 0..count {
+        case.requests.push(request.copy(alloc)?)?;
+        case.replies.push(reply.copy(alloc)?)?;
+    }
+    case.requests.push(request)?;
+    case.replies.push(reply)?;
+    Ok(true)
+}
+
 // Adds to a case what a line says of it. It is false where the line says nothing of a case.
 fn add_turn(alloc: Global, case: &mut Case, line: &Line<'_>) -> Result<bool, AllocError> {
     match line {
@@ -43,6 +57,7 @@ fn add_turn(alloc: Global, case: &mut Case, line: &Line<'_>) -> Result<bool, All
             Some(bytes) => case.requests.push(Request::Raw(bytes))?,
             None => return Ok(false),
         },
+        Line::Again(count) => return add_again(alloc, case, *count),
         Line::Served(answer) => {
             let body = String::from_str(alloc, answer.text)?;
             case.replies.push(wanted(alloc, answer, body))?;

@@ -1,8 +1,8 @@
-use Rattle.std.proofs.Common.{◌+◌, ℕ, refl, sym, subst, take, List, arith}
-use Rattle.http_front.specs.Message.{IsMessage}
+use Rattle.std.proofs.Common.{◌+◌, ℕ, sym, subst, drop, ap, ◌∙◌, List}
+use Rattle.http_front.specs.Message.{CutsOff}
 use Rattle.kms_session.specs.Session.{outside}
-use Rattle.kms_session.proofs.Runs.{serves_read, serves_message, serves_fault, serves_where, serves_rest, breaks_at_message, breaks_at_fault}
-use Rattle.kms_session.proofs.Messages.{same, other}
+use Rattle.kms_session.proofs.Runs.{serves_read, serves_message, serves_fault, message_closes, serves_where, serves_rest, breaks_at_message, breaks_at_fault}
+use Rattle.kms_session.proofs.Messages.{not_last}
 use Rattle.kms_session.proofs.ReplyLemmas.{facts_kept}
 use Rattle.kms_session.proofs.Wires.{rose_since}
 use Rattle.kms_session.proofs.session.serve_one.Goals as goal
@@ -12,13 +12,14 @@ returns-then-not-respond-clause-goes g c = λ start s.
     let read = serves_read _ _ s c.in-Message.ensures.receives in
     let found = c.in-Message.ensures.finds in
     let cut = c.in-Message.cut in
-    let here = subst (λ (bytes : List ℕ). IsMessage found.0 (take cut.len bytes)) (sym c.bytes.ensures.value) found.1.message in
-    breaks_at_message {new = outside (g.L.Link.shows c.respond.new.link) (g.C.Clock.told c.now-now.new.self) c.respond.new.pass} cut found.0 read found.1 refl c.now-now.ensures.bound c.now-now.ensures.told (c.if-not-respond.ensures found.0 here)
+    let here = subst (λ (bytes : List ℕ). CutsOff bytes cut found.0) (sym c.bytes.ensures.value) found.1 in
+    let closing = message_closes found.0 c.args.number c.closes_after-closes.ensures found.1 in
+    breaks_at_message {new = outside (g.L.Link.shows c.respond.new.link) (g.C.Clock.told c.now-now.new.self) c.respond.new.pass} cut found.0 read found.1 closing c.now-now.ensures.bound c.now-now.ensures.told (c.if-not-respond.ensures found.0 here)
 
 pub returns-then-not-respond-clause-facts : goal.returns-then-not-respond-clause-facts
 returns-then-not-respond-clause-facts g c =
     let found = c.in-Message.ensures.finds in
-    let here = subst (λ (bytes : List ℕ). IsMessage found.0 (take c.in-Message.cut.len bytes)) (sym c.bytes.ensures.value) found.1.message in
+    let here = subst (λ (bytes : List ℕ). CutsOff bytes c.in-Message.cut found.0) (sym c.bytes.ensures.value) found.1 in
     facts_kept (c.if-not-respond.ensures found.0 here).replies
 
 pub returns-then-closes-clause-goes : goal.returns-then-closes-clause-goes
@@ -26,14 +27,15 @@ returns-then-closes-clause-goes g c = λ start s.
     let read = serves_read _ _ s c.in-Message.ensures.receives in
     let found = c.in-Message.ensures.finds in
     let cut = c.in-Message.cut in
-    let here = subst (λ (bytes : List ℕ). IsMessage found.0 (take cut.len bytes)) (sym c.bytes.ensures.value) found.1.message in
-    let next = serves_message {new = outside (g.L.Link.shows c.respond.new.link) (g.C.Clock.told c.now-now.new.self) c.respond.new.pass} cut found.0 read found.1 refl c.now-now.ensures.bound c.now-now.ensures.told (c.if-not-respond.ensures found.0 here) in
-    record { count = c.args.number + 1; rest = _; serves = serves_where (same _ _ c.if-closes.true) next }
+    let here = subst (λ (bytes : List ℕ). CutsOff bytes cut found.0) (sym c.bytes.ensures.value) found.1 in
+    let closing = message_closes found.0 c.args.number c.closes_after-closes.ensures found.1 in
+    let next = serves_message {new = outside (g.L.Link.shows c.respond.new.link) (g.C.Clock.told c.now-now.new.self) c.respond.new.pass} cut found.0 read found.1 closing c.now-now.ensures.bound c.now-now.ensures.told (c.if-not-respond.ensures found.0 here) in
+    record { count = c.args.number + 1; rest = _; serves = serves_where c.if-closes.true next }
 
 pub returns-then-closes-clause-facts : goal.returns-then-closes-clause-facts
 returns-then-closes-clause-facts g c =
     let found = c.in-Message.ensures.finds in
-    let here = subst (λ (bytes : List ℕ). IsMessage found.0 (take c.in-Message.cut.len bytes)) (sym c.bytes.ensures.value) found.1.message in
+    let here = subst (λ (bytes : List ℕ). CutsOff bytes c.in-Message.cut found.0) (sym c.bytes.ensures.value) found.1 in
     facts_kept (c.if-not-respond.ensures found.0 here).replies
 
 pub returns-else-closes-clause-goes : goal.returns-else-closes-clause-goes
@@ -41,15 +43,17 @@ returns-else-closes-clause-goes g c = λ start s.
     let read = serves_read _ _ s c.in-Message.ensures.receives in
     let found = c.in-Message.ensures.finds in
     let cut = c.in-Message.cut in
-    let here = subst (λ (bytes : List ℕ). IsMessage found.0 (take cut.len bytes)) (sym c.bytes.ensures.value) found.1.message in
-    let next = serves_message {new = outside (g.L.Link.shows c.respond.new.link) (g.C.Clock.told c.now-now.new.self) c.respond.new.pass} cut found.0 read found.1 refl c.now-now.ensures.bound c.now-now.ensures.told (c.if-not-respond.ensures found.0 here) in
-    let going = serves_where (other _ _ c.if-closes.false) next in
-    (serves_rest c.drop_front.ensures going, omega arith)
+    let here = subst (λ (bytes : List ℕ). CutsOff bytes cut found.0) (sym c.bytes.ensures.value) found.1 in
+    let closing = message_closes found.0 c.args.number c.closes_after-closes.ensures found.1 in
+    let next = serves_message {new = outside (g.L.Link.shows c.respond.new.link) (g.C.Clock.told c.now-now.new.self) c.respond.new.pass} cut found.0 read found.1 closing c.now-now.ensures.bound c.now-now.ensures.told (c.if-not-respond.ensures found.0 here) in
+    let going = serves_where c.if-closes.false next in
+    let rest = c.drop_front.ensures ∙ ap (λ (n : ℕ). drop n c.await_message.new.inbox) c.len.ensures in
+    (serves_rest rest going, not_last cut.closes c.args.number (sym c.if-closes.false ∙ c.closes_after-closes.ensures) c.requires.number)
 
 pub returns-else-closes-clause-facts : goal.returns-else-closes-clause-facts
 returns-else-closes-clause-facts g c =
     let found = c.in-Message.ensures.finds in
-    let here = subst (λ (bytes : List ℕ). IsMessage found.0 (take c.in-Message.cut.len bytes)) (sym c.bytes.ensures.value) found.1.message in
+    let here = subst (λ (bytes : List ℕ). CutsOff bytes c.in-Message.cut found.0) (sym c.bytes.ensures.value) found.1 in
     facts_kept (c.if-not-respond.ensures found.0 here).replies
 
 pub returns-then-respond_fault-clause-goes : goal.returns-then-respond_fault-clause-goes
@@ -66,7 +70,7 @@ returns-else-respond_fault-clause-goes g c = λ start s.
 pub returns-in-End-clause-goes : goal.returns-in-End-clause-goes
 returns-in-End-clause-goes g c = λ start s.
     let read = serves_read _ _ s c.in-End.ensures.receives in
-    record { count = c.args.number; serves = serves_rest (sym c.if-is_empty.ensures) read; at_end = c.in-End.ensures.finds.2 }
+    record { count = c.args.number; serves = serves_rest (sym c.if-is_empty.ensures) read; at_end = c.in-End.ensures.finds.1 }
 
 pub returns-in-End-2-clause-goes : goal.returns-in-End-2-clause-goes
 returns-in-End-2-clause-goes g c = λ start s.
@@ -77,13 +81,12 @@ returns-in-End-2-clause-goes g c = λ start s.
       rest = c.await_message.new.inbox;
       serves = read;
       some = c.if-is_empty.ensures;
-      unfinished = finds.1;
-      none = finds.0;
-      at_end = finds.2;
+      awaits = finds.0;
+      at_end = finds.1;
     }
 
 pub returns-in-Failed-clause-goes : goal.returns-in-Failed-clause-goes
 returns-in-Failed-clause-goes g c = λ start s.
     let read = serves_read _ _ s c.in-Failed.ensures.receives in
     let finds = c.in-Failed.ensures.finds in
-    record { count = c.args.number; rest = c.await_message.new.inbox; serves = read; none = finds.0; rose = rose_since _ _ _ s.read_faults finds.1 }
+    record { count = c.args.number; rest = c.await_message.new.inbox; serves = read; awaits = finds.0; rose = rose_since _ _ _ s.read_faults finds.1 }

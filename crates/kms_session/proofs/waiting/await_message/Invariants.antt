@@ -1,9 +1,13 @@
-use Rattle.std.proofs.Common.{length, ◌-◌}
+use Rattle.std.proofs.Common.{length, ◌-◌, ◌<◌}
+use Rattle.http_front.specs.Message.{Awaits}
 use Rattle.kms_session.specs.Inbox.{Receives}
 use Rattle.kms_session.proofs.waiting.await_message.Given as goal
 
 abbrev pub invariant-loop-cut : goal.invariant-loop-cut
-invariant-loop-cut g l = Receives (g.L.Link.shows l.initial.link) l.initial.inbox (g.L.Link.shows l.link) l.inbox
+invariant-loop-cut g l = record {
+  receives : Receives (g.L.Link.shows l.initial.link) l.initial.inbox (g.L.Link.shows l.link) l.inbox;
+  awaits : length l.inbox < l.whole → Awaits l.inbox l.whole;
+}
 
 abbrev pub decreases-loop-cut : goal.decreases-loop-cut
 decreases-loop-cut g l = 147456 - length l.inbox
