@@ -1,8 +1,8 @@
 -- What the headers of a message ask.
 use Rattle.std.specs.Prelude.{ℕ, List, [], ◌∷◌, codes, Option, Some, None, Result, Err}
 use Rattle.kms_json.specs.declared.asks.AskBody.{AskBody}
-use Rattle.kms_json.specs.declared.replies.Refusal.{Refusal}
-use Rattle.kms_json.specs.declared.replies.Refusal.TheVariants.{UnknownOperation}
+use Rattle.kms_json.specs.declared.refusals.Refusal.{Refusal}
+use Rattle.kms_json.specs.declared.refusals.Refusal.TheVariants.{UnknownOperation}
 use Rattle.kms_json.specs.Asks.{asked}
 use Rattle.http_front.specs.Digits.{number_in}
 use Rattle.http_front.specs.Heading.{values_of}

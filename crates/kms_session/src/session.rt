@@ -1,7 +1,7 @@
 // One connection, from its first byte to its end.
 ghost use Rattle.std.specs.Prelude.{◌≡◌, ◌+◌, ◌<◌, ◌==◌, ◌||◌, ℕ, List, Ok, MatchBool, IfOk, OnErr, true, false, codes};
 ghost use Rattle.kms_json.specs.Asks.{asked, refusal_of};
-ghost use Rattle.kms_json.specs.declared.replies.Refusal.TheVariants.{Validation};
+ghost use Rattle.kms_json.specs.declared.refusals.Refusal.TheVariants.{Validation};
 ghost use Rattle.kms_json.specs.declared.replies.Reply.TheVariants.{Refused};
 ghost use Rattle.account_core.specs.Decide.{account_of, IsProper};
 ghost use Rattle.publish_pass.specs.Answers.{answer_of};
@@ -73,6 +73,7 @@ fn refusal_in(fault: JsonFault) -> Option<Refusal>
         JsonFault::UnknownOperation => Some(Refusal::UnknownOperation),
         JsonFault::Serialization => Some(Refusal::Serialization),
         JsonFault::Validation(field) => Some(Refusal::Validation(field)),
+        JsonFault::InvalidAliasName => Some(Refusal::InvalidAliasName),
         JsonFault::NoMemory => None,
     }
 }

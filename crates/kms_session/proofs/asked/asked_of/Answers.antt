@@ -1,6 +1,6 @@
 use Rattle.std.proofs.Common.{Result, subst, sym, ap₂, codes, ◌∙◌}
 use Rattle.kms_json.specs.declared.asks.AskBody.{AskBody}
-use Rattle.kms_json.specs.declared.replies.Refusal.{Refusal}
+use Rattle.kms_json.specs.declared.refusals.Refusal.{Refusal}
 use Rattle.kms_json.specs.Asks.{AnswersFor}
 use Rattle.http_front.specs.Heading.{values_of}
 use Rattle.kms_session.specs.Asked.{asked_once}
