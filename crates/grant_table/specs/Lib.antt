@@ -1,0 +1,3 @@
+pub mod Principals
+pub mod Constraints
+pub mod Grants

@@ -1,0 +1,154 @@
+//! The grants of an account.
+
+ghost use Rattle.std.specs.Prelude.{◌≡◌, IfOk};
+
+use crate::rows::GrantRow;
+use enc_context::Context;
+use kms_names::{GrantId, GrantOp, KeyId, NoMemory, Principal};
+use std::alloc::Global;
+use std::marker::Model;
+
+/// The grants of an account. Contracts see it as the list of its rows in order of making. A changed table is a new one:
+/// the old one stays as it was.
+#[derive(Debug, Drop)]
+pub struct GrantTable {
+    rows: Vec<GrantRow>,
+}
+
+impl Model for GrantTable {
+    ghost use Rattle.std.specs.Prelude.{List};
+    ghost use Rattle.grant_table.specs.declared.rows.GrantRow.{GrantRow};
+
+    ghost Value = { List GrantRow };
+
+    ghost use Rattle.grant_table.specs.Grants.{AreGrants};
+
+    ghost view = { λ table. table.rows.items };
+
+    ghost invariant = { λ table. AreGrants table.rows.items };
+}
+
+/// The same rows.
+fn copied(alloc: Global, rows: &[GrantRow]) -> Result<Vec<GrantRow>, NoMemory>
+    ensures { IfOk result (λ copies. copies.items ≡ rows.now) }
+{
+    let mut copies = Vec::with_capacity(alloc, rows.len())?;
+    for row in rows {
+        copies.push(row.copy()?)?;
+    }
+    Ok(copies)
+}
+
+impl GrantTable {
+    ghost use Rattle.std.specs.Prelude.{◌≡◌, [], ◌∷◌, ◌++◌, length, All, IfOk, IfSome, IfNone};
+    ghost use Rattle.std.specs.Option.{option_map};
+    ghost use Rattle.grant_table.specs.Grants.{grant_with, grant_permitting, grant_retirable, grant_of_key, Permits, without, MayAdd, IsThere, AreGrants};
+
+    /// No grants; no memory is taken. The table and those that are made of it keep the allocator.
+    pub fn new(alloc: Global) -> GrantTable
+        ensures { result ≡ [] }
+    {
+        GrantTable {
+            rows: Vec::new(alloc),
+        }
+    }
+
+    /// How many grants there are. No two have one id, and each was made before those behind it. No memory is taken.
+    pub fn len(&self) -> usize
+        ensures len { result ≡ length self.now }
+        ensures grants { AreGrants self.now }
+    {
+        self.rows.len()
+    }
+
+    /// The grant of an id. No memory is taken.
+    pub fn get(&self, grant: &GrantId) -> Option<&GrantRow>
+        ensures { option_map (λ row. row.now) result ≡ grant_with self.now grant.now }
+    {
+        for row in &self.rows {
+            if row.has_id(grant) {
+                return Some(row);
+            }
+        }
+        None
+    }
+
+    /// The first grant, in order of making, that permits an operation on a key to a caller under an encryption context;
+    /// of CreateGrant whatever grant is to be made. None where no grant permits it. No memory is taken.
+    pub fn permitting(
+        &self,
+        key: &KeyId,
+        caller: &Principal,
+        op: GrantOp,
+        context: &Context,
+    ) -> Option<&GrantRow>
+        ensures first { option_map (λ row. row.now) result ≡ grant_permitting self.now key.now caller.now op context.now }
+        ensures permits { IfSome result (λ row. Permits row.now key.now caller.now op context.now) }
+        ensures none { IfNone result (All (λ row. ¬ (Permits row key.now caller.now op context.now)) self.now) }
+    {
+        for row in &self.rows {
+            if row.permits(key, caller, op, context) {
+                return Some(row);
+            }
+        }
+        None
+    }
+
+    /// The first grant of a retiring principal, in order of making, that was made behind a place, or the first of all
+    /// of its grants. No memory is taken.
+    pub fn retirable(&self, retiring: &Principal, after: Option<u64>) -> Option<&GrantRow>
+        ensures { option_map (λ row. row.now) result ≡ grant_retirable self.now retiring.now after }
+    {
+        for row in &self.rows {
+            if row.has_retiring(retiring) && row.is_after(after) {
+                return Some(row);
+            }
+        }
+        None
+    }
+
+    /// The first grant of a key, in order of making, that was made behind a place, or the first of all of its grants.
+    /// No memory is taken.
+    pub fn of_key(&self, key: &KeyId, after: Option<u64>) -> Option<&GrantRow>
+        ensures { option_map (λ row. row.now) result ≡ grant_of_key self.now key.now after }
+    {
+        for row in &self.rows {
+            if row.is_of_key(key) && row.is_after(after) {
+                return Some(row);
+            }
+        }
+        None
+    }
+
+    /// The table with one more grant behind the others. Its id isn't there, and the others were made before it.
+    pub fn add(&self, row: GrantRow) -> Result<GrantTable, NoMemory>
+        requires { MayAdd self.now row }
+        ensures { IfOk result (λ table. table ≡ self.now ++ row ∷ []) }
+    {
+        let mut rows = copied(*self.rows.allocator(), self.rows.as_slice())?;
+        rows.push(row)?;
+        Ok(GrantTable { rows })
+    }
+
+    /// The table without the grant of an id, which is there.
+    pub fn drop_one(&self, grant: &GrantId) -> Result<GrantTable, NoMemory>
+        requires { IsThere self.now grant.now }
+        ensures { IfOk result (λ table. table ≡ without self.now grant.now) }
+    {
+        let mut rows = Vec::new(*self.rows.allocator());
+        for row in &self.rows {
+            if !row.has_id(grant) {
+                rows.push(row.copy()?)?;
+            }
+        }
+        Ok(GrantTable { rows })
+    }
+
+    /// The same table.
+    pub fn share(&self) -> Result<GrantTable, NoMemory>
+        ensures { IfOk result (λ table. table ≡ self.now) }
+    {
+        let rows = copied(*self.rows.allocator(), self.rows.as_slice())?;
+        Ok(GrantTable { rows })
+    }
+}
