@@ -1,8 +1,8 @@
 -- A row put in its place, and what stays true of aliases.
-use Rattle.std.proofs.Common.{◌≡◌, ◌≢◌, ◌⊎◌, inl, inr, ℕ, zero, suc, ◌+◌, ◌<◌, ◌≤◌, Bool, true, false, not, cond, List, [], ◌∷◌, ◌++◌, length, get_or, set, length-set, Option, None, Some, refl, sym, ◌∙◌, ap, subst, arith}
-use Rattle.std.specs.Prelude.{nat_lt, find, position, MatchOption, AllPairs}
+use Rattle.std.proofs.Common.{◌≡◌, ◌≢◌, ◌⊎◌, inl, inr, ℕ, suc, ◌+◌, ◌<◌, ◌≤◌, Bool, true, false, not, cond, List, [], ◌∷◌, ◌++◌, length, get_or, set, length-set, None, Some, refl, sym, ◌∙◌, ap, subst, arith}
+use Rattle.std.specs.Prelude.{nat_lt, position, MatchOption, AllPairs}
 use Rattle.std.specs.Bool.{Decides}
-use Rattle.std.specs.List.{position_or_len, slice_get}
+use Rattle.std.specs.List.{position_or_len}
 use Rattle.std.proofs.lemmas.Bool.{false≢true}
 use Rattle.std.proofs.lemmas.Bool.Decides.{Decides-ltb}
 use Rattle.std.proofs.lemmas.List.{get_or-set_same, get_or-set_other, get_or_default}
@@ -123,7 +123,7 @@ module _ (rows : List AliasRow) (row : AliasRow) (aliases : AreAliases rows) whe
   keeps_behind : length rows ≤ place_of rows row → AreBefore rows row.born → AreAliases (rows ++ row ∷ [])
   keeps_behind past before = (
     all_pairs_push (λ (p q : AliasRow). p.name ≢ q.name) rows row aliases.0
-    (λ k d lt e. false≢true (sym (fails_before_first (has_name row.name) rows k d (omega arith)) ∙ (same_name row.name (get_or rows k d)).1 e)),
+        (λ k d lt e. false≢true (sym (fails_before_first (has_name row.name) rows k d (omega arith)) ∙ (same_name row.name (get_or rows k d)).1 e)),
     all_pairs_push (λ (p q : AliasRow). p.born < q.born) rows row aliases.1 (λ k d lt. before k d lt),
   )
 
@@ -131,11 +131,11 @@ module _ (rows : List AliasRow) (row : AliasRow) (aliases : AreAliases rows) whe
   with_row_keeps may =
       elim (within rows row) [
         | inl lt ↦
-        let named : row_named rows row.name ≡ Some (get_or rows (place_of rows row) row) = find_at (has_name row.name) rows ∙ slice_get-get_or rows (place_of rows row) row lt in
-        let like : IsLike (get_or rows (place_of rows row) row) = subst (λ o. MatchOption o (AreBefore rows row.born) IsLike) named may in
-        subst AreAliases (put_there rows row lt) (keeps_there lt like)
+            let named : row_named rows row.name ≡ Some (get_or rows (place_of rows row) row) = find_at (has_name row.name) rows ∙ slice_get-get_or rows (place_of rows row) row lt in
+            let like : IsLike (get_or rows (place_of rows row) row) = subst (λ o. MatchOption o (AreBefore rows row.born) IsLike) named may in
+            subst AreAliases (put_there rows row lt) (keeps_there lt like)
         | inr past ↦
-        let named : row_named rows row.name ≡ None = find_at (has_name row.name) rows ∙ slice_get_past rows (place_of rows row) past in
-        let before : AreBefore rows row.born = subst (λ o. MatchOption o (AreBefore rows row.born) IsLike) named may in
-        subst AreAliases (put_behind rows row past) (keeps_behind past before)
+            let named : row_named rows row.name ≡ None = find_at (has_name row.name) rows ∙ slice_get_past rows (place_of rows row) past in
+            let before : AreBefore rows row.born = subst (λ o. MatchOption o (AreBefore rows row.born) IsLike) named may in
+            subst AreAliases (put_behind rows row past) (keeps_behind past before)
       ]

@@ -1,1 +1,2 @@
 pub mod AliasFacts
+pub mod IndexFacts

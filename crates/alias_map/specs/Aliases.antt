@@ -1,6 +1,7 @@
 -- Aliases in order of making, as a plain list.
-use Rattle.std.specs.Prelude.{◌≡◌, ◌≢◌, ℕ, ◌<◌, Bool, true, not, ◌&&◌, nat_lt, List, [], ◌∷◌, filter, find, Option, None, Some, MatchOption, IsSome, All, AllPairs, if◌then◌else◌}
+use Rattle.std.specs.Prelude.{◌≡◌, ◌≢◌, ℕ, ◌<◌, Bool, not, ◌&&◌, List, [], ◌∷◌, filter, find, Option, MatchOption, IsSome, All, AllPairs, if◌then◌else◌}
 use Rattle.std.specs.Str.{bytes_eq}
+use Rattle.kms_names.specs.Place.{is_behind}
 use Rattle.alias_map.specs.declared.rows.AliasRow.{AliasRow}
 
 abbrev pub has_name : List ℕ → AliasRow → Bool
@@ -11,8 +12,7 @@ names_key key row = bytes_eq row.key key
 
 -- the alias was made behind the place; every one was where none is given
 abbrev pub is_after : Option ℕ → AliasRow → Bool
-is_after None row = true
-is_after (Some place) row = nat_lt place row.born
+is_after after row = is_behind after row.born
 
 -- the first alias of a name
 abbrev pub row_named : List AliasRow → List ℕ → Option AliasRow

@@ -1,7 +1,9 @@
 //! The aliases of an account.
 
-ghost use Rattle.std.specs.Prelude.{◌≡◌, position, IfOk};
-ghost use Rattle.alias_map.specs.Aliases.{has_name, with_row};
+ghost use Rattle.std.specs.Prelude.{◌≡◌, find, position, IfOk};
+ghost use Rattle.std.specs.Option.{option_map};
+ghost use Rattle.alias_map.specs.Aliases.{has_name, names_key, with_row};
+ghost use Rattle.alias_map.specs.Index.{AreByName};
 
 use crate::rows::AliasRow;
 use kms_names::{AliasName, KeyId, NoMemory};
@@ -13,6 +15,7 @@ use std::marker::Model;
 #[derive(Debug, Drop)]
 pub struct AliasMap {
     rows: Vec<AliasRow>,
+    by_name: Vec<AliasRow>,
 }
 
 impl Model for AliasMap {
@@ -22,10 +25,11 @@ impl Model for AliasMap {
     ghost Value = { List AliasRow };
 
     ghost use Rattle.alias_map.specs.Aliases.{AreAliases};
+    ghost use Rattle.alias_map.specs.Index.{AreByName};
 
     ghost view = { λ map. map.rows.items };
 
-    ghost invariant = { λ map. AreAliases map.rows.items };
+    ghost invariant = { λ map. AreAliases map.rows.items × AreByName map.rows.items map.by_name.items };
 }
 
 /// The same rows.
@@ -37,6 +41,27 @@ fn copied(alloc: Global, rows: &[AliasRow]) -> Result<Vec<AliasRow>, NoMemory>
         copies.push(row.copy()?)?;
     }
     Ok(copies)
+}
+
+/// The same rows in order of their names.
+fn sorted_by_name(alloc: Global, rows: &[AliasRow]) -> Result<Vec<AliasRow>, NoMemory>
+    ensures { IfOk result (λ sorted. AreByName rows.now sorted.items) }
+{
+    let mut sorted = copied(alloc, rows)?;
+    sorted.sort_by(|row, other| row.name.as_str().cmp(other.name.as_str()))?;
+    Ok(sorted)
+}
+
+/// The first row of a key.
+fn first_of_key<'a>(rows: &'a [AliasRow], key: &KeyId) -> Option<&'a AliasRow>
+    ensures { option_map (λ row. row.now) result ≡ find (names_key key.now) rows.now }
+{
+    for row in rows {
+        if row.names_key(key) {
+            return Some(row);
+        }
+    }
+    None
 }
 
 /// The rows with one more, in the first place of its name or behind all where none has it.
@@ -56,9 +81,9 @@ fn placed(
 }
 
 impl AliasMap {
-    ghost use Rattle.std.specs.Prelude.{◌≡◌, [], length, position, IfOk};
+    ghost use Rattle.std.specs.Prelude.{◌≡◌, [], length, filter, position, IfOk};
     ghost use Rattle.std.specs.Option.{option_map};
-    ghost use Rattle.alias_map.specs.Aliases.{has_name, row_named, row_after, row_of_key, with_row, without, MayPut, IsThere, AreAliases};
+    ghost use Rattle.alias_map.specs.Aliases.{has_name, is_after, row_named, row_after, row_of_key, with_row, without, MayPut, IsThere, AreAliases};
 
     /// No aliases; no memory is taken. The map and those that are made of it keep the allocator.
     pub fn new(alloc: Global) -> AliasMap
@@ -66,7 +91,17 @@ impl AliasMap {
     {
         AliasMap {
             rows: Vec::new(alloc),
+            by_name: Vec::new(alloc),
         }
+    }
+
+    /// The map of these rows.
+    fn of_rows(rows: Vec<AliasRow>) -> Result<AliasMap, NoMemory>
+        requires { AreAliases rows.items }
+        ensures { IfOk result (λ map. map ≡ rows.items) }
+    {
+        let by_name = sorted_by_name(*rows.allocator(), rows.as_slice())?;
+        Ok(AliasMap { rows, by_name })
     }
 
     /// How many aliases there are. No two have one name, and each was made before those behind it. No memory is taken.
@@ -81,12 +116,13 @@ impl AliasMap {
     pub fn resolve(&self, name: &AliasName) -> Option<&AliasRow>
         ensures { option_map (λ row. row.now) result ≡ row_named self.now name.now }
     {
-        for row in &self.rows {
-            if row.has_name(name) {
-                return Some(row);
-            }
+        match self
+            .by_name
+            .binary_search_by(|row| row.name.as_str().cmp(name.as_str()))
+        {
+            Ok(place) => Some(&self.by_name[place]),
+            Err(_) => None,
         }
-        None
     }
 
     /// The place of the alias of a name among the rows.
@@ -96,29 +132,27 @@ impl AliasMap {
         self.rows.iter().position(|row| row.has_name(name))
     }
 
+    /// The aliases that were made behind a place, or all.
+    fn behind(&self, after: Option<u64>) -> &[AliasRow]
+        ensures { result.now ≡ filter (is_after after) self.now }
+    {
+        let start = self.rows.partition_point(|row| !row.is_after(after));
+        &self.rows[start..]
+    }
+
     /// The first alias of a key, in order of making, that was made behind a place, or the first of all of its aliases.
     /// No memory is taken.
     pub fn of_key(&self, key: &KeyId, after: Option<u64>) -> Option<&AliasRow>
         ensures { option_map (λ row. row.now) result ≡ row_of_key self.now key.now after }
     {
-        for row in &self.rows {
-            if row.names_key(key) && row.is_after(after) {
-                return Some(row);
-            }
-        }
-        None
+        first_of_key(self.behind(after), key)
     }
 
     /// The first alias, in order of making, that was made behind a place, or the first of all. No memory is taken.
     pub fn of_all(&self, after: Option<u64>) -> Option<&AliasRow>
         ensures { option_map (λ row. row.now) result ≡ row_after self.now after }
     {
-        for row in &self.rows {
-            if row.is_after(after) {
-                return Some(row);
-            }
-        }
-        None
+        self.behind(after).first()
     }
 
     /// The map with a row: in the place of the alias of its name, whose birth and making it has, or, where none has the
@@ -129,7 +163,7 @@ impl AliasMap {
     {
         let rows = copied(*self.rows.allocator(), self.rows.as_slice())?;
         let rows = placed(rows, self.place_of(&row.name), row)?;
-        Ok(AliasMap { rows })
+        AliasMap::of_rows(rows)
     }
 
     /// The map without the alias of a name, which is there.
@@ -143,14 +177,17 @@ impl AliasMap {
                 rows.push(row.copy()?)?;
             }
         }
-        Ok(AliasMap { rows })
+        AliasMap::of_rows(rows)
     }
 
     /// The same map.
     pub fn share(&self) -> Result<AliasMap, NoMemory>
         ensures { IfOk result (λ map. map ≡ self.now) }
     {
-        let rows = copied(*self.rows.allocator(), self.rows.as_slice())?;
-        Ok(AliasMap { rows })
+        let alloc = *self.rows.allocator();
+        Ok(AliasMap {
+            rows: copied(alloc, self.rows.as_slice())?,
+            by_name: copied(alloc, self.by_name.as_slice())?,
+        })
     }
 }

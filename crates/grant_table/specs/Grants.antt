@@ -1,11 +1,12 @@
 -- Grants in order of making, as a plain list, and what each permits (AWS KMS Developer Guide, "Grants in AWS KMS").
-use Rattle.std.specs.Prelude.{◌≡◌, ◌≢◌, ℕ, ◌<◌, Bool, true, false, not, ◌&&◌, ◌||◌, nat_lt, List, filter, find, Option, None, Some, IsSome, All, AllPairs}
+use Rattle.std.specs.Prelude.{◌≡◌, ◌≢◌, ℕ, ◌<◌, Bool, true, false, not, ◌&&◌, ◌||◌, List, filter, find, Option, None, Some, IsSome, All, AllPairs}
 use Rattle.std.specs.List.{list_all}
 use Rattle.std.specs.Str.{bytes_eq}
 use Rattle.kms_names.specs.declared.operations.GrantOp.{GrantOp}
 use Rattle.kms_names.specs.declared.operations.GrantOp.TheVariants.{Encrypt, Decrypt, GenerateDataKey, GenerateDataKeyWithoutPlaintext, ReEncryptFrom, ReEncryptTo, CreateGrant, RetireGrant, DescribeKey}
 use Rattle.kms_names.specs.declared.operations.GrantOps.{GrantOps}
 use Rattle.kms_names.specs.declared.principals.Principal.{Principal}
+use Rattle.kms_names.specs.Place.{is_behind}
 use Rattle.kms_names.specs.GrantOps.{all_grant_ops, contains, IsSubset}
 use Rattle.enc_context.specs.declared.pairs.Pair.{Pair}
 use Rattle.grant_table.specs.Constraints.{ConstraintHolds, constraint_holds, IsAsStrict, is_as_strict}
@@ -70,8 +71,7 @@ has_retiring principal row = is_principal principal row.retiring
 
 -- the grant was made behind the place; every one was where none is given
 abbrev pub is_after : Option ℕ → GrantRow → Bool
-is_after None row = true
-is_after (Some place) row = nat_lt place row.born
+is_after after row = is_behind after row.born
 
 -- the first grant of an id
 abbrev pub grant_with : List GrantRow → List ℕ → Option GrantRow

@@ -1,6 +1,8 @@
 //! The grants of an account.
 
-ghost use Rattle.std.specs.Prelude.{◌≡◌, IfOk};
+ghost use Rattle.std.specs.Prelude.{◌≡◌, find, IfOk};
+ghost use Rattle.std.specs.Option.{option_map};
+ghost use Rattle.grant_table.specs.Grants.{is_of_key, has_retiring};
 
 use crate::rows::GrantRow;
 use enc_context::Context;
@@ -39,10 +41,34 @@ fn copied(alloc: Global, rows: &[GrantRow]) -> Result<Vec<GrantRow>, NoMemory>
     Ok(copies)
 }
 
+/// The first row of a key.
+fn first_of_key<'a>(rows: &'a [GrantRow], key: &KeyId) -> Option<&'a GrantRow>
+    ensures { option_map (λ row. row.now) result ≡ find (is_of_key key.now) rows.now }
+{
+    for row in rows {
+        if row.is_of_key(key) {
+            return Some(row);
+        }
+    }
+    None
+}
+
+/// The first row of a retiring principal.
+fn first_retirable<'a>(rows: &'a [GrantRow], retiring: &Principal) -> Option<&'a GrantRow>
+    ensures { option_map (λ row. row.now) result ≡ find (has_retiring retiring.now) rows.now }
+{
+    for row in rows {
+        if row.has_retiring(retiring) {
+            return Some(row);
+        }
+    }
+    None
+}
+
 impl GrantTable {
-    ghost use Rattle.std.specs.Prelude.{◌≡◌, [], ◌∷◌, ◌++◌, length, All, IfOk, IfSome, IfNone};
+    ghost use Rattle.std.specs.Prelude.{◌≡◌, [], ◌∷◌, ◌++◌, length, filter, All, IfOk, IfSome, IfNone};
     ghost use Rattle.std.specs.Option.{option_map};
-    ghost use Rattle.grant_table.specs.Grants.{grant_with, grant_permitting, grant_retirable, grant_of_key, Permits, without, MayAdd, IsThere, AreGrants};
+    ghost use Rattle.grant_table.specs.Grants.{is_after, grant_with, grant_permitting, grant_retirable, grant_of_key, Permits, without, MayAdd, IsThere, AreGrants};
 
     /// No grants; no memory is taken. The table and those that are made of it keep the allocator.
     pub fn new(alloc: Global) -> GrantTable
@@ -94,17 +120,20 @@ impl GrantTable {
         None
     }
 
+    /// The grants that were made behind a place, or all.
+    fn behind(&self, after: Option<u64>) -> &[GrantRow]
+        ensures { result.now ≡ filter (is_after after) self.now }
+    {
+        let start = self.rows.partition_point(|row| !row.is_after(after));
+        &self.rows[start..]
+    }
+
     /// The first grant of a retiring principal, in order of making, that was made behind a place, or the first of all
     /// of its grants. No memory is taken.
     pub fn retirable(&self, retiring: &Principal, after: Option<u64>) -> Option<&GrantRow>
         ensures { option_map (λ row. row.now) result ≡ grant_retirable self.now retiring.now after }
     {
-        for row in &self.rows {
-            if row.has_retiring(retiring) && row.is_after(after) {
-                return Some(row);
-            }
-        }
-        None
+        first_retirable(self.behind(after), retiring)
     }
 
     /// The first grant of a key, in order of making, that was made behind a place, or the first of all of its grants.
@@ -112,12 +141,7 @@ impl GrantTable {
     pub fn of_key(&self, key: &KeyId, after: Option<u64>) -> Option<&GrantRow>
         ensures { option_map (λ row. row.now) result ≡ grant_of_key self.now key.now after }
     {
-        for row in &self.rows {
-            if row.is_of_key(key) && row.is_after(after) {
-                return Some(row);
-            }
-        }
-        None
+        first_of_key(self.behind(after), key)
     }
 
     /// The table with one more grant behind the others. Its id isn't there, and the others were made before it.

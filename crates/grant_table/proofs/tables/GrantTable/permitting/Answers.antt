@@ -9,5 +9,5 @@ pub loop-row-preserved : goal.loop-row-preserved
 loop-row-preserved c = (
   grind (arith, common_steps),
   none_more (λ row. Permits row c.args.key.now c.args.caller.now c.args.op c.args.context.now) c.deref-row-items.result.now c.loop-row.row-index c.row-item.result c.loop-row-test.true c.row-item.is
-  (λ permits. false≢true (sym c.if-permits.false ∙ c.permits.ensures.told.1 permits)) c.loop-row.invariant.1,
+      (λ permits. false≢true (sym c.if-permits.false ∙ c.permits.ensures.told.1 permits)) c.loop-row.invariant.1,
 )
