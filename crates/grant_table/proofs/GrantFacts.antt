@@ -1,6 +1,6 @@
 -- What stays true of grants.
 use Rattle.std.proofs.lemmas.List.{get_or_default}
-use Rattle.std.proofs.Common.{◌≡◌, ◌≢◌, ◌⊎◌, inl, inr, ℕ, ◌+◌, ◌<◌, length, get_or, subst, sym, ◌∙◌, arith, Bool, true, false, ◌&&◌, List, not}
+use Rattle.std.proofs.Common.{◌≡◌, ◌≢◌, ◌⊎◌, inl, inr, ℕ, ◌+◌, ◌<◌, length, get_or, subst, sym, ◌∙◌, arith, Bool, true, false, ◌&&◌, List, [], ap, not}
 use Rattle.std.specs.Prelude.{◌↔◌, IsTrue}
 use Rattle.std.specs.Bool.{Decides}
 use Rattle.std.proofs.lemmas.Bool.Decides.{same_from_decides}
@@ -44,3 +44,9 @@ module _ (P : GrantRow → Type 0) (rows : List GrantRow) (i : ℕ) (row : Grant
       by_place : (k < i) ⊎ (k ≡ i) → ¬ (P (get_or rows k d))
       by_place (inl earlier) = before k d earlier
       by_place (inr here) = λ p. fails (subst P (sym (is ∙ get_or_default rows i row d lt)) (subst (λ n. P (get_or rows n d)) here p))
+
+pub none_yet : (rows : List GrantRow) → rows ≡ [] → AreGrants rows
+none_yet rows none = ((λ i j d before within e. no_place within), (λ i j d before within. absurd (no_place within)))
+  where
+    no_place : {j : ℕ} → j < length rows → ⊥
+    no_place within = omega (arith, ap length none)

@@ -2,6 +2,7 @@
 #![tactic(auto)]
 
 mod constraints;
+mod index;
 mod principals;
 mod rows;
 mod tables;
