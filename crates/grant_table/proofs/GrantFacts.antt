@@ -1,6 +1,5 @@
 -- What stays true of grants.
-use Rattle.std.proofs.lemmas.List.{get_or_default}
-use Rattle.std.proofs.Common.{◌≡◌, ◌≢◌, ◌⊎◌, inl, inr, ℕ, ◌+◌, ◌<◌, length, get_or, subst, sym, ◌∙◌, arith, Bool, true, false, ◌&&◌, List, [], ap, not}
+use Rattle.std.proofs.Common.{◌≡◌, ◌≢◌, ℕ, ◌<◌, length, arith, Bool, true, false, ◌&&◌, List, [], ap, not}
 use Rattle.std.specs.Prelude.{◌↔◌, IsTrue}
 use Rattle.std.specs.Bool.{Decides}
 use Rattle.std.proofs.lemmas.Bool.Decides.{same_from_decides}
@@ -32,18 +31,6 @@ and_after false y z is same = absurd (cc)
 pub and_without : (x y z : Bool) → x ≡ false → z ≡ false → z ≡ (x && y)
 and_without true y z is fails = absurd (cc)
 and_without false y z is fails = fails
-
--- none of the rows before one place more
-module _ (P : GrantRow → Type 0) (rows : List GrantRow) (i : ℕ) (row : GrantRow) (lt : i < length rows) (is : row ≡ get_or rows i row) (fails : ¬ (P row)) where
-  pub none_more : ((k : ℕ) (d : GrantRow) → k < i → ¬ (P (get_or rows k d))) → (k : ℕ) (d : GrantRow) → k < i + 1 → ¬ (P (get_or rows k d))
-  none_more before k d below = by_place (places k below)
-    where
-      places : (k : ℕ) → k < i + 1 → (k < i) ⊎ (k ≡ i)
-      places k below = grind arith
-
-      by_place : (k < i) ⊎ (k ≡ i) → ¬ (P (get_or rows k d))
-      by_place (inl earlier) = before k d earlier
-      by_place (inr here) = λ p. fails (subst P (sym (is ∙ get_or_default rows i row d lt)) (subst (λ n. P (get_or rows n d)) here p))
 
 pub none_yet : (rows : List GrantRow) → rows ≡ [] → AreGrants rows
 none_yet rows none = ((λ i j d before within e. no_place within), (λ i j d before within. absurd (no_place within)))

@@ -1,5 +1,5 @@
 -- The test of what a grant permits decides what it permits.
-use Rattle.std.proofs.Common.{◌≡◌, Bor, ℕ, ◌<◌, Bool, true, false, not, ◌&&◌, ◌||◌, List, length, get_or, Option, None, Some, refl, ap, ap₂, sym, ◌∙◌, subst}
+use Rattle.std.proofs.Common.{◌≡◌, Bor, ℕ, Bool, true, false, not, ◌&&◌, ◌||◌, List, get_or, Option, None, Some, refl, ap, sym, ◌∙◌}
 use Rattle.std.specs.Prelude.{find, All, IfSome, IfNone}
 use Rattle.std.specs.Bool.{Decides}
 use Rattle.std.specs.Option.{option_map}

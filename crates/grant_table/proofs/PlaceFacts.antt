@@ -4,7 +4,7 @@ use Rattle.std.specs.Prelude.{filter, find, slice_get, Result, Ok, Err, IfOk}
 use Rattle.std.specs.List.Sorted.{IsSortedByKey}
 use Rattle.std.proofs.lemmas.List.{take_more, length-take}
 use Rattle.std.specs.Cmp.Lexicographic.{slice_cmp, texts_ties}
-use Rattle.std.specs.List.{filter_map, cons_option}
+use Rattle.std.specs.List.{cons_option}
 use Rattle.std.specs.Ordering.{nat_cmp, is_eq}
 use Rattle.std.specs.Str.{bytes_eq}
 use Rattle.grant_table.specs.declared.index.Entry.{Entry}

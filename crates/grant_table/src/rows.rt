@@ -1,7 +1,7 @@
 //! Grants as an account keeps them.
 
 ghost use Rattle.std.specs.Prelude.{◌≡◌, ◌↔◌, ◌&&◌, IsTrue, IfOk};
-ghost use Rattle.grant_table.specs.Grants.{asks_constraint, Permits, permits, IsChildOf, is_child_of, is_subset, has_id, is_of_key, has_retiring, is_after};
+ghost use Rattle.grant_table.specs.Grants.{asks_constraint, Permits, permits, IsChildOf, is_child_of, is_subset, has_id, has_retiring, is_after};
 
 use crate::constraints::Constraint;
 use crate::principals::{copy_of, is_same};
@@ -96,13 +96,6 @@ impl GrantRow {
         ensures { result ≡ has_id grant.now self.now }
     {
         self.grant == *grant
-    }
-
-    /// Whether it is of this key.
-    pub(crate) fn is_of_key(&self, key: &KeyId) -> bool
-        ensures { result ≡ is_of_key key.now self.now }
-    {
-        self.key == *key
     }
 
     /// Whether this is its retiring principal.

@@ -1,5 +1,5 @@
 use Rattle.std.specs.List.Sorted.{IsPartitionedBy, IsPartitionPoint}
-use Rattle.std.proofs.Common.{◌≡◌, ◌≤◌, true, false, arith, length-drop, rules, refl, sym, ◌∙◌, ap, subst, length, take, drop, ◌-◌}
+use Rattle.std.proofs.Common.{◌≡◌, ◌≤◌, true, false, arith, length-drop, rules, ◌∙◌, ap, subst, length, take, drop, ◌-◌}
 use Rattle.std.proofs.lemmas.Fn.{always_returns_same}
 use Rattle.std.proofs.lemmas.List.{take_all}
 use Rattle.grant_table.proofs.IndexFacts.{is_less, is_no_more, parted_less, parted_no_more, those_of}

@@ -1,7 +1,6 @@
 use Rattle.std.proofs.Common.{rules, refl, is_lt}
 use Rattle.std.proofs.lemmas.Fn.{always_returns_same}
 use Rattle.std.proofs.lemmas.List.Sorted.{ranks_by}
-use Rattle.grant_table.specs.declared.index.Entry.{Entry as EntryValue}
 use Rattle.grant_table.proofs.IndexFacts.{groups_stay}
 use Rattle.grant_table.proofs.index.in_order.Goals as goal
 

@@ -1,4 +1,4 @@
-use Rattle.std.proofs.Common.{◌≡◌, sym, ◌∙◌}
+use Rattle.std.proofs.Common.{sym, ◌∙◌}
 use Rattle.grant_table.specs.Grants.{is_after}
 use Rattle.grant_table.proofs.PlaceFacts.{entry_found, entry_fails, entry_missing}
 use Rattle.grant_table.proofs.tables.first_behind.Goals as goal

@@ -1,4 +1,4 @@
-use Rattle.std.proofs.Common.{◌≡◌, sym, ◌∙◌}
+use Rattle.std.proofs.Common.{sym, ◌∙◌}
 use Rattle.grant_table.specs.Grants.{permits}
 use Rattle.grant_table.proofs.PlaceFacts.{entry_found, entry_fails, entry_missing}
 use Rattle.grant_table.proofs.tables.first_permitting.Goals as goal

@@ -1,6 +1,4 @@
-use Rattle.std.proofs.Common.{◌≡◌, List, [], ap, arith, length}
 use Rattle.grant_table.specs.declared.rows.GrantRow.{GrantRow}
-use Rattle.grant_table.specs.Grants.{AreGrants}
 use Rattle.grant_table.proofs.GrantFacts.{none_yet}
 use Rattle.grant_table.proofs.PlaceFacts.{index_of_nothing}
 use Rattle.grant_table.proofs.tables.GrantTable.new.Goals as goal

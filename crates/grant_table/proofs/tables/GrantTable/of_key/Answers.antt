@@ -1,4 +1,4 @@
-use Rattle.std.proofs.Common.{◌≡◌, ◌&&◌, List, ℕ, ap, sym, subst, ◌∙◌, find}
+use Rattle.std.proofs.Common.{◌&&◌, List, ℕ, ap, sym, subst, ◌∙◌, find}
 use Rattle.std.specs.Cmp.Lexicographic.{slice_cmp}
 use Rattle.std.specs.List.Sorted.{IsSortedByKey}
 use Rattle.std.specs.Ordering.{nat_cmp}
