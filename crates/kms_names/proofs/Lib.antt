@@ -15,3 +15,4 @@ pub mod PatternFacts
 pub mod Decisions
 pub mod GlobDecision
 pub mod PrincipalDecision
+pub mod Behind

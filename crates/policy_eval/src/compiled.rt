@@ -118,6 +118,16 @@ impl Compiled {
         }
     }
 
+    /// The verdict, by the kind of the policy.
+    fn judged(&self, facts: &RequestFacts) -> Verdict
+        ensures { IsVerdict self.now facts.now result }
+    {
+        match self.kind {
+            PolicyKind::Key => self.key_verdict(facts),
+            PolicyKind::Identity => self.identity_verdict(facts),
+        }
+    }
+
     /// What the policy says of a request. In a key policy a Deny statement that matches and names the caller,
     /// everyone or the root of the caller's account gives `Deny`; else an Allow statement that matches and names the
     /// caller or everyone gives `Direct`; else one that matches and names the root of the caller's account gives
@@ -129,10 +139,7 @@ impl Compiled {
         ensures is { IsVerdict self.now facts.now result }
         ensures one { result ≡ verdict_of self.now facts.now }
     {
-        match self.kind {
-            PolicyKind::Key => self.key_verdict(facts),
-            PolicyKind::Identity => self.identity_verdict(facts),
-        }
+        self.judged(facts)
     }
 
     fn has_conditions(&self) -> bool

@@ -1,0 +1,2 @@
+pub mod AliasFacts
+pub mod IndexFacts

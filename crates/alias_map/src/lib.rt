@@ -1,0 +1,10 @@
+//! The aliases of an account (AWS KMS Developer Guide, "Aliases in AWS KMS").
+#![tactic(auto)]
+
+mod maps;
+mod rows;
+mod threads;
+
+pub use maps::AliasMap;
+pub use rows::AliasRow;
+pub use threads::alias_map_crosses_threads;

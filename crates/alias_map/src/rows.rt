@@ -1,0 +1,61 @@
+//! Aliases as an account keeps them.
+
+ghost use Rattle.std.specs.Prelude.{◌≡◌, ◌&&◌, IfOk};
+ghost use Rattle.std.specs.Str.{bytes_eq};
+ghost use Rattle.alias_map.specs.Aliases.{has_name, names_key, is_after};
+
+use kms_names::{AliasName, KeyId, NoMemory};
+
+/// An alias of an account.
+#[derive(Debug, Drop)]
+pub struct AliasRow {
+    /// Its name, from `alias/` on.
+    pub name: AliasName,
+    /// The place of the entry that made it, counted from 0.
+    pub born: u64,
+    /// When it was made, in seconds since 1970.
+    pub made: u64,
+    /// When it was last put, in seconds since 1970.
+    pub updated: u64,
+    /// The key that it names.
+    pub key: KeyId,
+}
+
+impl AliasRow {
+    /// A copy that equals its source.
+    pub fn copy(&self) -> Result<AliasRow, NoMemory>
+        ensures { IfOk result (λ row. row ≡ self.now) }
+    {
+        Ok(AliasRow {
+            name: self.name.copy()?,
+            born: self.born,
+            made: self.made,
+            updated: self.updated,
+            key: self.key,
+        })
+    }
+
+    /// Whether this is its name.
+    pub(crate) fn has_name(&self, name: &AliasName) -> bool
+        ensures { result ≡ has_name name.now self.now }
+    {
+        self.name == *name
+    }
+
+    /// Whether it names this key.
+    pub(crate) fn names_key(&self, key: &KeyId) -> bool
+        ensures { result ≡ names_key key.now self.now }
+    {
+        self.key == *key
+    }
+
+    /// Whether it was made behind this place; every alias was where none is given.
+    pub(crate) fn is_after(&self, after: Option<u64>) -> bool
+        ensures { result ≡ is_after after self.now }
+    {
+        match after {
+            Some(place) => place < self.born,
+            None => true,
+        }
+    }
+}

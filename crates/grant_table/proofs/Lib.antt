@@ -1,0 +1,4 @@
+pub mod GrantFacts
+pub mod IndexFacts
+pub mod PlaceFacts
+pub mod PermitFacts

@@ -1,0 +1,5 @@
+pub mod Principals
+pub mod Constraints
+pub mod Grants
+pub mod Index
+pub mod Tables

@@ -1,0 +1,14 @@
+//! The grants of an account (AWS KMS Developer Guide, "Grants in AWS KMS").
+#![tactic(auto)]
+
+mod constraints;
+mod index;
+mod principals;
+mod rows;
+mod tables;
+mod threads;
+
+pub use constraints::Constraint;
+pub use rows::GrantRow;
+pub use tables::GrantTable;
+pub use threads::grant_table_crosses_threads;

@@ -1,0 +1,30 @@
+//! The states of keys.
+
+/// What an account keeps of a key's state.
+#[derive(Clone, Copy, Debug, PartialEq, Eq)]
+pub enum Stored {
+    /// The key may be used.
+    Enabled,
+    /// It may not be used until it is enabled.
+    Disabled,
+    /// Its deletion is scheduled.
+    Pending {
+        /// When it is deleted, in seconds since 1970.
+        date: u64,
+        /// The waiting period that was asked for, in days.
+        days: u32,
+    },
+}
+
+/// The state of a key at a moment.
+#[derive(Clone, Copy, Debug, PartialEq, Eq)]
+pub enum State {
+    /// The key may be used.
+    Enabled,
+    /// It may not be used until it is enabled.
+    Disabled,
+    /// Its deletion is scheduled for a later moment.
+    PendingDeletion,
+    /// Its date of deletion has come: it is treated as absent.
+    Gone,
+}
