@@ -5,7 +5,7 @@ ghost use Rattle.account_core.specs.Decide.{account_of};
 
 use crate::cases::{Case, Ending, Span};
 use crate::replies::{input, is_all, is_front, reply_texts};
-use account_core::RealmFacts;
+use account_core::{IdentityList, RealmFacts};
 use kms_io::{MemoryClock, MemoryLink, NoGate};
 use kms_names::{AccountNumber, NoMemory, Principal, Text, read_principal};
 use kms_session::{SessionEnd, Trust, serve_session};
@@ -72,6 +72,7 @@ pub fn facts_of(alloc: Global, boot: u32) -> Result<Option<RealmFacts>, NoMemory
         region: Text::from_str(alloc, "us-east-1")?,
         root: [0; 32],
         boot,
+        identities: IdentityList::new(Vec::new(alloc)),
     }))
 }
 
