@@ -6,7 +6,7 @@ use Rattle.std.specs.Bool.{Decides}
 use Rattle.std.specs.Str.{bytes_eq}
 use Rattle.serde_json.specs.Read.{read as read_text}
 use Rattle.policy_doc.specs.declared.faults.PolicyFault.{PolicyFault}
-use Rattle.authority.specs.KeyPolicy.{fault_in, policy_in, no_statements, policy_without, default_front, default_back, default_text, default_policy}
+use Rattle.authority.specs.KeyPolicy.{fault_in, policy_in, no_statements, policy_without, default_front, default_back, default_text}
 
 -- a text with a fault has no statements
 pub faulty_is : (text : List ℕ) (why : PolicyFault) → fault_in text ≡ Some why → policy_in text ≡ no_statements
@@ -27,6 +27,7 @@ no_account text behind account front none =
 pub by_back : (text behind account back : List ℕ) (same : Bool) → text ≡ default_front ++ behind → behind ≡ account ++ back → same ≡ bytes_eq back default_back → Decides same (text ≡ default_text account)
 unfolding default_text
 by_back text behind account back same front middle is =
-    let decides = bytes_eq-Decides back default_back in
-    (λ yes. front ∙ ap (λ (t : List ℕ). default_front ++ t) (middle ∙ ap (λ (t : List ℕ). account ++ t) (decides.0 (sym is ∙ yes))),
-    λ whole. is ∙ decides.1 (append_cancel_left account back default_back (sym middle ∙ append_cancel_left default_front behind (account ++ default_back) (sym front ∙ whole))))
+    let decides = bytes_eq-Decides back default_back in (
+      λ yes. front ∙ ap (λ (t : List ℕ). default_front ++ t) (middle ∙ ap (λ (t : List ℕ). account ++ t) (decides.0 (sym is ∙ yes))),
+      λ whole. is ∙ decides.1 (append_cancel_left account back default_back (sym middle ∙ append_cancel_left default_front behind (account ++ default_back) (sym front ∙ whole))),
+    )

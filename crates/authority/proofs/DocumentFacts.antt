@@ -5,14 +5,12 @@ use Rattle.std.proofs.lemmas.Bool.{cases_lt, lt-ltb}
 use Rattle.std.specs.Str.{IsUtf8}
 use Rattle.serde_json.specs.Data.{Data}
 use Rattle.serde_json.specs.Read.{read as read_text}
-use Rattle.policy_doc.specs.Documents.{first_fault, statements_of}
 use Rattle.policy_doc.specs.Grammar.{IsPolicyOf}
 use Rattle.policy_doc.specs.Reading.{Reads, ReadsNothing, IsFaultOf}
 use Rattle.policy_doc.specs.declared.faults.PolicyFault.{PolicyFault}
 use Rattle.policy_doc.specs.declared.faults.PolicyFault.TheVariants as fault
 use Rattle.policy_doc.specs.declared.policies.Policy.{Policy}
 use Rattle.policy_doc.specs.declared.policies.PolicyKind.TheVariants.{Key}
-use Rattle.policy_doc.specs.declared.policies.Statement.{Statement}
 use Rattle.policy_doc.proofs.GrammarFacts.{policy_tells}
 use Rattle.authority.specs.KeyPolicy.{value_fault, fault_in, value_policy, policy_without, policy_in}
 

@@ -11,7 +11,8 @@ use std::alloc::Global;
 use std::marker::Model;
 use std::sync::Arc;
 
-const DEFAULT_FRONT: &str = "{\"Version\":\"2012-10-17\",\"Id\":\"key-default-1\",\"Statement\":[{\"Sid\":\"Enable IAM User Permissions\",\"Effect\":\"Allow\",\"Principal\":{\"AWS\":\"arn:aws:iam::";
+const DEFAULT_FRONT: &str =
+    "{\"Version\":\"2012-10-17\",\"Id\":\"key-default-1\",\"Statement\":[{\"Sid\":\"Enable IAM User Permissions\",\"Effect\":\"Allow\",\"Principal\":{\"AWS\":\"arn:aws:iam::";
 
 const DEFAULT_BACK: &str = ":root\"},\"Action\":\"kms:*\",\"Resource\":\"*\"}]}";
 

@@ -1,5 +1,4 @@
-use Rattle.std.proofs.Common.{◌≡◌, ◌≢◌, List, ℕ, ◌++◌, subst, rules}
-use Rattle.std.specs.Bool.{Decides}
+use Rattle.std.proofs.Common.{◌≡◌, ◌≢◌, List, ℕ, ◌++◌, subst}
 use Rattle.authority.specs.KeyPolicy.{default_front, default_back}
 use Rattle.authority.proofs.DefaultFacts.{no_front, no_account, by_back}
 use Rattle.authority.proofs.key_policies.is_default.Goals as goal

@@ -1,4 +1,4 @@
-use Rattle.std.proofs.Common.{◌≡◌, ◌∙◌, ap, IfOk, rules}
+use Rattle.std.proofs.Common.{◌∙◌, ap, rules}
 use Rattle.authority.specs.KeyPolicy.{policy_in, default_policy}
 use Rattle.authority.proofs.Results.{ok_where}
 use Rattle.authority.proofs.key_policies.KeyPolicy.of_account.Goals as goal

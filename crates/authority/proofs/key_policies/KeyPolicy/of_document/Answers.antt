@@ -1,4 +1,4 @@
-use Rattle.std.proofs.Common.{◌≡◌, ◌∙◌, sym, IfOk}
+use Rattle.std.proofs.Common.{◌∙◌, sym}
 use Rattle.authority.proofs.DefaultFacts.{faulty_is}
 use Rattle.authority.proofs.Results.{ok_where}
 use Rattle.authority.proofs.key_policies.KeyPolicy.of_document.Goals as goal

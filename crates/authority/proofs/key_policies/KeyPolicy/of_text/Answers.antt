@@ -1,4 +1,4 @@
-use Rattle.std.proofs.Common.{◌≡◌, ◌∙◌, sym, ap, IfOk}
+use Rattle.std.proofs.Common.{◌∙◌, sym, ap}
 use Rattle.authority.specs.KeyPolicy.{policy_in, default_policy}
 use Rattle.authority.proofs.Results.{ok_where}
 use Rattle.authority.proofs.key_policies.KeyPolicy.of_text.Goals as goal
