@@ -80,7 +80,7 @@ impl KeyPolicy {
         }
     }
 
-    /// The default policy of an account's keys.
+    /// The default policy of an account's keys, read from its text.
     pub fn of_account(alloc: Global, account: &AccountNumber) -> Result<KeyPolicy, NoMemory>
         ensures { IfOk result (λ p. p ≡ default_policy account.now) }
     {
@@ -98,8 +98,8 @@ impl KeyPolicy {
         Ok(KeyPolicy::of(alloc, &policy)?)
     }
 
-    /// The policy that a text is; one with a fault has no statements. Where the text is the default policy of this account, `shared`, which is that
-    /// policy, is shared.
+    /// The policy that a text is; one with a fault has no statements. Where the text is that of the default policy of this
+    /// account, what `shared` has read is shared.
     pub fn of_text(
         alloc: Global,
         text: &Text,
