@@ -6,7 +6,6 @@ use Rattle.std.specs.Map.{lookup}
 use Rattle.std.specs.Str.{bytes_eq}
 use Rattle.std.proofs.lemmas.List.{take_more}
 use Rattle.std.proofs.lemmas.List.Folds.{find-append}
-use Rattle.std.proofs.lemmas.Slice.Eq.{bytes_eq-Decides}
 use Rattle.kms_names.specs.Principal.{principal_text}
 use Rattle.policy_doc.specs.declared.policies.Policy.{Policy}
 use Rattle.authority.specs.declared.identities.Identity.{Identity}

@@ -1,12 +1,11 @@
 -- A question is allowed exactly where statements say so.
-use Rattle.std.proofs.Common.{◌≡◌, ◌⊎◌, inl, inr, ℕ, ◌<◌, length, get_or, Bool, true, false, not, ◌&&◌, ◌||◌, List, [], ◌∷◌, Option, Some, None, refl, sym, ap, subst, ◌∙◌, if◌then◌else◌}
-use Rattle.std.specs.Prelude.{◌↔◌, IsTrue, All, Any}
+use Rattle.std.proofs.Common.{◌≡◌, ◌⊎◌, inl, inr, ℕ, ◌<◌, length, get_or, Bool, true, false, not, ◌&&◌, List, Option, Some, None, refl, sym, subst, ◌∙◌, if◌then◌else◌}
+use Rattle.std.specs.Prelude.{◌↔◌, IsTrue, Any}
 use Rattle.std.proofs.lemmas.List.Folds.{Any-from_list_any, list_any-from_Any}
-use Rattle.kms_names.specs.declared.principals.Principal.{Principal}
 use Rattle.cond_ops.specs.declared.facts.RequestFacts.{RequestFacts}
 use Rattle.policy_doc.specs.declared.policies.Policy.{Policy}
 use Rattle.policy_doc.specs.declared.policies.PolicyKind.{PolicyKind}
-use Rattle.policy_doc.specs.declared.policies.PolicyKind.TheVariants.{Key, Identity}
+use Rattle.policy_doc.specs.declared.policies.PolicyKind.TheVariants.{Identity}
 use Rattle.policy_doc.specs.declared.policies.Statement.{Statement}
 use Rattle.policy_eval.specs.declared.verdicts.Verdict.{Verdict}
 use Rattle.policy_eval.specs.declared.verdicts.Verdict.TheVariants.{Deny, Direct, ByRoot, Silent}
@@ -14,7 +13,7 @@ use Rattle.policy_eval.specs.Verdict.{IsAllow, IsDeny, SomeDenies, SomeAllowsCal
 use Rattle.policy_eval.specs.VerdictOf.{verdict_of, verdict_of_lem}
 use Rattle.authority.specs.Setting.{Setting, Asked, is_root}
 use Rattle.authority.specs.Facts.{request_of}
-use Rattle.authority.specs.Allowed.{is_deny, is_direct, some_deny, some_allow, identity_allows, key_allows, allows, is_allowed, IdentityDenies, IdentityAllows, MayOnKey, MayWithoutKey, May, IsKeyPolicy, AreIdentityPolicies, AllowedByStatements}
+use Rattle.authority.specs.Allowed.{is_deny, is_direct, some_deny, some_allow, identity_allows, key_allows, is_allowed, IdentityDenies, IdentityAllows, May, IsKeyPolicy, AreIdentityPolicies, AllowedByStatements}
 
 module _ (request : RequestFacts) where
   abbrev Denies : Policy → Type 0

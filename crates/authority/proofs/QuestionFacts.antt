@@ -1,5 +1,5 @@
 -- A question has one answer, whether what the request says to conditions was put together or no policy has conditions.
-use Rattle.std.proofs.Common.{◌≡◌, ℕ, Bool, true, false, not, ◌&&◌, ◌||◌, List, [], ◌∷◌, Option, Some, None, refl, sym, ap, ap₂, ◌∙◌, if◌then◌else◌}
+use Rattle.std.proofs.Common.{◌≡◌, Bool, true, false, not, ◌&&◌, ◌||◌, List, [], ◌∷◌, Option, Some, None, refl, ap, ap₂, ◌∙◌, if◌then◌else◌}
 use Rattle.std.proofs.lemmas.List.Elements.{All-head, All-tail}
 use Rattle.kms_names.specs.declared.principals.Principal.{Principal}
 use Rattle.cond_ops.specs.declared.facts.RequestFacts.{RequestFacts}

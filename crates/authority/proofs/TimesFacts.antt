@@ -1,7 +1,7 @@
 -- The year, the month and the day of a count of days.
-use Rattle.std.proofs.Common.{◌≡◌, ◌≢◌, ℕ, zero, suc, ◌+◌, ◌-◌, ◌<◌, ◌≤◌, ◌⊎◌, nat_le, Bool, true, false, if◌then◌else◌, refl, sym, ap, ◌∙◌, subst, arith, inl, inr, leb-true, le-leb, ℤ, pos, negsuc}
+use Rattle.std.proofs.Common.{◌≡◌, ℕ, zero, suc, ◌+◌, ◌-◌, ◌<◌, ◌≤◌, nat_le, Bool, true, false, if◌then◌else◌, refl, sym, ap, ◌∙◌, subst, arith, inl, inr, leb-true, le-leb, ℤ, pos, negsuc}
 use Rattle.std.proofs.lemmas.Bool.{cases_lt}
-use Rattle.jiff_core.specs.Calendar.{IsYear, IsCivilDate, days_in_year, days_in_month, day_count, days_of_months, day_of_year, days_from_civil}
+use Rattle.jiff_core.specs.Calendar.{IsCivilDate, days_in_year, day_count, days_of_months, days_from_civil}
 use Rattle.jiff_core.proofs.CalendarLemmas.{days_from_civil-day_count, day_count-later_year, day_count-lt_year, day_count-day_of_year, day_count-epoch, days_of_months_more, days_of_months_mono, day_of_year_bound}
 use Rattle.jiff_core.proofs.SignedLemmas.{signed_arith}
 use Rattle.authority.specs.Times.{first_day, year_by, months_by}

@@ -1,10 +1,9 @@
-use Rattle.std.proofs.Common.{◌≡◌, ◌≢◌, ℕ, Bool, true, false, cond, List, Option, Some, None, sym, ap, subst, ◌∙◌}
+use Rattle.std.proofs.Common.{◌≡◌, ℕ, true, false, cond, List, Some, None, sym, ap, subst, ◌∙◌}
 use Rattle.std.specs.Prelude.{string_bytes, option_map}
 use Rattle.std.specs.Str.{bytes_eq}
 use Rattle.std.specs.HashMap.{get_by_text}
 use Rattle.std.proofs.lemmas.Map.Text.{hash_map_updates_text}
 use Rattle.std.proofs.lemmas.Slice.Eq.{bytes_eq-Decides}
-use Rattle.policy_doc.specs.declared.policies.Policy.{Policy}
 use Rattle.authority.specs.Callers.{kept_at}
 use Rattle.authority.proofs.CallerFacts.{kept_already, kept_now, copied_some, not_none, is_none, map_cond}
 use Rattle.authority.proofs.callers.keep.Goals as goal

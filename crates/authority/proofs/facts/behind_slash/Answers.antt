@@ -1,4 +1,4 @@
-use Rattle.std.proofs.Common.{◌≡◌, ℕ, ◌++◌, ◌∷◌, List, sym, ap, ◌∙◌, rules}
+use Rattle.std.proofs.Common.{sym, ap, ◌∙◌, rules}
 use Rattle.authority.specs.Facts.{behind_slash}
 use Rattle.authority.proofs.SlashFacts.{behind_none, behind_more}
 use Rattle.authority.proofs.facts.behind_slash.Goals as goal

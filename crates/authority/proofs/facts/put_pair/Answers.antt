@@ -1,4 +1,4 @@
-use Rattle.std.proofs.Common.{◌≡◌, ◌++◌, codes, ap, ◌∙◌}
+use Rattle.std.proofs.Common.{◌++◌, codes, ap, ◌∙◌}
 use Rattle.authority.proofs.FactFacts.{pair_is}
 use Rattle.authority.proofs.facts.put_pair.Goals as goal
 

@@ -1,4 +1,4 @@
-use Rattle.std.proofs.Common.{◌≡◌, ◌∙◌, subst, List, ℕ}
+use Rattle.std.proofs.Common.{◌∙◌, subst, List, ℕ}
 use Rattle.authority.proofs.DocumentFacts.{Reading, read_is}
 use Rattle.authority.proofs.key_policies.read_document.Goals as goal
 

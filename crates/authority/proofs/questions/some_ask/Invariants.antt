@@ -1,4 +1,4 @@
-use Rattle.std.proofs.Common.{◌≡◌, ℕ, ◌<◌, get_or}
+use Rattle.std.proofs.Common.{ℕ, ◌<◌, get_or}
 use Rattle.policy_doc.specs.declared.policies.Policy.{Policy}
 use Rattle.policy_eval.specs.Laws.{HasOneVerdictByQuestion}
 use Rattle.authority.proofs.questions.some_ask.Given as goal

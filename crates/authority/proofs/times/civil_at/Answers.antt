@@ -1,4 +1,4 @@
-use Rattle.std.proofs.Common.{◌≡◌, ℕ, ◌+◌, ◌-◌, ◌/◌, ◌%◌, ◌^◌, ◌<◌, ◌≤◌, Ok, IfOk, refl, ap, ◌∙◌, sym, subst, FitsSigned, to_z, of_z, w16, w64, ℤ, pos, arith, rules}
+use Rattle.std.proofs.Common.{◌≡◌, ℕ, ◌+◌, ◌-◌, ◌/◌, ◌%◌, ◌^◌, ◌<◌, ◌≤◌, IfOk, ap, ◌∙◌, sym, subst, FitsSigned, to_z, of_z, w16, w64, ℤ, pos, arith, rules}
 use Rattle.std.specs.Prelude.{unsigned_abs}
 use Rattle.std.proofs.lemmas.Int.{to_z-of_z}
 use Rattle.jiff_core.specs.Calendar.{day_count, days_of_months}
@@ -27,9 +27,9 @@ civil_of moment date found =
     let months : date.month ≡ months_at moment + 1 = sym found.months_by ∙ ap (λ (y : ℕ). months_by y 11 (moment / 86400 + first_day - day_count (pos y) 1 1) + 1) years in
     let before : date.month - 1 ≡ months_at moment = omega (arith, months) in
     let days : date.day ≡ (civil_by moment).day =
-        sym found.day_by
-        ∙ ap (λ (y : ℕ). moment / 86400 + first_day - day_count (pos y) 1 1 - days_of_months (pos y) (date.month - 1) + 1) years
-        ∙ ap (λ (k : ℕ). moment / 86400 + first_day - day_count (pos (year_at moment)) 1 1 - days_of_months (pos (year_at moment)) k + 1) before in
+    sym found.day_by
+    ∙ ap (λ (y : ℕ). moment / 86400 + first_day - day_count (pos y) 1 1 - days_of_months (pos y) (date.month - 1) + 1) years
+    ∙ ap (λ (k : ℕ). moment / 86400 + first_day - day_count (pos (year_at moment)) 1 1 - days_of_months (pos (year_at moment)) k + 1) before in
     λ i. record { year = year i; month = months i; day = days i; hour = moment % 86400 / 3600; minute = moment % 3600 / 60; second = moment % 60 }
 
 module _ (c : goal.After-struct_told-1) where

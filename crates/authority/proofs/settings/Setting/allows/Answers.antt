@@ -1,5 +1,4 @@
-use Rattle.std.proofs.Common.{◌≡◌, ◌∙◌, List, Option, ap, subst, false}
-use Rattle.policy_doc.specs.declared.policies.Policy.{Policy}
+use Rattle.std.proofs.Common.{◌∙◌, ap, subst}
 use Rattle.authority.specs.Setting.{Setting, Asked}
 use Rattle.authority.specs.Allowed.{allows}
 use Rattle.authority.specs.Questions.{GoByQuestions, KeyGoesByQuestion}
@@ -15,5 +14,5 @@ returns c =
     c.allows.ensures
     ∙ (λ i. allows (seen i).caller (seen i).policies (c.compiled-policy.ensures i) c.in_ok-request.request)
     ∙ one_answer setting asked _ c.some_wants-wanted.result c.in_ok-request.request
-        (λ none. subst KeyGoesByQuestion c.compiled-policy.ensures (c.some_wants-wanted.ensures.key none))
-        (λ none. subst GoByQuestions policies (c.some_wants-wanted.ensures.own none)) c.in_ok-request.ensures
+    (λ none. subst KeyGoesByQuestion c.compiled-policy.ensures (c.some_wants-wanted.ensures.key none))
+    (λ none. subst GoByQuestions policies (c.some_wants-wanted.ensures.own none)) c.in_ok-request.ensures

@@ -1,4 +1,4 @@
-use Rattle.std.proofs.Common.{◌≡◌, ◌∙◌, ap, refl}
+use Rattle.std.proofs.Common.{◌∙◌, ap, refl}
 use Rattle.authority.specs.Setting.{Setting}
 use Rattle.authority.specs.Facts.{request_of}
 use Rattle.authority.proofs.settings.Setting.request.Goals as goal
