@@ -11,8 +11,12 @@ pub struct Moment {
 /// Some bytes of the input.
 #[derive(Drop)]
 pub enum Request {
-    /// A message that asks the operation for this, with a body.
-    Ask { operation: String, body: String },
+    /// A message by which this caller asks the operation for this, with a body.
+    Ask {
+        caller: String,
+        operation: String,
+        body: String,
+    },
     /// Bytes as they stand.
     Raw(Vec<u8>),
 }
@@ -30,7 +34,12 @@ impl Request {
     /// The same request.
     pub fn copy(&self, alloc: Global) -> Result<Request, AllocError> {
         Ok(match self {
-            Request::Ask { operation, body } => Request::Ask {
+            Request::Ask {
+                caller,
+                operation,
+                body,
+            } => Request::Ask {
+                caller: String::from_str(alloc, caller.as_str())?,
                 operation: String::from_str(alloc, operation.as_str())?,
                 body: String::from_str(alloc, body.as_str())?,
             },
@@ -65,6 +74,13 @@ pub struct Places {
     pub ivs: u64,
 }
 
+/// A policy of a principal, both as texts.
+#[derive(Drop)]
+pub struct OwnPolicy {
+    pub principal: String,
+    pub text: String,
+}
+
 /// How a case ends.
 #[derive(Drop)]
 pub enum Ending {
@@ -74,11 +90,12 @@ pub enum Ending {
     Left(Places),
 }
 
-/// A case.
+/// A case. The caller is the one of its next request.
 #[derive(Drop)]
 pub struct Case {
     pub what: String,
     pub caller: String,
+    pub policies: Vec<OwnPolicy>,
     pub boot: u32,
     pub clock: Vec<Moment>,
     pub pieces: Span,
@@ -99,6 +116,7 @@ impl Case {
         Ok(Case {
             what: String::from_str(alloc, what)?,
             caller: String::from_str(alloc, ROOT)?,
+            policies: Vec::new(alloc),
             boot: 1,
             clock: Vec::new(alloc),
             pieces: Span { first: 0, last: 0 },

@@ -20,6 +20,10 @@ pub enum Line<'a> {
         date: &'a str,
     },
     Caller(&'a str),
+    Policy {
+        principal: &'a str,
+        text: &'a str,
+    },
     Boot(u32),
     Pieces(Span),
     Cut(Span),
@@ -158,6 +162,10 @@ fn read_setting<'a>(word: &str, rest: &'a str) -> Option<Line<'a>> {
             })
         }
         "as" => Some(Line::Caller(rest)),
+        "policy" => {
+            let (principal, text) = rest.split_once(' ')?;
+            Some(Line::Policy { principal, text })
+        }
         "boot" => Some(Line::Boot(rest.parse().ok()?)),
         "pieces" => Some(Line::Pieces(read_span(rest)?)),
         "cut" => Some(Line::Cut(read_span(rest)?)),

@@ -3,6 +3,7 @@
 #![tactic(auto)]
 
 mod cases;
+mod identities;
 mod lines;
 mod places;
 mod replies;
@@ -21,7 +22,7 @@ use std::sync::Wait;
 use std::{fs, io, rt};
 
 // The scripts, each with the cases that show one thing.
-const SCRIPTS: [&str; 10] = [
+const SCRIPTS: [&str; 12] = [
     "first_path.txt",
     "pieces.txt",
     "faults.txt",
@@ -32,6 +33,8 @@ const SCRIPTS: [&str; 10] = [
     "refusals_in_order.txt",
     "sizes.txt",
     "limits.txt",
+    "authority.txt",
+    "key_policies.txt",
 ];
 
 // How many cases held, and how many didn't.

@@ -2,10 +2,10 @@
 ghost use Rattle.std.specs.Prelude.{◌≡◌, ◌≤◌, ◌^◌, IfOk, true};
 ghost use Rattle.kms_json.specs.Asks.{changes_account};
 ghost use Rattle.account_core.specs.Places.{IsLineOf};
-ghost use Rattle.account_core.specs.Decide.{IsProper};
+ghost use Rattle.account_core.specs.Decide.{IsProper, account_of};
 
 use crate::cases::{Case, Ending, Places, Request, Wanted};
-use crate::sessions::{Outcome, facts_of};
+use crate::sessions::{Outcome, caller_of, facts_of};
 use account_core::{Account, Decision, RealmFacts};
 use draw_lines::DrawLine;
 use kms_json::{Ask, JsonFault, Reply, read_ask, write_reply};
@@ -15,7 +15,14 @@ use std::alloc::{AllocError, Global};
 
 const MOST: u64 = 0x1_0000_0000_0000;
 
-fn ask(alloc: Global, facts: &RealmFacts, operation: &str, body: &str) -> Result<Ask, JsonFault>
+fn ask(
+    alloc: Global,
+    facts: &RealmFacts,
+    caller: Principal,
+    operation: &str,
+    body: &str,
+) -> Result<Ask, JsonFault>
+    requires { account_of caller ≡ facts.now.account }
     ensures { IfOk result (λ ask. IsProper facts.now ask) }
 {
     let Ok(target) = format!(in alloc; "TrentService.{operation}") else {
@@ -23,7 +30,7 @@ fn ask(alloc: Global, facts: &RealmFacts, operation: &str, body: &str) -> Result
     };
     Ok(Ask {
         body: read_ask(alloc, target.as_bytes(), body.as_bytes())?,
-        caller: Principal::Root(facts.account),
+        caller,
         moment: 1_700_000_000,
         after: None,
     })
@@ -88,15 +95,19 @@ impl Asked {
         request: &Request,
         wanted: &Wanted,
     ) -> Result<bool, JsonFault> {
-        let Request::Ask { operation, body } = request else {
+        let Request::Ask {
+            caller,
+            operation,
+            body,
+        } = request
+        else {
             return Ok(false);
         };
-        let ask = ask(
-            alloc,
-            self.account.facts(),
-            operation.as_str(),
-            body.as_str(),
-        )?;
+        let facts = self.account.facts();
+        let Some(caller) = caller_of(alloc, facts, caller.as_str())? else {
+            return Ok(false);
+        };
+        let ask = ask(alloc, facts, caller, operation.as_str(), body.as_str())?;
         let reply = self.answer(alloc, &ask)?;
         let body = write_reply(alloc, &reply)?;
         Ok(
@@ -108,11 +119,11 @@ impl Asked {
 }
 
 // The account of a case, with a line that has given so much.
-fn open_account(alloc: Global, boot: u32, spent: Places) -> Result<Option<Asked>, NoMemory> {
+fn open_account(alloc: Global, case: &Case, spent: Places) -> Result<Option<Asked>, NoMemory> {
     if spent.words > MOST || spent.ivs > MOST {
         return Ok(None);
     }
-    let Some(facts) = facts_of(alloc, boot)? else {
+    let Some(facts) = facts_of(alloc, case)? else {
         return Ok(None);
     };
     let line = line_after(&facts, spent.words, spent.ivs);
@@ -142,7 +153,7 @@ pub fn hold_places(alloc: Global, case: &Case) -> Result<Outcome, NoMemory> {
     if case.requests.len() != case.replies.len() {
         return Ok(Outcome::Differs("lacks a reply"));
     }
-    let Some(mut asked) = open_account(alloc, case.boot, spent)? else {
+    let Some(mut asked) = open_account(alloc, case, spent)? else {
         return Ok(Outcome::Differs("can't be asked"));
     };
     let outcome = compare(alloc, case, &mut asked)?;

@@ -65,7 +65,11 @@ pub fn input(alloc: Global, case: &Case) -> Result<Vec<u8>, AllocError> {
     let mut all = Vec::new(alloc);
     for request in case.requests.iter() {
         match request {
-            Request::Ask { operation, body } => {
+            Request::Ask {
+                operation,
+                body,
+                ..
+            } => {
                 let text = message(alloc, operation.as_str(), body.as_str())?;
                 all.extend_from_slice(text.as_bytes())?;
             }

@@ -1,5 +1,5 @@
 // Scripts: their cases, one after another.
-use crate::cases::{Case, Ending, Moment, Request, Wanted};
+use crate::cases::{Case, Ending, Moment, OwnPolicy, Request, Wanted};
 use crate::lines::{Answer, Line, read_line};
 use crate::texts::{Texts, has_name, unescaped};
 use std::alloc::{AllocError, Global};
@@ -50,6 +50,7 @@ fn add_again(alloc: Global, case: &mut Case, count: usize) -> Result<bool, Alloc
 fn add_turn(alloc: Global, case: &mut Case, line: &Line<'_>) -> Result<bool, AllocError> {
     match line {
         Line::Ask { operation, body } => case.requests.push(Request::Ask {
+            caller: String::from_str(alloc, case.caller.as_str())?,
             operation: String::from_str(alloc, operation)?,
             body: String::from_str(alloc, body)?,
         })?,
@@ -79,6 +80,32 @@ fn add_turn(alloc: Global, case: &mut Case, line: &Line<'_>) -> Result<bool, All
     Ok(true)
 }
 
+// Sets who asks from here on. In a session one caller asks everything.
+fn add_caller(alloc: Global, case: &mut Case, caller: &str) -> Result<bool, AllocError> {
+    if case.spent.is_none() && !case.requests.is_empty() {
+        return Ok(false);
+    }
+    case.caller = String::from_str(alloc, caller)?;
+    Ok(true)
+}
+
+// Gives a principal a policy, before the first request.
+fn add_policy(
+    alloc: Global,
+    case: &mut Case,
+    principal: &str,
+    text: &str,
+) -> Result<bool, AllocError> {
+    if !case.requests.is_empty() {
+        return Ok(false);
+    }
+    case.policies.push(OwnPolicy {
+        principal: String::from_str(alloc, principal)?,
+        text: String::from_str(alloc, text)?,
+    })?;
+    Ok(true)
+}
+
 // Adds to a case what a line sets, or one of its turns.
 fn add_line(alloc: Global, case: &mut Case, line: &Line<'_>) -> Result<bool, AllocError> {
     match line {
@@ -86,7 +113,8 @@ fn add_line(alloc: Global, case: &mut Case, line: &Line<'_>) -> Result<bool, All
             second: *second,
             date: String::from_str(alloc, date)?,
         })?,
-        Line::Caller(caller) => case.caller = String::from_str(alloc, caller)?,
+        Line::Caller(caller) => return add_caller(alloc, case, caller),
+        Line::Policy { principal, text } => return add_policy(alloc, case, principal, text),
         Line::Boot(boot) => case.boot = *boot,
         Line::Pieces(pieces) => case.pieces = *pieces,
         Line::Cut(cut) => case.cut = Some(*cut),

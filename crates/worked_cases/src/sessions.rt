@@ -1,13 +1,14 @@
 // Cases that are served as sessions.
-ghost use Rattle.std.specs.Prelude.{◌≡◌, IsTrue, IfSome};
+ghost use Rattle.std.specs.Prelude.{◌≡◌, IfOk, IfSome};
 ghost use Rattle.kms_io.specs.Clock.{are_times};
 ghost use Rattle.account_core.specs.Decide.{account_of};
 
 use crate::cases::{Case, Ending, Span};
+use crate::identities::{identities_of, principal_of};
 use crate::replies::{input, is_all, is_front, reply_texts};
-use account_core::{IdentityList, RealmFacts};
+use account_core::RealmFacts;
 use kms_io::{MemoryClock, MemoryLink, NoGate};
-use kms_names::{AccountNumber, NoMemory, Principal, Text, read_principal};
+use kms_names::{AccountNumber, NoMemory, Principal, Text};
 use kms_session::{SessionEnd, Trust, serve_session};
 use publish_pass::{Opening, open_service};
 use std::alloc::{AllocError, Global};
@@ -62,17 +63,21 @@ fn clock_of(alloc: Global, case: &Case) -> Result<Option<MemoryClock>, AllocErro
     }
 }
 
-/// The facts of a case: account 111122223333, region us-east-1, a root secret of zeros.
-pub fn facts_of(alloc: Global, boot: u32) -> Result<Option<RealmFacts>, NoMemory> {
-    let Some(account) = AccountNumber::read("111122223333") else {
+/// The facts of a case: account 111122223333, region us-east-1, a root secret of zeros, and the
+/// principals of the case with their policies.
+pub fn facts_of(alloc: Global, case: &Case) -> Result<Option<RealmFacts>, NoMemory> {
+    let (Some(account), Some(identities)) = (
+        AccountNumber::read("111122223333"),
+        identities_of(alloc, case)?,
+    ) else {
         return Ok(None);
     };
     Ok(Some(RealmFacts {
         account,
         region: Text::from_str(alloc, "us-east-1")?,
         root: [0; 32],
-        boot,
-        identities: IdentityList::new(Vec::new(alloc)),
+        boot: case.boot,
+        identities,
     }))
 }
 
@@ -83,6 +88,20 @@ fn account_in(principal: &Principal) -> AccountNumber
     match principal {
         Principal::Root(account) | Principal::User(account, _) | Principal::Role(account, _) =>
             *account,
+    }
+}
+
+/// Who asks, if a text names a principal of the account.
+pub fn caller_of(
+    alloc: Global,
+    facts: &RealmFacts,
+    text: &str,
+) -> Result<Option<Principal>, NoMemory>
+    ensures { IfOk result (λ found. IfSome found (λ caller. account_of caller ≡ facts.now.account)) }
+{
+    match principal_of(alloc, text)? {
+        Some(caller) if account_in(&caller) == facts.account => Ok(Some(caller)),
+        _ => Ok(None),
     }
 }
 
@@ -109,16 +128,12 @@ fn serve<W: Wait>(
     case: &Case,
     manner: Manner,
 ) -> Result<Option<Served>, NoMemory> {
-    let (Some(facts), Some(mut clock)) = (facts_of(alloc, case.boot)?, clock_of(alloc, case)?)
-    else {
+    let (Some(facts), Some(mut clock)) = (facts_of(alloc, case)?, clock_of(alloc, case)?) else {
         return Ok(None);
     };
-    let Ok(caller) = read_principal(alloc, case.caller.as_str()) else {
+    let Some(caller) = caller_of(alloc, &facts, case.caller.as_str())? else {
         return Ok(None);
     };
-    if account_in(&caller) != facts.account {
-        return Ok(None);
-    }
     let mut link = link_of(alloc, case, manner)?;
     let opening = Opening::new(rt, alloc, facts, 1)?;
     let (service, mut passes) = open_service::<W, Brand>(rt, alloc, opening)?;

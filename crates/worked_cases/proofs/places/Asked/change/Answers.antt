@@ -1,4 +1,4 @@
-use Rattle.std.proofs.Common.{◌≡◌, sym, ◌∙◌}
+use Rattle.std.proofs.Common.{sym, ◌∙◌}
 use Rattle.account_core.specs.Places.{places_of}
 use Rattle.publish_pass.proofs.PassLemmas.{next_entry}
 use Rattle.worked_cases.proofs.places.Asked.change.Goals as goal
