@@ -88,8 +88,7 @@ module _ (view : View) (kinds : AreIdentityPolicies (setting_of view).policies) 
       (q, record { before = []; behind = questions; are = refl; allowed = λ k d lt. absurd (omega (arith, lt)); denied = told.0 }, told.1)
   names_where None q questions why is later e =
       let found = later e in
-      let first = found.1 in
-      (
+      let first = found.1 in (
         found.0,
         record {
           before = q ∷ first.before;

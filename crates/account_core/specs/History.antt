@@ -50,4 +50,3 @@ housekeeping_of history clock = None
 -- the first row of an id
 abbrev pub key_with : List KeyRow → List ℕ → Option KeyRow
 key_with rows id = find (λ row. bytes_eq row.key id) rows
-

@@ -16,7 +16,6 @@ use Rattle.account_core.specs.Steps.{unless, and_then, or_else}
 use Rattle.account_core.specs.Authority.{Question, denied}
 use Rattle.account_core.specs.View.{View}
 
-
 -- a key whose state counts, for this action
 pub record Use : Type 0 where
   pub action : Action

@@ -4,13 +4,13 @@ ghost use Rattle.std.specs.Str.{bytes_eq};
 ghost use Rattle.account_core.specs.History.{keys_after, with_policy, policy_put};
 
 use crate::decide::{decision_from, lacking_entries};
+use crate::entries::SharedEntry;
 use crate::operations::{change_body, read_body};
 use crate::places::Places;
-use crate::stops::Stop;
-use crate::view::View;
-use crate::entries::SharedEntry;
 use crate::realm::Realm;
 use crate::rows::{DefaultPolicy, HeldKey, KeyRow, same_key};
+use crate::stops::Stop;
+use crate::view::View;
 use crate::{Decision, Entry, RealmFacts, What};
 use draw_lines::DrawLine;
 use kms_json::{Ask, AskBody, Reply};
@@ -230,12 +230,7 @@ impl Account {
     }
 
     // What the steps of a request's decision go by.
-    fn view<'a>(
-        &'a self,
-        alloc: Global,
-        ask: &'a Ask,
-        places: Places,
-    ) -> Result<View<'a>, NoMemory>
+    fn view<'a>(&'a self, alloc: Global, ask: &'a Ask, places: Places) -> Result<View<'a>, NoMemory>
         ensures { IfOk result (λ view. view ≡ view_of self.now.facts self.now.entries ask.now places) }
     {
         let policies = self.realm.policies_of(alloc, &ask.caller)?;

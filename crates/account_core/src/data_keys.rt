@@ -3,8 +3,8 @@ ghost use Rattle.std.specs.Prelude.{◌≤◌};
 ghost use Rattle.account_core.specs.Crypto.{generates_data_key, generates_sealed_data_key};
 
 use crate::checks::{key_of, unsupported};
-use crate::particulars::of_context;
 use crate::crypto::{draw, seal};
+use crate::particulars::of_context;
 use crate::parts::{Operation, Reads, refuse};
 use crate::places::Uses;
 use crate::rows::Lent;
@@ -103,7 +103,8 @@ impl<'a> Operation for GeneratingDataKey<'a> {
     }
 
     fn authorize(&self, alloc: Global, found: &Lent<'a>) -> Result<(), Stop> {
-        self.drawing.authorize(alloc, Action::GenerateDataKey, found)
+        self.drawing
+            .authorize(alloc, Action::GenerateDataKey, found)
     }
 
     fn own(&self, _alloc: Global, _found: &Lent<'a>) -> Result<(), Stop> {
@@ -165,7 +166,8 @@ impl<'a> Operation for GeneratingSealedDataKey<'a> {
     }
 
     fn authorize(&self, alloc: Global, found: &Lent<'a>) -> Result<(), Stop> {
-        self.drawing.authorize(alloc, Action::GenerateDataKeyWithoutPlaintext, found)
+        self.drawing
+            .authorize(alloc, Action::GenerateDataKeyWithoutPlaintext, found)
     }
 
     fn own(&self, _alloc: Global, _found: &Lent<'a>) -> Result<(), Stop> {

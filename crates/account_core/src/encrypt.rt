@@ -3,8 +3,8 @@ ghost use Rattle.std.specs.Prelude.{◌≤◌, length};
 ghost use Rattle.account_core.specs.Crypto.{encrypts};
 
 use crate::checks::{key_of, unfit};
-use crate::particulars::of_context;
 use crate::crypto::{ONE_IV, seal};
+use crate::particulars::of_context;
 use crate::parts::{Operation, Reads, refuse};
 use crate::places::Uses;
 use crate::rows::Lent;

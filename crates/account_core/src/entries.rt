@@ -14,7 +14,10 @@ pub enum What {
         policy: Text,
     },
     /// A key was given another policy.
-    Policy { key: KeyId, text: Text },
+    Policy {
+        key: KeyId,
+        text: Text,
+    },
 }
 
 impl What {

@@ -127,8 +127,7 @@ impl<'a> Operation for CreatingKey<'a> {
 
     fn authorize(&self, alloc: Global, _found: &()) -> Result<(), Stop> {
         let particulars = of_policy(self.x.bypass_lockout_check);
-        self.view
-            .authorize(alloc, Action::CreateKey, &particulars)
+        self.view.authorize(alloc, Action::CreateKey, &particulars)
     }
 
     fn own(&self, alloc: Global, _found: &()) -> Result<(), Stop> {

@@ -3,9 +3,9 @@ ghost use Rattle.account_core.specs.Crypto.{re_encrypts};
 
 use crate::checks::{key_of, unfit};
 use crate::crypto::{ONE_IV, Sealable, seal};
+use crate::particulars::of_turning;
 use crate::parts::{Operation, Reads, refuse};
 use crate::places::Uses;
-use crate::particulars::of_turning;
 use crate::rows::{Lent, same_key};
 use crate::sources::{Sealed, find_source};
 use crate::stops::Stop;
