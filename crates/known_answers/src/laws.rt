@@ -37,7 +37,7 @@ fn of_blobs() {
     crypto_ops::sealed_opens_again();
 }
 
-/// The laws of conditions and of policy documents.
+/// The laws of conditions, of policy documents and of verdicts.
 fn of_policies() {
     cond_ops::moments_are_one();
     cond_ops::numbers_are_one();
@@ -45,6 +45,8 @@ fn of_policies() {
     cond_ops::related_values_have_the_form();
     policy_doc::first_fault_has_place();
     policy_doc::policy_of_reads();
+    policy_eval::verdict_of_is_the_verdict();
+    policy_eval::verdicts_are_one();
 }
 
 /// Calls each law.

@@ -12,6 +12,7 @@ mod conditions;
 mod contexts;
 mod draws;
 mod globs;
+mod keys;
 mod laws;
 mod macs;
 mod names;

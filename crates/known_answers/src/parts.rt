@@ -1,7 +1,9 @@
 //! The parts whose answers are known.
 
 use crate::columns::Columns;
-use crate::{blobs, ciphers, conditions, contexts, draws, globs, macs, names, policies, verdicts};
+use crate::{
+    blobs, ciphers, conditions, contexts, draws, globs, keys, macs, names, policies, verdicts,
+};
 use std::alloc::Global;
 
 /// A part, with a file of cases.
@@ -19,11 +21,12 @@ pub enum Part {
     Conditions,
     Policies,
     Verdicts,
+    KeyStates,
 }
 
 impl Part {
     /// All parts.
-    pub const ALL: [Part; 12] = [
+    pub const ALL: [Part; 13] = [
         Part::Aes256,
         Part::Ghash,
         Part::Gcm,
@@ -36,6 +39,7 @@ impl Part {
         Part::Conditions,
         Part::Policies,
         Part::Verdicts,
+        Part::KeyStates,
     ];
 
     /// The name of the part's file.
@@ -53,6 +57,7 @@ impl Part {
             Part::Conditions => "conditions.txt",
             Part::Policies => "policies.txt",
             Part::Verdicts => "verdicts.txt",
+            Part::KeyStates => "key_states.txt",
         }
     }
 
@@ -72,6 +77,7 @@ impl Part {
             Part::Conditions => conditions::conditions(alloc, columns),
             Part::Policies => policies::policies(alloc, columns),
             Part::Verdicts => verdicts::verdicts(alloc, columns),
+            Part::KeyStates => keys::keys(alloc, columns),
         }
     }
 }

@@ -6,6 +6,7 @@ use cond_ops::{
 };
 use crypto_ops::OpenFault;
 use enc_context::{Context, ContextFault, Pair};
+use key_states::{KeyRow, State, StateFault, VersionList};
 use kms_names::{
     AccountNumber, Action, AliasName, Bytes, GrantId, GrantOp, GrantOps, KeyId, KeyRef, Principal,
     Text, TextList,
@@ -59,10 +60,18 @@ fn policies() {
     crosses_threads::<PolicyFault>();
 }
 
+fn keys() {
+    crosses_threads::<KeyRow>();
+    crosses_threads::<State>();
+    crosses_threads::<StateFault>();
+    crosses_threads::<VersionList>();
+}
+
 /// Calls each.
 pub fn all() {
     names();
     contexts();
     conditions();
     policies();
+    keys();
 }
