@@ -5,6 +5,7 @@ use Rattle.serde_json.specs.Data.{Data, object, no_members}
 use Rattle.serde_json.specs.Read.{read as read_text}
 use Rattle.kms_json.specs.declared.asks.AskBody.{AskBody}
 use Rattle.kms_json.specs.declared.asks.AskBody.TheVariants as ask
+use Rattle.kms_json.specs.declared.asks.Changing.{Changing}
 use Rattle.kms_json.specs.declared.asks.Changing.TheVariants as changing
 use Rattle.kms_json.specs.declared.asks.Reading.{Reading}
 use Rattle.kms_json.specs.declared.asks.Reading.TheVariants as reading
@@ -14,12 +15,14 @@ use Rattle.kms_json.specs.declared.given.Given.{Given}
 use Rattle.kms_json.specs.declared.refusals.Refusal.{Refusal}
 use Rattle.kms_json.specs.declared.refusals.Refusal.TheVariants as refusal
 use Rattle.kms_json.specs.declared.operations.Operation.{Operation}
-use Rattle.kms_json.specs.declared.operations.Operation.TheVariants.{CreateKey, DescribeKey, PutKeyPolicy, GetKeyPolicy, Encrypt, Decrypt, ReEncrypt, GenerateDataKey, GenerateDataKeyWithoutPlaintext, GenerateRandom}
+use Rattle.kms_json.specs.declared.operations.Operation.TheVariants.{CreateKey, DescribeKey, PutKeyPolicy, GetKeyPolicy, UpdateKeyDescription, EnableKey, DisableKey, ScheduleKeyDeletion, CancelKeyDeletion, EnableKeyRotation, DisableKeyRotation, RotateKeyOnDemand, GetKeyRotationStatus, Encrypt, Decrypt, ReEncrypt, GenerateDataKey, GenerateDataKeyWithoutPlaintext, GenerateRandom}
 use Rattle.kms_json.specs.Given.{text_in}
 use Rattle.kms_json.specs.Fields.{values_of, given_by, first_invalid}
 use Rattle.kms_json.specs.Operations.{operation_named, fields_of}
-use Rattle.kms_json.specs.KeyAsks.{create_key}
+use Rattle.kms_json.specs.KeyAsks.{create_key, update_key_description}
 use Rattle.kms_json.specs.PolicyAsks.{put_key_policy}
+use Rattle.kms_json.specs.StateAsks.{schedule_key_deletion}
+use Rattle.kms_json.specs.RotationAsks.{enable_key_rotation}
 use Rattle.kms_json.specs.CryptographyAsks.{encrypt, decrypt, re_encrypt, data_key, generate_data_key, generate_random}
 
 -- the operations that change the account
@@ -42,6 +45,15 @@ built CreateKey at = ask.Change (changing.CreateKey (create_key at))
 built DescribeKey at = ask.Read (reading.DescribeKey (text_in (at (codes "KeyId"))))
 built PutKeyPolicy at = ask.Change (put_key_policy at)
 built GetKeyPolicy at = ask.Read (reading.GetKeyPolicy (text_in (at (codes "KeyId"))))
+built UpdateKeyDescription at = ask.Change (update_key_description at)
+built EnableKey at = ask.Change (changing.EnableKey (text_in (at (codes "KeyId"))))
+built DisableKey at = ask.Change (changing.DisableKey (text_in (at (codes "KeyId"))))
+built ScheduleKeyDeletion at = ask.Change (schedule_key_deletion at)
+built CancelKeyDeletion at = ask.Change (changing.CancelKeyDeletion (text_in (at (codes "KeyId"))))
+built EnableKeyRotation at = ask.Change (enable_key_rotation at)
+built DisableKeyRotation at = ask.Change (changing.DisableKeyRotation (text_in (at (codes "KeyId"))))
+built RotateKeyOnDemand at = ask.Change (changing.RotateKeyOnDemand (text_in (at (codes "KeyId"))))
+built GetKeyRotationStatus at = ask.Read (reading.GetKeyRotationStatus (text_in (at (codes "KeyId"))))
 built Encrypt at = ask.Read (reading.Encrypt (encrypt at))
 built Decrypt at = ask.Read (reading.Decrypt (decrypt at))
 built ReEncrypt at = ask.Read (reading.ReEncrypt (re_encrypt at))
@@ -85,8 +97,16 @@ IsSizedReading (reading.GenerateDataKeyWithoutPlaintext key) = (1 ≤ key.size) 
 IsSizedReading (reading.GenerateRandom size custom_key_store recipient) = (1 ≤ size) × (size ≤ 1024)
 IsSizedReading _ = Unit {0}
 
+-- descriptions have at most 8,192 bytes, a key waits 7 to 30 days for its deletion, and rotates each 90 to 2,560 days; this is so of all that is asked
+abbrev pub IsSizedChanging : Changing → Type 0
+IsSizedChanging (changing.CreateKey fields) = length fields.description ≤ 8192
+IsSizedChanging (changing.UpdateKeyDescription key_id description) = length description ≤ 8192
+IsSizedChanging (changing.ScheduleKeyDeletion key_id days) = (7 ≤ days) × (days ≤ 30)
+IsSizedChanging (changing.EnableKeyRotation key_id period) = (90 ≤ period) × (period ≤ 2560)
+IsSizedChanging _ = Unit {0}
+
 abbrev pub IsSized : AskBody → Type 0
-IsSized (ask.Change body) = Unit {0}
+IsSized (ask.Change body) = IsSizedChanging body
 IsSized (ask.Read body) = IsSizedReading body
 
 -- the refusal that a fault stands for, if it isn't want of memory

@@ -4,7 +4,7 @@ use Rattle.kms_names.specs.Action.{action_name}
 use Rattle.kms_names.specs.Principal.{principal_text}
 use Rattle.serde_json.specs.Data.{Data, object, member, no_members, string}
 use Rattle.kms_json.specs.declared.refusals.Refusal.{Refusal}
-use Rattle.kms_json.specs.declared.refusals.Refusal.TheVariants.{UnknownOperation, Serialization, Validation, InvalidAliasName, DependencyTimeout, NotFound, InvalidArn, InvalidCiphertext, IncorrectKey, AccessDenied, UnsupportedOperation, InvalidKeyUsage, MalformedPolicy, LimitExceeded, DryRun}
+use Rattle.kms_json.specs.declared.refusals.Refusal.TheVariants.{UnknownOperation, Serialization, Validation, InvalidAliasName, DependencyTimeout, NotFound, InvalidArn, InvalidCiphertext, IncorrectKey, AccessDenied, Disabled, InvalidState, UnsupportedOperation, InvalidKeyUsage, MalformedPolicy, LimitExceeded, DryRun}
 use Rattle.kms_json.specs.declared.refusals.Missing.{Missing}
 use Rattle.kms_json.specs.declared.refusals.Missing.TheVariants as missing
 use Rattle.kms_json.specs.declared.refusals.Limit.{Limit}
@@ -13,6 +13,7 @@ use Rattle.kms_json.specs.declared.refusals.Unsupported.{Unsupported}
 use Rattle.kms_json.specs.declared.refusals.Unsupported.TheVariants as unsupported
 use Rattle.kms_json.specs.declared.refusals.PolicyFlaw.{PolicyFlaw}
 use Rattle.kms_json.specs.declared.refusals.PolicyFlaw.TheVariants as flaw
+use Rattle.kms_json.specs.States.{state_name}
 
 -- the status of a request that isn't served (RFC 9110, section 15): 400 but for these two
 abbrev pub refusal_status : Refusal → ℕ
@@ -32,6 +33,8 @@ exception_name InvalidArn = codes "InvalidArnException"
 exception_name InvalidCiphertext = codes "InvalidCiphertextException"
 exception_name IncorrectKey = codes "IncorrectKeyException"
 exception_name (AccessDenied caller action resource) = codes "AccessDeniedException"
+exception_name (Disabled arn) = codes "DisabledException"
+exception_name (InvalidState arn state) = codes "KMSInvalidStateException"
 exception_name (UnsupportedOperation field) = codes "UnsupportedOperationException"
 exception_name InvalidKeyUsage = codes "InvalidKeyUsageException"
 exception_name (MalformedPolicy flaw) = codes "MalformedPolicyDocumentException"
@@ -45,8 +48,11 @@ missing_word missing.Grant = codes "grant"
 
 abbrev pub limit_word : Limit → List ℕ
 limit_word limit.Keys = codes "keys"
+limit_word limit.Rotations = codes "rotations"
 limit_word limit.Ivs = codes "ivs"
 limit_word limit.Draws = codes "draws"
+limit_word limit.Entries = codes "entries"
+limit_word limit.Bytes = codes "bytes"
 
 abbrev pub unsupported_name : Unsupported → List ℕ
 unsupported_name unsupported.KeyUsage = codes "KeyUsage"
@@ -85,6 +91,8 @@ exception_text (Validation field) = codes "Field " ++ (field ++ codes " is not v
 exception_text (DependencyTimeout entries wanted) = codes "The history has " ++ (decimal entries ++ (codes " entries; " ++ (decimal wanted ++ codes " were asked for.")))
 exception_text (NotFound what) = codes "Not found: " ++ (missing_word what ++ codes ".")
 exception_text (AccessDenied caller action resource) = codes "User: " ++ (principal_text caller ++ (codes " is not authorized to perform: kms:" ++ (action_name action ++ (codes " on resource: " ++ resource))))
+exception_text (Disabled arn) = arn ++ codes " is disabled."
+exception_text (InvalidState arn state) = arn ++ (codes " is " ++ (state_name state ++ codes "."))
 exception_text (UnsupportedOperation field) = codes "Field " ++ (unsupported_name field ++ codes " is not supported.")
 exception_text (MalformedPolicy flaw) = codes "Policy: " ++ (flaw_text flaw ++ codes ".")
 exception_text (LimitExceeded what) = codes "Limit reached: " ++ (limit_word what ++ codes ".")

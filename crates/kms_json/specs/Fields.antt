@@ -44,6 +44,10 @@ not_built name = field name kind.NotBuilt maybe
 abbrev pub key_reference : List ℕ → Wanted → FieldRow
 key_reference name wanted = field name (kind.Text 1 2048) wanted
 
+-- a key and nothing else
+abbrev pub key_alone : List FieldRow
+key_alone = key_reference (codes "KeyId") always ∷ []
+
 abbrev pub wanted_by : Presence → Wanted
 wanted_by Required = always
 wanted_by Optional = maybe

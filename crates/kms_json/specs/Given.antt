@@ -34,8 +34,12 @@ abbrev pub whole_in : Given → Option ℕ
 whole_in (given.Whole n) = n
 whole_in _ = None
 
+-- the number, or this one where it is none
+abbrev pub number_or : Given → ℕ → ℕ
+number_or value default = unwrap_or (whole_in value) default
+
 abbrev pub number_in : Given → ℕ
-number_in value = unwrap_or (whole_in value) 0
+number_in value = number_or value 0
 
 abbrev pub flag_in : Given → Bool
 flag_in (given.Flag b) = b

@@ -1,6 +1,8 @@
 -- What requests about keys ask, by what is given to their fields.
 use Rattle.std.specs.Prelude.{ℕ, List, codes}
 use Rattle.kms_json.specs.declared.given.Given.{Given}
+use Rattle.kms_json.specs.declared.asks.Changing.{Changing}
+use Rattle.kms_json.specs.declared.asks.Changing.TheVariants as changing
 use Rattle.kms_json.specs.declared.asks.keys.CreateKey.{CreateKey}
 use Rattle.kms_json.specs.Given.{is_there, text_if, text_in, flag_in, items_in}
 
@@ -18,3 +20,6 @@ create_key at = record {
   multi_region = flag_in (at (codes "MultiRegion"));
   xks_key_id = is_there (at (codes "XksKeyId"));
 }
+
+abbrev pub update_key_description : (List ℕ → Given) → Changing
+update_key_description at = changing.UpdateKeyDescription (text_in (at (codes "KeyId"))) (text_in (at (codes "Description")))

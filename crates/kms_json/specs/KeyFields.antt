@@ -1,4 +1,4 @@
--- The fields of the operations on keys, in the order in which they are judged (AWS KMS API Reference, CreateKey and DescribeKey).
+-- The fields of the operations on keys, in the order in which they are judged (AWS KMS API Reference, CreateKey, UpdateKeyDescription and DescribeKey).
 use Rattle.std.specs.Prelude.{List, [], ◌∷◌, codes}
 use Rattle.kms_json.specs.declared.fields.Kind.TheVariants.{Text, SomeText, AnyText, Flag, List as Items}
 use Rattle.kms_json.specs.Fields.{FieldRow, always, maybe, field, not_built, key_reference}
@@ -16,6 +16,12 @@ create_key_fields =
     field (codes "Tags") Items maybe ∷
     field (codes "MultiRegion") Flag maybe ∷
     field (codes "XksKeyId") AnyText maybe ∷
+    []
+
+abbrev pub update_key_description_fields : List FieldRow
+update_key_description_fields =
+    key_reference (codes "KeyId") always ∷
+    field (codes "Description") (Text 0 8192) always ∷
     []
 
 abbrev pub describe_key_fields : List FieldRow

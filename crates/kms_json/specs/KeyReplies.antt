@@ -1,31 +1,33 @@
 -- What the operations on keys answer, with members in byte order of their names (AWS KMS API Reference, KeyMetadata).
-use Rattle.std.specs.Prelude.{ℕ, List, codes, true, false}
+use Rattle.std.specs.Prelude.{ℕ, List, codes, false, option_map}
 use Rattle.uuid.specs.Text.{hyphenated_text, lower}
 use Rattle.kms_names.specs.Reference.{key_arn_text}
-use Rattle.serde_json.specs.Data.{Data, object, member, no_members, string, number, unsigned, boolean, array, item, no_items}
+use Rattle.serde_json.specs.Data.{Data, object, member, no_members, string, boolean, array, item, no_items}
 use Rattle.kms_json.specs.declared.replies.KeyMetadata.{KeyMetadata}
-use Rattle.kms_json.specs.Objects.{symmetric_default, with_text}
+use Rattle.kms_json.specs.Objects.{symmetric_default, with_text, with_any, number_data}
+use Rattle.kms_json.specs.States.{state_name, is_enabled, deletion_date}
 
--- a key of this account, ARN, time of making, description and printed id
-abbrev pub described_as : List ℕ → List ℕ → ℕ → List ℕ → List ℕ → Data
-described_as account arn created description id = object
+-- a key of this account, ARN and printed id
+abbrev pub described_as : List ℕ → List ℕ → KeyMetadata → List ℕ → Data
+described_as account arn key id = object
     (with_text (codes "AWSAccountId") account
     (with_text (codes "Arn") arn
-    (member (codes "CreationDate") (number (unsigned created))
+    (member (codes "CreationDate") (number_data key.created)
     (with_text (codes "CustomerMasterKeySpec") symmetric_default
-    (with_text (codes "Description") description
-    (member (codes "Enabled") (boolean true)
+    (with_any (codes "DeletionDate") (option_map number_data (deletion_date key.state))
+    (with_text (codes "Description") key.description
+    (member (codes "Enabled") (boolean (is_enabled key.state))
     (member (codes "EncryptionAlgorithms") (array (item (string symmetric_default) no_items))
     (with_text (codes "KeyId") id
     (with_text (codes "KeyManager") (codes "CUSTOMER")
     (with_text (codes "KeySpec") symmetric_default
-    (with_text (codes "KeyState") (codes "Enabled")
+    (with_text (codes "KeyState") (state_name key.state)
     (with_text (codes "KeyUsage") (codes "ENCRYPT_DECRYPT")
     (member (codes "MultiRegion") (boolean false)
-    (with_text (codes "Origin") (codes "AWS_KMS") no_members))))))))))))))
+    (with_text (codes "Origin") (codes "AWS_KMS") no_members)))))))))))))))
 
 abbrev pub metadata : KeyMetadata → Data
-metadata key = described_as key.account (key_arn_text key.account key.region key.key) key.created key.description (hyphenated_text lower key.key)
+metadata key = described_as key.account (key_arn_text key.account key.region key.key) key (hyphenated_text lower key.key)
 
 abbrev pub metadata_data : KeyMetadata → Data
 metadata_data key = object (member (codes "KeyMetadata") (metadata key) no_members)

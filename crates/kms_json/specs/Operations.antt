@@ -2,11 +2,13 @@
 use Rattle.std.specs.Prelude.{ℕ, List, [], ◌∷◌, codes, Option, find, option_map}
 use Rattle.std.specs.Str.{bytes_eq}
 use Rattle.kms_json.specs.declared.operations.Operation.{Operation}
-use Rattle.kms_json.specs.declared.operations.Operation.TheVariants.{CreateKey, DescribeKey, PutKeyPolicy, GetKeyPolicy, Encrypt, Decrypt, ReEncrypt, GenerateDataKey, GenerateDataKeyWithoutPlaintext, GenerateRandom}
+use Rattle.kms_json.specs.declared.operations.Operation.TheVariants.{CreateKey, DescribeKey, PutKeyPolicy, GetKeyPolicy, UpdateKeyDescription, EnableKey, DisableKey, ScheduleKeyDeletion, CancelKeyDeletion, EnableKeyRotation, DisableKeyRotation, RotateKeyOnDemand, GetKeyRotationStatus, Encrypt, Decrypt, ReEncrypt, GenerateDataKey, GenerateDataKeyWithoutPlaintext, GenerateRandom}
 use Rattle.kms_json.specs.declared.operations.Target.{Target}
-use Rattle.kms_json.specs.Fields.{FieldRow}
-use Rattle.kms_json.specs.KeyFields.{create_key_fields, describe_key_fields}
+use Rattle.kms_json.specs.Fields.{FieldRow, key_alone}
+use Rattle.kms_json.specs.KeyFields.{create_key_fields, update_key_description_fields, describe_key_fields}
 use Rattle.kms_json.specs.PolicyFields.{put_key_policy_fields, get_key_policy_fields}
+use Rattle.kms_json.specs.StateFields.{schedule_key_deletion_fields}
+use Rattle.kms_json.specs.RotationFields.{enable_key_rotation_fields}
 use Rattle.kms_json.specs.CryptographyFields.{encrypt_fields, decrypt_fields, re_encrypt_fields, generate_data_key_fields, generate_data_key_without_plaintext_fields, generate_random_fields}
 
 -- a value of X-Amz-Target, and the operation that it names
@@ -31,6 +33,15 @@ target_rows =
     names (codes "TrentService.DescribeKey") DescribeKey ∷
     names (codes "TrentService.PutKeyPolicy") PutKeyPolicy ∷
     names (codes "TrentService.GetKeyPolicy") GetKeyPolicy ∷
+    names (codes "TrentService.UpdateKeyDescription") UpdateKeyDescription ∷
+    names (codes "TrentService.EnableKey") EnableKey ∷
+    names (codes "TrentService.DisableKey") DisableKey ∷
+    names (codes "TrentService.ScheduleKeyDeletion") ScheduleKeyDeletion ∷
+    names (codes "TrentService.CancelKeyDeletion") CancelKeyDeletion ∷
+    names (codes "TrentService.EnableKeyRotation") EnableKeyRotation ∷
+    names (codes "TrentService.DisableKeyRotation") DisableKeyRotation ∷
+    names (codes "TrentService.RotateKeyOnDemand") RotateKeyOnDemand ∷
+    names (codes "TrentService.GetKeyRotationStatus") GetKeyRotationStatus ∷
     names (codes "TrentService.Encrypt") Encrypt ∷
     names (codes "TrentService.Decrypt") Decrypt ∷
     names (codes "TrentService.ReEncrypt") ReEncrypt ∷
@@ -48,6 +59,15 @@ fields_of CreateKey = create_key_fields
 fields_of DescribeKey = describe_key_fields
 fields_of PutKeyPolicy = put_key_policy_fields
 fields_of GetKeyPolicy = get_key_policy_fields
+fields_of UpdateKeyDescription = update_key_description_fields
+fields_of EnableKey = key_alone
+fields_of DisableKey = key_alone
+fields_of ScheduleKeyDeletion = schedule_key_deletion_fields
+fields_of CancelKeyDeletion = key_alone
+fields_of EnableKeyRotation = enable_key_rotation_fields
+fields_of DisableKeyRotation = key_alone
+fields_of RotateKeyOnDemand = key_alone
+fields_of GetKeyRotationStatus = key_alone
 fields_of Encrypt = encrypt_fields
 fields_of Decrypt = decrypt_fields
 fields_of ReEncrypt = re_encrypt_fields

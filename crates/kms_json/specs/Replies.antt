@@ -2,10 +2,12 @@
 use Rattle.std.specs.Prelude.{ℕ}
 use Rattle.serde_json.specs.Data.{Data, object, no_members}
 use Rattle.kms_json.specs.declared.replies.Reply.{Reply}
-use Rattle.kms_json.specs.declared.replies.Reply.TheVariants.{Metadata, KeyPolicy, Encrypted, Decrypted, ReEncrypted, DataKey, SealedDataKey, Random, Done, Refused}
+use Rattle.kms_json.specs.declared.replies.Reply.TheVariants.{Metadata, KeyPolicy, DeletionScheduled, DeletionCancelled, Rotated, RotationStatus, Encrypted, Decrypted, ReEncrypted, DataKey, SealedDataKey, Random, Done, Refused}
 use Rattle.kms_json.specs.Exceptions.{refusal_status, refusal_data}
 use Rattle.kms_json.specs.KeyReplies.{metadata_data}
 use Rattle.kms_json.specs.PolicyReplies.{key_policy_data}
+use Rattle.kms_json.specs.StateReplies.{deletion_data, cancelled_data}
+use Rattle.kms_json.specs.RotationReplies.{rotated_data, rotation_data}
 use Rattle.kms_json.specs.CryptographyReplies.{base64_text, encrypted_data, decrypted_data, re_encrypted_data, data_key_data, sealed_data_key_data, random_data}
 
 -- what is served has the status 200
@@ -17,6 +19,10 @@ status_of _ = 200
 abbrev pub reply_data : Reply → Data
 reply_data (Metadata key) = metadata_data key
 reply_data (KeyPolicy policy) = key_policy_data policy
+reply_data (DeletionScheduled arn deletion_date days) = deletion_data arn deletion_date days
+reply_data (DeletionCancelled arn) = cancelled_data arn
+reply_data (Rotated key) = rotated_data key
+reply_data (RotationStatus key rotation) = rotation_data key rotation
 reply_data (Encrypted blob arn) = encrypted_data (base64_text blob) arn
 reply_data (Decrypted plaintext arn) = decrypted_data (base64_text plaintext) arn
 reply_data (ReEncrypted blob arn source_arn) = re_encrypted_data (base64_text blob) arn source_arn

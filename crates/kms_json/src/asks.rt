@@ -21,6 +21,44 @@ pub enum Changing {
         policy: Text,
         bypass_lockout_check: bool,
     },
+    /// UpdateKeyDescription: the reference to the key, a text of 1 to 2,048 bytes, and its new
+    /// description, at most 8,192 bytes.
+    UpdateKeyDescription {
+        key_id: Text,
+        description: Text,
+    },
+    /// EnableKey of the key that `key_id` refers to, a text of 1 to 2,048 bytes.
+    EnableKey {
+        key_id: Text,
+    },
+    /// DisableKey of the key that `key_id` refers to, a text of 1 to 2,048 bytes.
+    DisableKey {
+        key_id: Text,
+    },
+    /// ScheduleKeyDeletion: the reference to the key, a text of 1 to 2,048 bytes, and after how many
+    /// days it is to be deleted, 7 to 30; 30 where it isn't given.
+    ScheduleKeyDeletion {
+        key_id: Text,
+        days: u64,
+    },
+    /// CancelKeyDeletion of the key that `key_id` refers to, a text of 1 to 2,048 bytes.
+    CancelKeyDeletion {
+        key_id: Text,
+    },
+    /// EnableKeyRotation: the reference to the key, a text of 1 to 2,048 bytes, and the days from one
+    /// rotation to the next, 90 to 2,560; 365 where they aren't given.
+    EnableKeyRotation {
+        key_id: Text,
+        period: u64,
+    },
+    /// DisableKeyRotation of the key that `key_id` refers to, a text of 1 to 2,048 bytes.
+    DisableKeyRotation {
+        key_id: Text,
+    },
+    /// RotateKeyOnDemand of the key that `key_id` refers to, a text of 1 to 2,048 bytes.
+    RotateKeyOnDemand {
+        key_id: Text,
+    },
 }
 
 /// An operation that doesn't change the account, with its fields.
@@ -32,6 +70,10 @@ pub enum Reading {
     },
     /// GetKeyPolicy of the key that `key_id` refers to, a text of 1 to 2,048 bytes.
     GetKeyPolicy {
+        key_id: Text,
+    },
+    /// GetKeyRotationStatus of the key that `key_id` refers to, a text of 1 to 2,048 bytes.
+    GetKeyRotationStatus {
         key_id: Text,
     },
     /// Encrypt.

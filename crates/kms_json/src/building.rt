@@ -8,6 +8,8 @@ ghost use Rattle.kms_json.specs.Operations.{fields_of};
 mod cryptography;
 mod keys;
 mod policies;
+mod rotation;
+mod states;
 
 use crate::asks::{AskBody, Changing, Reading};
 use crate::given::{Given, text_in};
@@ -16,9 +18,11 @@ use cryptography::{
     decrypt, encrypt, generate_data_key, generate_data_key_without_plaintext, generate_random,
     re_encrypt,
 };
-use keys::create_key;
+use keys::{create_key, update_key_description};
 use kms_names::{NoMemory, Text};
 use policies::put_key_policy;
+use rotation::enable_key_rotation;
+use states::schedule_key_deletion;
 use std::alloc::Global;
 use std::collections::VecDeque;
 
@@ -56,6 +60,29 @@ pub fn asked_from(
         }),
         Operation::PutKeyPolicy => AskBody::Change(put_key_policy(alloc, values)),
         Operation::GetKeyPolicy => AskBody::Read(Reading::GetKeyPolicy {
+            key_id: key_id(alloc, values),
+        }),
+        Operation::UpdateKeyDescription => {
+            AskBody::Change(update_key_description(alloc, values))
+        }
+        Operation::EnableKey => AskBody::Change(Changing::EnableKey {
+            key_id: key_id(alloc, values),
+        }),
+        Operation::DisableKey => AskBody::Change(Changing::DisableKey {
+            key_id: key_id(alloc, values),
+        }),
+        Operation::ScheduleKeyDeletion => AskBody::Change(schedule_key_deletion(alloc, values)),
+        Operation::CancelKeyDeletion => AskBody::Change(Changing::CancelKeyDeletion {
+            key_id: key_id(alloc, values),
+        }),
+        Operation::EnableKeyRotation => AskBody::Change(enable_key_rotation(alloc, values)),
+        Operation::DisableKeyRotation => AskBody::Change(Changing::DisableKeyRotation {
+            key_id: key_id(alloc, values),
+        }),
+        Operation::RotateKeyOnDemand => AskBody::Change(Changing::RotateKeyOnDemand {
+            key_id: key_id(alloc, values),
+        }),
+        Operation::GetKeyRotationStatus => AskBody::Read(Reading::GetKeyRotationStatus {
             key_id: key_id(alloc, values),
         }),
         Operation::Encrypt => AskBody::Read(Reading::Encrypt(encrypt(alloc, values)?)),

@@ -5,6 +5,7 @@ ghost use Rattle.kms_json.specs.declared.refusals.Refusal.TheVariants as refusal
 ghost use Rattle.kms_json.specs.Exceptions.{exception, exception_name, exception_text, fixed_text, flaw_text, missing_word, limit_word, unsupported_name, refusal_data};
 
 use crate::refusals::{Limit, Missing, PolicyFlaw, Refusal, Unsupported};
+use crate::states::KeyState;
 use kms_names::{Action, NoMemory, Principal, write_principal};
 use serde_json::{Value, json};
 use std::alloc::Global;
@@ -29,6 +30,8 @@ fn name_of(refusal: &Refusal) -> &'static str
         Refusal::InvalidCiphertext => "InvalidCiphertextException",
         Refusal::IncorrectKey => "IncorrectKeyException",
         Refusal::AccessDenied { .. } => "AccessDeniedException",
+        Refusal::Disabled(_) => "DisabledException",
+        Refusal::InvalidState { .. } => "KMSInvalidStateException",
         Refusal::UnsupportedOperation(_) => "UnsupportedOperationException",
         Refusal::InvalidKeyUsage => "InvalidKeyUsageException",
         Refusal::MalformedPolicy(_) => "MalformedPolicyDocumentException",
@@ -52,8 +55,11 @@ fn word_of_limit(what: Limit) -> &'static str
 {
     match what {
         Limit::Keys => "keys",
+        Limit::Rotations => "rotations",
         Limit::Ivs => "ivs",
         Limit::Draws => "draws",
+        Limit::Entries => "entries",
+        Limit::Bytes => "bytes",
     }
 }
 
@@ -73,6 +79,13 @@ fn name_of_unsupported(field: Unsupported) -> &'static str
     }
 }
 
+// The text of a history that has fewer entries than are wanted.
+fn timeout_text(alloc: Global, entries: u64, wanted: u64) -> Result<String, NoMemory>
+    ensures { IfOk result (λ t. string_bytes t ≡ exception_text (refusal.DependencyTimeout entries wanted)) }
+{
+    Ok(format!(in alloc; "The history has {entries} entries; {wanted} were asked for.")?)
+}
+
 // The text of a caller who may not do what was asked.
 fn denied_text(
     alloc: Global,
@@ -88,6 +101,21 @@ fn denied_text(
     Ok(format!(in alloc;
         "User: {caller} is not authorized to perform: kms:{action} on resource: {resource}"
     )?)
+}
+
+// The text of a key that is disabled.
+fn disabled_text(alloc: Global, arn: &str) -> Result<String, NoMemory>
+    ensures { IfOk result (λ t. string_bytes t ≡ exception_text (refusal.Disabled arn.now)) }
+{
+    Ok(format!(in alloc; "{arn} is disabled.")?)
+}
+
+// The text of a key whose state is none in which the operation is served.
+fn state_text(alloc: Global, arn: &str, state: KeyState) -> Result<String, NoMemory>
+    ensures { IfOk result (λ t. string_bytes t ≡ exception_text (refusal.InvalidState arn.now state)) }
+{
+    let state = state.name();
+    Ok(format!(in alloc; "{arn} is {state}.")?)
 }
 
 // What is wrong with a policy.
@@ -135,9 +163,7 @@ fn text_of(alloc: Global, refusal: &Refusal) -> Result<String, NoMemory>
             let field = field.as_str();
             format!(in alloc; "Field {field} is not valid.")?
         }
-        Refusal::DependencyTimeout { entries, wanted } => {
-            format!(in alloc; "The history has {entries} entries; {wanted} were asked for.")?
-        }
+        Refusal::DependencyTimeout { entries, wanted } => timeout_text(alloc, *entries, *wanted)?,
         Refusal::NotFound(what) => {
             let word = word_of_missing(*what);
             format!(in alloc; "Not found: {word}.")?
@@ -147,6 +173,8 @@ fn text_of(alloc: Global, refusal: &Refusal) -> Result<String, NoMemory>
             action,
             resource,
         } => denied_text(alloc, caller, *action, resource.as_str())?,
+        Refusal::Disabled(arn) => disabled_text(alloc, arn.as_str())?,
+        Refusal::InvalidState { arn, state } => state_text(alloc, arn.as_str(), *state)?,
         Refusal::UnsupportedOperation(field) => {
             let field = name_of_unsupported(*field);
             format!(in alloc; "Field {field} is not supported.")?

@@ -1,6 +1,6 @@
 // What a body gives to a field, by its form.
 ghost use Rattle.std.specs.Prelude.{◌≡◌, [], IfOk};
-ghost use Rattle.kms_json.specs.Given.{text_if, text_in, bytes_in, pairs_in, number_in, flag_in, items_in};
+ghost use Rattle.kms_json.specs.Given.{text_if, text_in, bytes_in, pairs_in, number_in, number_or, flag_in, items_in};
 
 use enc_context::Context;
 use kms_names::{Bytes, NoMemory, Text};
@@ -137,14 +137,21 @@ pub fn context_in(alloc: Global, value: Given) -> Result<Context, NoMemory>
     }
 }
 
+/// The number, or this one where it is none.
+pub fn number_or(value: &Given, default: u64) -> u64
+    ensures { result ≡ number_or value.now default }
+{
+    match value {
+        Given::Whole(Some(number)) => *number,
+        _ => default,
+    }
+}
+
 /// The number, or 0 where it is none.
 pub fn number_in(value: &Given) -> u64
     ensures { result ≡ number_in value.now }
 {
-    match value {
-        Given::Whole(Some(number)) => *number,
-        _ => 0,
-    }
+    number_or(value, 0)
 }
 
 /// The truth value, or false where it is none.

@@ -14,6 +14,7 @@ mod objects;
 mod operations;
 mod refusals;
 mod replies;
+mod states;
 mod tables;
 mod writing;
 
@@ -22,5 +23,6 @@ pub use asks::{
 };
 pub use bodies::read_ask;
 pub use refusals::{Limit, Missing, PolicyFlaw, Refusal, Unsupported};
-pub use replies::{KeyMetadata, Reply, SYMMETRIC_DEFAULT};
+pub use replies::{AutomaticRotation, KeyMetadata, Reply, SYMMETRIC_DEFAULT};
+pub use states::KeyState;
 pub use writing::write_reply;

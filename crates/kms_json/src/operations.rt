@@ -4,12 +4,15 @@ ghost use Rattle.kms_json.specs.Operations.{operation_named, operation_in, targe
 ghost use Rattle.kms_json.specs.Fields.{row_of};
 
 use crate::fields::Field;
+use crate::tables::KEY_ALONE;
 use crate::tables::cryptography::{
     DECRYPT, ENCRYPT, GENERATE_DATA_KEY, GENERATE_DATA_KEY_WITHOUT_PLAINTEXT, GENERATE_RANDOM,
     RE_ENCRYPT,
 };
-use crate::tables::keys::{CREATE_KEY, DESCRIBE_KEY};
+use crate::tables::keys::{CREATE_KEY, DESCRIBE_KEY, UPDATE_KEY_DESCRIPTION};
 use crate::tables::policies::{GET_KEY_POLICY, PUT_KEY_POLICY};
+use crate::tables::rotation::ENABLE_KEY_ROTATION;
+use crate::tables::states::SCHEDULE_KEY_DELETION;
 
 /// An operation of the AWS KMS API that this service serves.
 #[derive(Clone, Copy, Debug, PartialEq, Eq)]
@@ -18,6 +21,15 @@ pub enum Operation {
     DescribeKey,
     PutKeyPolicy,
     GetKeyPolicy,
+    UpdateKeyDescription,
+    EnableKey,
+    DisableKey,
+    ScheduleKeyDeletion,
+    CancelKeyDeletion,
+    EnableKeyRotation,
+    DisableKeyRotation,
+    RotateKeyOnDemand,
+    GetKeyRotationStatus,
     Encrypt,
     Decrypt,
     ReEncrypt,
@@ -30,11 +42,41 @@ pub enum Operation {
 #[derive(Clone, Copy)]
 struct Target(&'static str, Operation);
 
-const TARGETS: [Target; 10] = [
+const TARGETS: [Target; 19] = [
     Target("TrentService.CreateKey", Operation::CreateKey),
     Target("TrentService.DescribeKey", Operation::DescribeKey),
     Target("TrentService.PutKeyPolicy", Operation::PutKeyPolicy),
     Target("TrentService.GetKeyPolicy", Operation::GetKeyPolicy),
+    Target(
+        "TrentService.UpdateKeyDescription",
+        Operation::UpdateKeyDescription,
+    ),
+    Target("TrentService.EnableKey", Operation::EnableKey),
+    Target("TrentService.DisableKey", Operation::DisableKey),
+    Target(
+        "TrentService.ScheduleKeyDeletion",
+        Operation::ScheduleKeyDeletion,
+    ),
+    Target(
+        "TrentService.CancelKeyDeletion",
+        Operation::CancelKeyDeletion,
+    ),
+    Target(
+        "TrentService.EnableKeyRotation",
+        Operation::EnableKeyRotation,
+    ),
+    Target(
+        "TrentService.DisableKeyRotation",
+        Operation::DisableKeyRotation,
+    ),
+    Target(
+        "TrentService.RotateKeyOnDemand",
+        Operation::RotateKeyOnDemand,
+    ),
+    Target(
+        "TrentService.GetKeyRotationStatus",
+        Operation::GetKeyRotationStatus,
+    ),
     Target("TrentService.Encrypt", Operation::Encrypt),
     Target("TrentService.Decrypt", Operation::Decrypt),
     Target("TrentService.ReEncrypt", Operation::ReEncrypt),
@@ -73,6 +115,15 @@ pub fn fields(operation: Operation) -> &'static [Field]
         Operation::DescribeKey => &DESCRIBE_KEY,
         Operation::PutKeyPolicy => &PUT_KEY_POLICY,
         Operation::GetKeyPolicy => &GET_KEY_POLICY,
+        Operation::UpdateKeyDescription => &UPDATE_KEY_DESCRIPTION,
+        Operation::EnableKey => &KEY_ALONE,
+        Operation::DisableKey => &KEY_ALONE,
+        Operation::ScheduleKeyDeletion => &SCHEDULE_KEY_DELETION,
+        Operation::CancelKeyDeletion => &KEY_ALONE,
+        Operation::EnableKeyRotation => &ENABLE_KEY_ROTATION,
+        Operation::DisableKeyRotation => &KEY_ALONE,
+        Operation::RotateKeyOnDemand => &KEY_ALONE,
+        Operation::GetKeyRotationStatus => &KEY_ALONE,
         Operation::Encrypt => &ENCRYPT,
         Operation::Decrypt => &DECRYPT,
         Operation::ReEncrypt => &RE_ENCRYPT,

@@ -1,4 +1,5 @@
 // Why requests aren't served.
+use crate::states::KeyState;
 use kms_names::{Action, Principal, Text};
 
 /// What a name was looked up for and not found.
@@ -13,10 +14,16 @@ pub enum Missing {
 #[derive(Clone, Copy, Debug, PartialEq, Eq)]
 pub enum Limit {
     Keys,
+    /// The rotations on demand of a key.
+    Rotations,
     /// The initialization vectors of a pass.
     Ivs,
     /// The words of a pass's random stream.
     Draws,
+    /// The entries of the history.
+    Entries,
+    /// The bytes of all entries.
+    Bytes,
 }
 
 /// A field that is read and not supported, or not with its value.
@@ -77,6 +84,13 @@ pub enum Refusal {
         caller: Principal,
         action: Action,
         resource: Text,
+    },
+    /// DisabledException, with the ARN of the key that is disabled.
+    Disabled(Text),
+    /// KMSInvalidStateException: the ARN of a key, and its state.
+    InvalidState {
+        arn: Text,
+        state: KeyState,
     },
     /// UnsupportedOperationException, with the field that isn't supported.
     UnsupportedOperation(Unsupported),

@@ -1,5 +1,6 @@
 // What replies say.
 use crate::refusals::Refusal;
+use crate::states::KeyState;
 use kms_names::{AccountNumber, Bytes, KeyId, Text};
 
 /// The name of the one key spec, and of the one algorithm, of symmetric keys (AWS KMS API Reference,
@@ -19,6 +20,17 @@ pub struct KeyMetadata {
     pub created: u64,
     /// Its description.
     pub description: Text,
+    /// Its state.
+    pub state: KeyState,
+}
+
+/// A key's automatic rotation (AWS KMS API Reference, GetKeyRotationStatus).
+#[derive(Clone, Copy, Debug, PartialEq, Eq)]
+pub struct AutomaticRotation {
+    /// When the next rotation is due, in seconds since 1970.
+    pub next: u64,
+    /// The days from one rotation to the next.
+    pub period: u32,
 }
 
 /// What a request is answered.
@@ -29,6 +41,26 @@ pub enum Reply {
     /// What GetKeyPolicy answers: the policy's text.
     KeyPolicy {
         policy: Text,
+    },
+    /// What ScheduleKeyDeletion answers: the key's ARN, when it is to be deleted, in seconds since 1970,
+    /// and the days that it waits.
+    DeletionScheduled {
+        arn: Text,
+        deletion_date: u64,
+        days: u64,
+    },
+    /// What CancelKeyDeletion answers: the key's ARN.
+    DeletionCancelled {
+        arn: Text,
+    },
+    /// What RotateKeyOnDemand answers.
+    Rotated {
+        key: KeyId,
+    },
+    /// What GetKeyRotationStatus answers: the key, and its automatic rotation, where that is enabled.
+    RotationStatus {
+        key: KeyId,
+        rotation: Option<AutomaticRotation>,
     },
     /// What Encrypt answers: the sealed text, and the ARN of its key.
     Encrypted {

@@ -7,6 +7,8 @@ ghost use Rattle.kms_json.specs.Replies.{reply_data};
 mod cryptography;
 mod keys;
 mod policies;
+mod rotation;
+mod states;
 
 use crate::exceptions::refusal_value;
 use crate::replies::Reply;
@@ -14,7 +16,9 @@ use cryptography::{base64, data_key, decrypted, encrypted, random, re_encrypted,
 use keys::metadata;
 use kms_names::{Bytes, NoMemory};
 use policies::key_policy;
+use rotation::{rotated, rotation};
 use serde_json::{Map, Value};
+use states::{cancelled, deletion};
 use std::alloc::Global;
 
 fn reply_value(alloc: Global, reply: &Reply) -> Result<Value, NoMemory>
@@ -23,6 +27,17 @@ fn reply_value(alloc: Global, reply: &Reply) -> Result<Value, NoMemory>
     match reply {
         Reply::Metadata(key) => metadata(alloc, key),
         Reply::KeyPolicy { policy } => key_policy(alloc, policy.as_str()),
+        Reply::DeletionScheduled {
+            arn,
+            deletion_date,
+            days,
+        } => deletion(alloc, arn.as_str(), *deletion_date, *days),
+        Reply::DeletionCancelled { arn } => cancelled(alloc, arn.as_str()),
+        Reply::Rotated { key } => rotated(alloc, key),
+        Reply::RotationStatus {
+            key,
+            rotation: status,
+        } => rotation(alloc, key, *status),
         Reply::Encrypted { blob, arn } => {
             let blob = base64(alloc, blob)?;
             encrypted(alloc, blob.as_str(), arn.as_str())

@@ -2,10 +2,10 @@
 ghost use Rattle.std.specs.Prelude.{◌≡◌};
 ghost use Rattle.kms_json.specs.Building.{held};
 ghost use Rattle.kms_json.specs.KeyAsks as asked;
-ghost use Rattle.kms_json.specs.KeyFields.{create_key_fields};
+ghost use Rattle.kms_json.specs.KeyFields.{create_key_fields, update_key_description_fields};
 
 use super::next;
-use crate::asks::CreateKey;
+use crate::asks::{Changing, CreateKey};
 use crate::given::{Given, flag_in, items_in, text_if, text_in};
 use std::alloc::Global;
 use std::collections::VecDeque;
@@ -26,5 +26,17 @@ pub fn create_key(alloc: Global, values: &mut VecDeque<Given>) -> CreateKey
         tags: items_in(&next(values)),
         multi_region: flag_in(&next(values)),
         xks_key_id: next(values).is_there(),
+    }
+}
+
+/// UpdateKeyDescription.
+pub fn update_key_description(alloc: Global, values: &mut VecDeque<Given>) -> Changing
+    ensures { result ≡ asked.update_key_description (held update_key_description_fields values.old.items) }
+{
+    let key_id = text_in(alloc, next(values));
+    let description = text_in(alloc, next(values));
+    Changing::UpdateKeyDescription {
+        key_id,
+        description,
     }
 }

@@ -25,6 +25,11 @@ pub static CREATE_KEY: [Field; 11] = [
     Field("XksKeyId", Kind::AnyText, Presence::Optional),
 ];
 
+pub static UPDATE_KEY_DESCRIPTION: [Field; 2] = [
+    Field("KeyId", KEY_REFERENCE, Presence::Required),
+    Field("Description", DESCRIPTION, Presence::Required),
+];
+
 pub static DESCRIBE_KEY: [Field; 2] = [
     Field("KeyId", KEY_REFERENCE, Presence::Required),
     Field("GrantTokens", Kind::NotBuilt, Presence::Optional),

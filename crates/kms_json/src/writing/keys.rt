@@ -14,24 +14,25 @@ fn described<'a>(
     alloc: Global,
     account: &'a str,
     arn: &'a str,
-    created: u64,
-    description: &'a str,
+    key: &'a KeyMetadata,
     id: &'a str,
 ) -> Result<Value, NoMemory>
-    ensures { IfOk result (λ v. view v ≡ described_as account.now arn.now created description.now id.now) }
+    ensures { IfOk result (λ v. view v ≡ described_as account.now arn.now key.now id.now) }
 {
+    let state = key.state;
     let members = [
         Member("AWSAccountId", Item::Text(account)),
         Member("Arn", Item::Text(arn)),
-        Member("CreationDate", Item::Number(created)),
+        Member("CreationDate", Item::Number(key.created)),
         Member("CustomerMasterKeySpec", Item::Text(SYMMETRIC_DEFAULT)),
-        Member("Description", Item::Text(description)),
-        Member("Enabled", Item::Flag(true)),
+        Member("DeletionDate", Item::NumberIfAny(state.deletion_date())),
+        Member("Description", Item::Text(key.description.as_str())),
+        Member("Enabled", Item::Flag(state.is_enabled())),
         Member("EncryptionAlgorithms", Item::OneText(SYMMETRIC_DEFAULT)),
         Member("KeyId", Item::Text(id)),
         Member("KeyManager", Item::Text("CUSTOMER")),
         Member("KeySpec", Item::Text(SYMMETRIC_DEFAULT)),
-        Member("KeyState", Item::Text("Enabled")),
+        Member("KeyState", Item::Text(state.name())),
         Member("KeyUsage", Item::Text("ENCRYPT_DECRYPT")),
         Member("MultiRegion", Item::Flag(false)),
         Member("Origin", Item::Text("AWS_KMS")),
@@ -46,14 +47,6 @@ pub fn metadata(alloc: Global, key: &KeyMetadata) -> Result<Value, NoMemory>
     let id = key_text(alloc, &key.key)?;
     let arn = key_arn(alloc, &key.account, key.region.as_str(), &key.key)?;
     let account = key.account.as_str();
-    let description = key.description.as_str();
-    let members = described(
-        alloc,
-        account,
-        arn.as_str(),
-        key.created,
-        description,
-        id.as_str(),
-    )?;
+    let members = described(alloc, account, arn.as_str(), key, id.as_str())?;
     Ok(json!(in alloc; {"KeyMetadata": members})?)
 }

@@ -1,0 +1,10 @@
+-- What requests about the states of keys ask, by what is given to their fields.
+use Rattle.std.specs.Prelude.{ℕ, List, codes}
+use Rattle.kms_json.specs.declared.given.Given.{Given}
+use Rattle.kms_json.specs.declared.asks.Changing.{Changing}
+use Rattle.kms_json.specs.declared.asks.Changing.TheVariants as changing
+use Rattle.kms_json.specs.Given.{text_in, number_or}
+
+-- a key waits 30 days where no number of days is given
+abbrev pub schedule_key_deletion : (List ℕ → Given) → Changing
+schedule_key_deletion at = changing.ScheduleKeyDeletion (text_in (at (codes "KeyId"))) (number_or (at (codes "PendingWindowInDays")) 30)

@@ -1,0 +1,23 @@
+// What the operations on the states of keys are asked.
+ghost use Rattle.std.specs.Prelude.{◌≡◌};
+ghost use Rattle.kms_json.specs.Building.{held};
+ghost use Rattle.kms_json.specs.StateAsks as asked;
+ghost use Rattle.kms_json.specs.StateFields.{schedule_key_deletion_fields};
+
+use super::next;
+use crate::asks::Changing;
+use crate::given::{Given, number_or, text_in};
+use std::alloc::Global;
+use std::collections::VecDeque;
+
+// The days that a key waits where no number is given.
+const WAITING_DAYS: u64 = 30;
+
+/// ScheduleKeyDeletion.
+pub fn schedule_key_deletion(alloc: Global, values: &mut VecDeque<Given>) -> Changing
+    ensures { result ≡ asked.schedule_key_deletion (held schedule_key_deletion_fields values.old.items) }
+{
+    let key_id = text_in(alloc, next(values));
+    let days = number_or(&next(values), WAITING_DAYS);
+    Changing::ScheduleKeyDeletion { key_id, days }
+}
