@@ -1,0 +1,147 @@
+-- The rows that a history makes.
+use Rattle.std.proofs.Common.{◌≡◌, ◌≢◌, ℕ, ◌+◌, ◌<◌, ◌≤◌, Bool, true, false, not, cond, List, [], ◌∷◌, ◌++◌, length, length-append, get_or, map, filter, fold, None, Some, refl, sym, ◌∙◌, ap, subst, arith, if◌then◌else◌}
+use Rattle.std.specs.Prelude.{All, AllPairs}
+use Rattle.std.specs.Str.{bytes_eq}
+use Rattle.std.proofs.lemmas.List.{get_or-map, length-map}
+use Rattle.std.proofs.lemmas.List.Elements.{All-map, All-filter, All-push, All-weaker}
+use Rattle.std.proofs.lemmas.List.Kept.{AllPairs-filter}
+use Rattle.std.proofs.lemmas.List.Quantifiers.{all_pairs_push}
+use Rattle.std.proofs.lemmas.List.Sums.{fold-append}
+use Rattle.key_states.specs.declared.rows.KeyRow.{KeyRow}
+use Rattle.key_states.specs.States.{is_due}
+use Rattle.account_rows.specs.declared.entries.Entry.{Entry}
+use Rattle.account_rows.specs.declared.entries.What.{What}
+use Rattle.account_rows.specs.declared.entries.What.TheVariants as what
+use Rattle.account_rows.specs.Changes.{with_stored, with_period, with_version, with_policy, with_description, new_key, changed, rotated, rotated_if_due, next_date, is_gone, house_kept, keys_after, days_after}
+use Rattle.account_rows.specs.History.{State, step, nothing_yet, replay, latest_of, place_in, IsMadeHere, IsRowOf, AreRows}
+use Rattle.account_rows.specs.Sizes.{size_of, bytes_in}
+
+-- ---- one row
+
+-- what an entry makes of a row: the same key, with at most one rotation and one version more
+pub record Follows (row new : KeyRow) : Type 0 where
+  pub key : new.key ≡ row.key
+  pub born : new.born ≡ row.born
+  pub turned : new.on_demand ≤ row.on_demand + 1
+  pub more : length row.versions ≤ length new.versions
+  pub few : length new.versions ≤ length row.versions + 1
+
+pub follows_itself : (row : KeyRow) → Follows row row
+follows_itself row = record { key = refl; born = refl; turned = omega arith; more = omega arith; few = omega arith }
+
+on_demand_more : (b : Bool) (n : ℕ) → (if b then n + 1 else n) ≤ n + 1
+on_demand_more true n = omega arith
+on_demand_more false n = omega arith
+
+versioned : (time : ℕ) (on_demand : Bool) (next : ℕ) (row : KeyRow) → Follows row (with_version time on_demand next row)
+versioned time on_demand next row = record {
+  key = refl;
+  born = refl;
+  turned = on_demand_more on_demand row.on_demand;
+  more = omega (arith, length-append row.versions (record { time = time; on_demand = on_demand } ∷ []));
+  few = omega (arith, length-append row.versions (record { time = time; on_demand = on_demand } ∷ []));
+}
+
+alike : (new row : KeyRow) → new.key ≡ row.key → new.born ≡ row.born → new.on_demand ≡ row.on_demand → new.versions ≡ row.versions → Follows row new
+alike new row key born on_demand versions = record {
+  key = key;
+  born = born;
+  turned = omega (arith, on_demand);
+  more = omega (arith, ap length versions);
+  few = omega (arith, ap length versions);
+}
+
+choose : (b : Bool) (row new : KeyRow) → Follows row new → Follows row (if b then new else row)
+choose true row new is = is
+choose false row new is = follows_itself row
+
+-- ---- all rows
+
+module _ (f : KeyRow → KeyRow) (follows : (row : KeyRow) → Follows row (f row)) (n : ℕ) where
+  row_of : (row : KeyRow) → IsRowOf n row → IsRowOf (n + 1) (f row)
+  row_of row is =
+      let new = follows row in
+      record {
+        before = omega (arith, new.born, is.before);
+        named = ap place_in new.key ∙ is.named ∙ sym new.born;
+        turned = omega (arith, new.turned, is.turned);
+        counted = omega (arith, new.few, is.counted);
+        some = omega (arith, new.more, is.some);
+      }
+
+  pub rows_map : (rows : List KeyRow) → AreRows n rows → AreRows (n + 1) (map f rows)
+  rows_map rows are = record { rise = rise; each = All-map (IsRowOf (n + 1)) f rows (λ k d lt. row_of (get_or rows k d) (are.each k d lt)) }
+    where
+      births : (k : ℕ) (d : KeyRow) → k < length rows → (get_or (map f rows) k d).born ≡ (get_or rows k d).born
+      births k d lt = ap (λ (r : KeyRow). r.born) (get_or-map f rows k d d lt) ∙ (follows (get_or rows k d)).born
+
+      rise : AllPairs (λ (p q : KeyRow). p.born < q.born) (map f rows)
+      rise i j d before within =
+          let inside : j < length rows = omega (arith, length-map rows f) in
+          omega (arith, births i d (omega arith), births j d inside, are.rise i j d before inside)
+
+changed_rows : (key : List ℕ) (change : KeyRow → KeyRow) → ((row : KeyRow) → Follows row (change row)) → (n : ℕ) (rows : List KeyRow) → AreRows n rows → AreRows (n + 1) (changed key change rows)
+changed_rows key change follows n rows are =
+    rows_map (λ row. if bytes_eq row.key key then change row else row) (λ row. choose (bytes_eq row.key key) row (change row) (follows row)) n rows are
+
+pub due_follows : (time : ℕ) (row : KeyRow) → Follows row (rotated_if_due time row)
+due_follows time row = choose (is_due row time) row (rotated time row) (versioned time false (next_date time row.period row.next) row)
+
+house_rows : (time n : ℕ) (rows : List KeyRow) → AreRows n rows → AreRows (n + 1) (house_kept time rows)
+house_rows time n rows are =
+    rows_map (rotated_if_due time) (due_follows time) n (filter (λ row. not (is_gone time row)) rows)
+    (record {
+      rise = AllPairs-filter (λ (p q : KeyRow). p.born < q.born) (λ row. not (is_gone time row)) rows are.rise;
+      each = All-filter (λ row. not (is_gone time row)) (IsRowOf n) rows are.each;
+    })
+
+later_row : (n : ℕ) (row : KeyRow) → IsRowOf n row → IsRowOf (n + 1) row
+later_row n row is = record { before = omega (arith, is.before); named = is.named; turned = omega (arith, is.turned); counted = omega (arith, is.counted); some = is.some }
+
+new_rows : (time n : ℕ) (key description policy : List ℕ) (rows : List KeyRow) → place_in key ≡ n → AreRows n rows → AreRows (n + 1) (rows ++ new_key n time key description policy ∷ [])
+new_rows time n key description policy rows here are = record {
+  rise = all_pairs_push (λ (p q : KeyRow). p.born < q.born) rows (new_key n time key description policy) are.rise (λ k d lt. (are.each k d lt).before);
+  each = All-push (IsRowOf (n + 1)) rows (new_key n time key description policy) (All-weaker (IsRowOf n) (IsRowOf (n + 1)) (later_row n) rows are.each)
+      (record { before = omega arith; named = here; turned = omega arith; counted = omega arith; some = omega arith });
+}
+
+-- one entry more
+pub rows_after : (n time : ℕ) (w : What) (rows : List KeyRow) → IsMadeHere n w → AreRows n rows → AreRows (n + 1) (keys_after n time w rows)
+rows_after n time (what.CreateKey key description policy) rows here are = new_rows time n key description policy rows here are
+rows_after n time (what.Enable key) rows here are = changed_rows key _ (λ row. alike _ row refl refl refl refl) n rows are
+rows_after n time (what.Disable key) rows here are = changed_rows key _ (λ row. alike _ row refl refl refl refl) n rows are
+rows_after n time (what.Schedule key date days) rows here are = changed_rows key _ (λ row. alike _ row refl refl refl refl) n rows are
+rows_after n time (what.Cancel key) rows here are = changed_rows key _ (λ row. alike _ row refl refl refl refl) n rows are
+rows_after n time (what.RotationOn key period) rows here are = changed_rows key _ (λ row. alike _ row refl refl refl refl) n rows are
+rows_after n time (what.RotationOff key) rows here are = changed_rows key _ (λ row. alike _ row refl refl refl refl) n rows are
+rows_after n time (what.RotateNow key) rows here are = changed_rows key _ (λ row. versioned time true row.next row) n rows are
+rows_after n time (what.Policy key text) rows here are = changed_rows key _ (λ row. alike _ row refl refl refl refl) n rows are
+rows_after n time (what.Description key text) rows here are = changed_rows key _ (λ row. alike _ row refl refl refl refl) n rows are
+rows_after n time what.House rows here are = house_rows time n rows are
+
+pub no_rows : (n : ℕ) (rows : List KeyRow) → rows ≡ [] → AreRows n rows
+no_rows n rows none = record { rise = λ i j d before within. absurd (omega (arith, within, ap length none)); each = λ k d lt. absurd (omega (arith, lt, ap length none)) }
+
+-- ---- a history with one more entry
+
+-- the replay counts the entries
+counted_from : (state : State) (history : List Entry) → (fold step state history).entries ≡ state.entries + length history
+counted_from state [] = omega arith
+counted_from state (entry ∷ history) = omega (arith, counted_from (step state entry) history)
+
+pub replay-entries : (history : List Entry) → (replay history).entries ≡ length history
+replay-entries history = omega (arith, counted_from nothing_yet history)
+
+pub replay-push : (history : List Entry) (entry : Entry) → (replay (history ++ entry ∷ [])).keys ≡ keys_after (length history) entry.time entry.what (replay history).keys
+replay-push history entry =
+    ap (λ state. state.keys) (fold-append step nothing_yet history (entry ∷ []))
+    ∙ ap (λ place. keys_after place entry.time entry.what (replay history).keys) (replay-entries history)
+
+pub latest-push : (history : List Entry) (entry : Entry) → latest_of (history ++ entry ∷ []) ≡ entry.time
+latest-push history entry = fold-append (λ time e. e.time) 0 history (entry ∷ [])
+
+pub bytes-push : (history : List Entry) (entry : Entry) → bytes_in (history ++ entry ∷ []) ≡ bytes_in history + size_of entry.what
+bytes-push history entry = fold-append (λ bytes e. bytes + size_of e.what) 0 history (entry ∷ [])
+
+pub length-push : (history : List Entry) (entry : Entry) → length (history ++ entry ∷ []) ≡ length history + 1
+length-push history entry = length-append history (entry ∷ [])

@@ -1,0 +1,116 @@
+-- What entries do to the rows of keys (AWS KMS API Reference, the operations that append them; AWS KMS Developer Guide,
+-- "Rotate AWS KMS keys" and "Delete an AWS KMS key").
+use Rattle.std.specs.Prelude.{ℕ, ◌+◌, ◌*◌, ◌≤◌, List, length, [], ◌∷◌, ◌++◌, map, filter, Bool, true, false, not, ◌||◌, Option, Some, None, if◌then◌else◌}
+use Rattle.std.specs.List.{list_any}
+use Rattle.std.specs.Str.{bytes_eq}
+use Rattle.key_states.specs.declared.rows.KeyRow.{KeyRow}
+use Rattle.key_states.specs.declared.states.State.{State}
+use Rattle.key_states.specs.declared.states.State.TheVariants as state
+use Rattle.key_states.specs.declared.states.Stored.{Stored}
+use Rattle.key_states.specs.declared.states.Stored.TheVariants.{Enabled, Disabled, Pending}
+use Rattle.key_states.specs.declared.versions.Version.{Version}
+use Rattle.key_states.specs.States.{state_of, is_due}
+use Rattle.account_rows.specs.declared.entries.What.{What}
+use Rattle.account_rows.specs.declared.entries.What.TheVariants.{CreateKey, Enable, Disable, Schedule, Cancel, RotationOn, RotationOff, RotateNow, Policy, Description, House}
+
+-- ---- one row
+
+-- a key has at least one version, and not more than a version's number can say
+pub record HasVersions (row : KeyRow) : Type 0 where
+  pub some : 1 ≤ length row.versions
+  pub few : length row.versions ≤ 4294967295
+
+-- a key as it is made: enabled, with one version, and without automatic rotation
+abbrev pub new_key : ℕ → ℕ → List ℕ → List ℕ → List ℕ → KeyRow
+new_key place time key description policy = record {
+  key = key; born = place; made = time; description = description; policy = policy;
+  stored = Enabled; versions = record { time = time; on_demand = false } ∷ []; period = None; next = 0; on_demand = 0;
+}
+
+abbrev pub with_policy : List ℕ → KeyRow → KeyRow
+with_policy text row = record {
+  key = row.key; born = row.born; made = row.made; description = row.description; policy = text;
+  stored = row.stored; versions = row.versions; period = row.period; next = row.next; on_demand = row.on_demand;
+}
+
+abbrev pub with_description : List ℕ → KeyRow → KeyRow
+with_description text row = record {
+  key = row.key; born = row.born; made = row.made; description = text; policy = row.policy;
+  stored = row.stored; versions = row.versions; period = row.period; next = row.next; on_demand = row.on_demand;
+}
+
+abbrev pub with_stored : Stored → KeyRow → KeyRow
+with_stored stored row = record {
+  key = row.key; born = row.born; made = row.made; description = row.description; policy = row.policy;
+  stored = stored; versions = row.versions; period = row.period; next = row.next; on_demand = row.on_demand;
+}
+
+-- another period of automatic rotation, and the next date
+abbrev pub with_period : Option ℕ → ℕ → KeyRow → KeyRow
+with_period period next row = record {
+  key = row.key; born = row.born; made = row.made; description = row.description; policy = row.policy;
+  stored = row.stored; versions = row.versions; period = period; next = next; on_demand = row.on_demand;
+}
+
+-- one version more, which is on demand or not, and the next date
+abbrev pub with_version : ℕ → Bool → ℕ → KeyRow → KeyRow
+with_version time on_demand next row = record {
+  key = row.key; born = row.born; made = row.made; description = row.description; policy = row.policy;
+  stored = row.stored; versions = row.versions ++ record { time = time; on_demand = on_demand } ∷ []; period = row.period; next = next;
+  on_demand = if on_demand then row.on_demand + 1 else row.on_demand;
+}
+
+-- some days after a time
+abbrev pub days_after : ℕ → ℕ → ℕ
+days_after time days = time + days * 86400
+
+-- the next date of automatic rotation, a period after a time
+abbrev pub next_date : ℕ → Option ℕ → ℕ → ℕ
+next_date time None next = next
+next_date time (Some period) next = days_after time period
+
+-- an automatic rotation
+abbrev pub rotated : ℕ → KeyRow → KeyRow
+rotated time row = with_version time false (next_date time row.period row.next) row
+
+-- ---- all rows
+
+-- a key whose date of deletion has come
+abbrev pub is_state_gone : State → Bool
+is_state_gone state.Enabled = false
+is_state_gone state.Disabled = false
+is_state_gone state.PendingDeletion = false
+is_state_gone state.Gone = true
+
+abbrev pub is_gone : ℕ → KeyRow → Bool
+is_gone moment row = is_state_gone (state_of row.stored moment)
+
+-- the row of this key is changed
+abbrev pub changed : List ℕ → (KeyRow → KeyRow) → List KeyRow → List KeyRow
+changed key change keys = map (λ (row : KeyRow). if bytes_eq row.key key then change row else row) keys
+
+-- a key that is due is rotated
+abbrev pub rotated_if_due : ℕ → KeyRow → KeyRow
+rotated_if_due time row = if is_due row time then rotated time row else row
+
+-- housekeeping: keys that are gone are removed, and those that are due are rotated
+abbrev pub house_kept : ℕ → List KeyRow → List KeyRow
+house_kept time keys = map (rotated_if_due time) (filter (λ row. not (is_gone time row)) keys)
+
+-- what an entry at this place and time does to the keys
+abbrev pub keys_after : ℕ → ℕ → What → List KeyRow → List KeyRow
+keys_after place time (CreateKey key description policy) keys = keys ++ new_key place time key description policy ∷ []
+keys_after place time (Enable key) keys = changed key (with_stored Enabled) keys
+keys_after place time (Disable key) keys = changed key (with_stored Disabled) keys
+keys_after place time (Schedule key date days) keys = changed key (with_stored (Pending date days)) keys
+keys_after place time (Cancel key) keys = changed key (with_stored Disabled) keys
+keys_after place time (RotationOn key period) keys = changed key (with_period (Some period) (days_after time period)) keys
+keys_after place time (RotationOff key) keys = changed key (λ row. with_period None row.next row) keys
+keys_after place time (RotateNow key) keys = changed key (λ row. with_version time true row.next row) keys
+keys_after place time (Policy key text) keys = changed key (with_policy text) keys
+keys_after place time (Description key text) keys = changed key (with_description text) keys
+keys_after place time House keys = house_kept time keys
+
+-- whether housekeeping has something to do
+abbrev pub wants_house : ℕ → List KeyRow → Bool
+wants_house moment keys = list_any (λ row. is_gone moment row || is_due row moment) keys

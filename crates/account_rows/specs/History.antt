@@ -1,0 +1,106 @@
+-- The history of an account, and the rows that its replay makes.
+use Rattle.std.specs.Prelude.{◌≡◌, ℕ, ◌+◌, ◌≤◌, ◌<◌, List, [], ◌∷◌, ◌++◌, length, drop, max, fold, find, Bool, ◌&&◌, nat_lt, nat_le, Option, Some, None, if◌then◌else◌, All, AllPairs}
+use Rattle.std.specs.Int.{from_be_bytes, w64}
+use Rattle.std.specs.Str.{bytes_eq}
+use Rattle.kms_names.specs.Place.{is_behind}
+use Rattle.key_states.specs.declared.rows.KeyRow.{KeyRow}
+use Rattle.account_rows.specs.declared.entries.Entry.{Entry}
+use Rattle.account_rows.specs.declared.entries.What.{What}
+use Rattle.account_rows.specs.declared.entries.What.TheVariants.{CreateKey, Enable, Disable, Schedule, Cancel, RotationOn, RotationOff, RotateNow, Policy, Description, House}
+use Rattle.account_rows.specs.Sizes.{size_of, bytes_in}
+use Rattle.account_rows.specs.Changes.{keys_after, wants_house}
+
+-- the number of entries, and the rows of keys in order of making
+pub record State : Type 0 where
+  pub entries : ℕ
+  pub keys : List KeyRow
+
+-- what an entry does
+abbrev pub step : State → Entry → State
+step state entry = record { entries = state.entries + 1; keys = keys_after state.entries entry.time entry.what state.keys }
+
+abbrev pub nothing_yet : State
+nothing_yet = record { entries = 0; keys = [] }
+
+-- the entries one after another
+abbrev pub replay : List Entry → State
+replay history = fold step nothing_yet history
+
+-- the time of the last entry, 0 where there is none
+abbrev pub latest_of : List Entry → ℕ
+latest_of history = fold (λ time entry. entry.time) 0 history
+
+-- the moment of a request at a history: the clock's answer, or the last entry's time where the clock went back
+abbrev pub moment_of : List Entry → ℕ → ℕ
+moment_of history clock = max clock (latest_of history)
+
+-- ---- limits
+
+-- at most 1,000,000 entries and 268,435,456 bytes
+abbrev pub most_entries : ℕ
+most_entries = 1000000
+
+abbrev pub most_bytes : ℕ
+most_bytes = 268435456
+
+-- there is room for one more entry that counts so many bytes
+abbrev pub has_room : List Entry → ℕ → Bool
+has_room history size = nat_lt (length history) most_entries && nat_le (bytes_in history + size) most_bytes
+
+-- ---- housekeeping
+
+-- the entry of housekeeping at a clock's answer: where some key is gone or due, and there is room for it
+abbrev pub housekeeping_of : List Entry → ℕ → Option Entry
+housekeeping_of history clock =
+    if wants_house (moment_of history clock) (replay history).keys && has_room history (size_of House)
+    then Some (record { time = moment_of history clock; what = House }) else None
+
+-- ---- looking keys up
+
+-- the first row of an id
+abbrev pub key_with : List KeyRow → List ℕ → Option KeyRow
+key_with rows id = find (λ row. bytes_eq row.key id) rows
+
+-- the first row that was made behind a place, or the first of all
+abbrev pub key_behind : List KeyRow → Option ℕ → Option KeyRow
+key_behind rows after = find (λ row. is_behind after row.born) rows
+
+-- ---- what may be applied
+
+-- the place that a key's id ends with, in six bytes
+abbrev pub place_in : List ℕ → ℕ
+place_in id = from_be_bytes w64 (0 ∷ 0 ∷ drop 10 id)
+
+-- a key that an entry makes has an id that ends with the entry's place
+abbrev pub IsMadeHere : ℕ → What → Type 0
+IsMadeHere place (CreateKey key description policy) = place_in key ≡ place
+IsMadeHere place (Enable key) = Unit {0}
+IsMadeHere place (Disable key) = Unit {0}
+IsMadeHere place (Schedule key date days) = Unit {0}
+IsMadeHere place (Cancel key) = Unit {0}
+IsMadeHere place (RotationOn key period) = Unit {0}
+IsMadeHere place (RotationOff key) = Unit {0}
+IsMadeHere place (RotateNow key) = Unit {0}
+IsMadeHere place (Policy key text) = Unit {0}
+IsMadeHere place (Description key text) = Unit {0}
+IsMadeHere place House = Unit {0}
+
+-- an entry may come behind a history: its time is before the year 10000, and there is room for it
+pub record IsFitting (history : List Entry) (entry : Entry) : Type 0 where
+  pub bound : entry.time < 253402300800
+  pub made : IsMadeHere (length history) entry.what
+  pub few : length history < most_entries
+  pub fits : bytes_in history + size_of entry.what ≤ most_bytes
+
+-- a row of the first so many entries
+pub record IsRowOf (place : ℕ) (row : KeyRow) : Type 0 where
+  pub before : row.born < place
+  pub named : place_in row.key ≡ row.born
+  pub turned : row.on_demand ≤ place
+  pub counted : length row.versions ≤ place
+  pub some : 1 ≤ length row.versions
+
+-- rows in order of making
+pub record AreRows (place : ℕ) (rows : List KeyRow) : Type 0 where
+  pub rise : AllPairs (λ (p q : KeyRow). p.born < q.born) rows
+  pub each : All (IsRowOf place) rows

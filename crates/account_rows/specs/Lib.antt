@@ -1,0 +1,4 @@
+pub mod Sizes
+pub mod Changes
+pub mod History
+pub mod Replaying

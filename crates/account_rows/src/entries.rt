@@ -1,0 +1,178 @@
+//! Entries of the history.
+
+ghost use Rattle.std.specs.Prelude.{◌≡◌, ◌+◌, length, min, IfOk};
+ghost use Rattle.account_rows.specs.Sizes.{size_of};
+
+use kms_names::{KeyId, NoMemory, Text};
+use std::alloc::Global;
+use std::marker::Model;
+use std::sync::Arc;
+
+/// What an entry did.
+#[derive(Debug, Drop)]
+pub enum What {
+    /// A key of this id was made, with this description and policy.
+    CreateKey {
+        key: KeyId,
+        description: Text,
+        policy: Text,
+    },
+    /// A key was enabled.
+    Enable { key: KeyId },
+    /// A key was disabled.
+    Disable { key: KeyId },
+    /// The deletion of a key was scheduled.
+    Schedule {
+        key: KeyId,
+        /// When it is deleted, in seconds since 1970.
+        date: u64,
+        /// The waiting period that was asked for, in days.
+        days: u32,
+    },
+    /// The deletion of a key was cancelled, which leaves it disabled.
+    Cancel { key: KeyId },
+    /// Automatic rotation of a key was turned on, with this period in days.
+    RotationOn { key: KeyId, period: u32 },
+    /// Automatic rotation of a key was turned off.
+    RotationOff { key: KeyId },
+    /// A key was rotated on demand.
+    RotateNow { key: KeyId },
+    /// A key was given another policy.
+    Policy { key: KeyId, text: Text },
+    /// A key was given another description.
+    Description { key: KeyId, text: Text },
+    /// Housekeeping: keys whose date of deletion has come were removed, and keys whose automatic rotation was due were rotated.
+    House,
+}
+
+/// How many bytes each entry counts beside its texts.
+const ENTRY: u64 = 64;
+
+// The number with the bytes of a text.
+fn with_text(bytes: u64, text: &Text) -> u64
+    ensures { result ≡ min (bytes + length text.now) 18446744073709551615 }
+{
+    bytes.saturating_add(text.as_str().len() as u64)
+}
+
+impl What {
+    /// A copy that equals its source.
+    pub fn copy(&self) -> Result<What, NoMemory>
+        ensures { IfOk result (λ what. what ≡ self.now) }
+    {
+        Ok(match self {
+            What::CreateKey {
+                key,
+                description,
+                policy,
+            } => What::CreateKey {
+                key: *key,
+                description: description.copy()?,
+                policy: policy.copy()?,
+            },
+            What::Enable { key } => What::Enable { key: *key },
+            What::Disable { key } => What::Disable { key: *key },
+            What::Schedule { key, date, days } => What::Schedule {
+                key: *key,
+                date: *date,
+                days: *days,
+            },
+            What::Cancel { key } => What::Cancel { key: *key },
+            What::RotationOn { key, period } => What::RotationOn {
+                key: *key,
+                period: *period,
+            },
+            What::RotationOff { key } => What::RotationOff { key: *key },
+            What::RotateNow { key } => What::RotateNow { key: *key },
+            What::Policy { key, text } => What::Policy {
+                key: *key,
+                text: text.copy()?,
+            },
+            What::Description { key, text } => What::Description {
+                key: *key,
+                text: text.copy()?,
+            },
+            What::House => What::House,
+        })
+    }
+
+    /// How many bytes it counts: 64, and those of its texts, or as many as a u64 can say. No memory is taken.
+    pub fn size(&self) -> u64
+        ensures { result ≡ min (size_of self.now) 18446744073709551615 }
+    {
+        match self {
+            What::CreateKey {
+                description,
+                policy,
+                ..
+            } => with_text(with_text(ENTRY, description), policy),
+            What::Policy { text, .. } | What::Description { text, .. } => with_text(ENTRY, text),
+            _ => ENTRY,
+        }
+    }
+}
+
+/// An entry of the history.
+#[derive(Debug, Drop)]
+pub struct Entry {
+    /// When it was made, in seconds since 1970. Times never fall along a history.
+    pub time: u64,
+    /// What was done.
+    pub what: What,
+}
+
+impl Entry {
+    /// A copy that equals its source.
+    pub fn copy(&self) -> Result<Entry, NoMemory>
+        ensures { IfOk result (λ entry. entry ≡ self.now) }
+    {
+        Ok(Entry {
+            time: self.time,
+            what: self.what.copy()?,
+        })
+    }
+}
+
+/// An entry that versions of the rows share. Contracts see the entry.
+#[derive(Debug, Drop)]
+pub struct SharedEntry {
+    entry: Arc<Entry>,
+}
+
+impl Model for SharedEntry {
+    ghost use Rattle.std.specs.Arc.{arc_value};
+    ghost use Rattle.account_rows.specs.declared.entries.Entry.{Entry as EntryValue};
+
+    ghost Value = { EntryValue };
+
+    ghost view = { λ s. arc_value s.entry };
+}
+
+impl SharedEntry {
+    /// The entry, to be shared.
+    pub fn new(alloc: Global, entry: Entry) -> Result<SharedEntry, NoMemory>
+        ensures { IfOk result (λ s. s ≡ entry) }
+    {
+        match Arc::new(alloc, entry) {
+            Ok(entry) => Ok(SharedEntry { entry }),
+            Err(_) => Err(NoMemory),
+        }
+    }
+
+    /// The same entry once more.
+    pub fn share(&self) -> Result<SharedEntry, NoMemory>
+        ensures { IfOk result (λ s. s ≡ self.now) }
+    {
+        match Arc::try_clone(&self.entry) {
+            Ok(entry) => Ok(SharedEntry { entry }),
+            Err(_) => Err(NoMemory),
+        }
+    }
+
+    /// The entry.
+    pub fn entry(&self) -> &Entry
+        ensures { result.now ≡ self.now }
+    {
+        &self.entry
+    }
+}

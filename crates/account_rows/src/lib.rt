@@ -1,0 +1,16 @@
+//! What an account keeps: the entries of its history, and the rows that their replay makes.
+//!
+//! Contracts see the rows as the list of their entries. Everything else is the replay of that list.
+#![tactic(auto)]
+
+mod entries;
+mod held;
+mod replay;
+mod rows;
+mod threads;
+
+pub use entries::{Entry, What};
+pub use held::{HeldKey, Lent};
+pub use replay::{days_after, is_gone, same_key};
+pub use rows::{BYTES, ENTRIES, Rows};
+pub use threads::rows_cross_threads;

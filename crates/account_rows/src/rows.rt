@@ -1,0 +1,221 @@
+//! The entries of an account's history, and its rows.
+
+ghost use Rattle.std.specs.Prelude.{◌≡◌, ◌≤◌, ◌++◌, ◌∷◌, [], length, IfOk, slice_get};
+ghost use Rattle.std.specs.Option.{option_map};
+ghost use Rattle.account_rows.specs.History.{has_room, key_with, key_behind, place_in};
+ghost use Rattle.account_rows.specs.Sizes.{bytes_in};
+ghost use Rattle.kms_names.specs.Place.{is_behind};
+ghost use Rattle.std.specs.Prelude.{filter};
+ghost use Rattle.key_states.specs.declared.rows.KeyRow.{KeyRow};
+
+use crate::entries::{Entry, SharedEntry, What};
+use crate::held::{DefaultPolicy, HeldKey};
+use crate::replay::{keys_after, same_key, wants_house};
+use kms_names::{AccountNumber, KeyId, NoMemory};
+use std::alloc::Global;
+use std::marker::Model;
+
+/// How many entries a history holds at most.
+pub const ENTRIES: u64 = 1_000_000;
+
+/// How many bytes the entries of a history count at most.
+pub const BYTES: u64 = 268_435_456;
+
+/// The entries of an account's history, and the rows that they make. Contracts see the list of the entries. A changed
+/// history is a new one: the old one stays as it was.
+#[derive(Debug, Drop)]
+pub struct Rows {
+    default: DefaultPolicy,
+    entries: Vec<SharedEntry>,
+    keys: Vec<HeldKey>,
+    latest: u64,
+    bytes: u64,
+}
+
+impl Model for Rows {
+    ghost use Rattle.std.specs.Prelude.{◌≡◌, ◌≤◌, List, length};
+    ghost use Rattle.account_rows.specs.declared.entries.Entry.{Entry};
+    ghost use Rattle.account_rows.specs.History.{replay, latest_of, most_entries, most_bytes, AreRows};
+    ghost use Rattle.account_rows.specs.Sizes.{bytes_in};
+
+    ghost Value = { List Entry };
+
+    ghost view = { λ rows. rows.entries.items };
+
+    ghost invariant = { λ rows. record {
+      keys : rows.keys.items ≡ (replay rows.entries.items).keys;
+      are : AreRows (length rows.entries.items) rows.keys.items;
+      latest : rows.latest ≡ latest_of rows.entries.items;
+      bytes : rows.bytes ≡ bytes_in rows.entries.items;
+      few : length rows.entries.items ≤ most_entries;
+      fits : bytes_in rows.entries.items ≤ most_bytes;
+    } };
+}
+
+// The entries with one more.
+fn with_entry(
+    alloc: Global,
+    entries: &[SharedEntry],
+    entry: &Entry,
+) -> Result<Vec<SharedEntry>, NoMemory>
+    ensures { IfOk result (λ all. all.items ≡ entries.now ++ entry.now ∷ []) }
+{
+    let mut all = Vec::with_capacity(alloc, entries.len() + 1)?;
+    for shared in entries {
+        all.push(shared.share()?)?;
+    }
+    all.push(SharedEntry::new(alloc, entry.copy()?)?)?;
+    Ok(all)
+}
+
+// The place that a key's id ends with.
+fn place_in(key: &KeyId) -> u64
+    ensures { result ≡ place_in key.now }
+{
+    let mut bytes = [0; 8];
+    bytes[2..].copy_from_slice(&key.as_bytes()[10..]);
+    u64::from_be_bytes(bytes)
+}
+
+// Whether what was made at the second place is behind the first, where one is given.
+fn is_behind(after: Option<u64>, born: u64) -> bool
+    ensures { result ≡ is_behind after born }
+{
+    match after {
+        Some(place) => place < born,
+        None => true,
+    }
+}
+
+impl Rows {
+    ghost use Rattle.std.specs.Prelude.{◌≡◌, ◌≤◌, ◌++◌, ◌∷◌, [], length, IfOk, slice_get};
+    ghost use Rattle.std.specs.Option.{option_map};
+    ghost use Rattle.account_rows.specs.History.{replay, latest_of, housekeeping_of, most_entries, most_bytes, has_room, key_with, key_behind, IsFitting};
+    ghost use Rattle.account_rows.specs.Sizes.{bytes_in};
+
+    /// No entries. Keys of this account share its default policy.
+    pub fn new(alloc: Global, account: &AccountNumber) -> Result<Rows, NoMemory>
+        ensures { IfOk result (λ rows. rows ≡ []) }
+    {
+        Ok(Rows {
+            default: DefaultPolicy::new(alloc, account)?,
+            entries: Vec::new(alloc),
+            keys: Vec::new(alloc),
+            latest: 0,
+            bytes: 0,
+        })
+    }
+
+    /// The rows with one more entry. These stay as they are.
+    pub fn apply(&self, entry: &Entry) -> Result<Rows, NoMemory>
+        requires { IsFitting self.now entry.now }
+        ensures { IfOk result (λ rows. rows ≡ self.now ++ entry.now ∷ []) }
+    {
+        let alloc = *self.entries.allocator();
+        let place = self.entries();
+        Ok(Rows {
+            default: self.default.share()?,
+            entries: with_entry(alloc, &self.entries, entry)?,
+            keys: keys_after(alloc, &self.keys, place, entry, &self.default)?,
+            latest: entry.time,
+            bytes: self.bytes + entry.what.size(),
+        })
+    }
+
+    /// The entry of housekeeping at the clock's answer, if any: where the date of deletion of some key has come or an
+    /// automatic rotation is due, and there is room for one more entry of 64 bytes. It takes no memory, and its time
+    /// grows with the number of keys.
+    pub fn housekeeping(&self, moment: u64) -> Option<Entry>
+        ensures { result ≡ housekeeping_of self.now moment }
+    {
+        let time = moment.max(self.latest);
+        if wants_house(&self.keys, time) && self.has_room(What::House.size()) {
+            Some(Entry {
+                time,
+                what: What::House,
+            })
+        } else {
+            None
+        }
+    }
+
+    // Whether there is room for one more entry that counts so many bytes.
+    fn has_room(&self, size: u64) -> bool
+        requires { size ≤ most_bytes }
+        ensures { result ≡ has_room self.now size }
+    {
+        self.entries() < ENTRIES && self.bytes + size <= BYTES
+    }
+
+    /// The number of entries, which is at most `ENTRIES`.
+    pub fn entries(&self) -> u64
+        ensures number { result ≡ length self.now }
+        ensures few { result ≤ most_entries }
+    {
+        self.entries.len() as u64
+    }
+
+    /// The time of the last entry, in seconds since 1970, and 0 where there is none.
+    pub fn latest(&self) -> u64
+        ensures { result ≡ latest_of self.now }
+    {
+        self.latest
+    }
+
+    /// How many bytes the entries count, which is at most `BYTES`.
+    pub fn bytes(&self) -> u64
+        ensures bytes { result ≡ bytes_in self.now }
+        ensures fits { result ≤ most_bytes }
+    {
+        self.bytes
+    }
+
+    /// The entry at a place, counted from 0, and `None` past the last one. No memory is taken.
+    pub fn entry(&self, place: u64) -> Option<&Entry>
+        ensures { option_map (λ entry. entry.now) result ≡ slice_get self.now place }
+    {
+        match self.entries.get(place as usize) {
+            Some(shared) => Some(shared.entry()),
+            None => None,
+        }
+    }
+
+    /// The number of keys.
+    pub fn number_of_keys(&self) -> usize
+        ensures { result ≡ length (replay self.now).keys }
+    {
+        self.keys.len()
+    }
+
+    /// The key of an id, with its policy. It is found by halves, by the place that its id ends with; no memory is taken.
+    pub fn key(&self, key: &KeyId) -> Option<&HeldKey>
+        ensures { option_map (λ row. row.now) result ≡ key_with (replay self.now).keys key.now }
+    {
+        let place = place_in(key);
+        match self
+            .keys
+            .binary_search_by(|held| held.row().born.cmp(&place))
+        {
+            Ok(at) if same_key(&self.keys[at].row().key, key) => Some(&self.keys[at]),
+            _ => None,
+        }
+    }
+
+    // The keys that were made behind a place, or all.
+    fn behind(&self, after: Option<u64>) -> &[HeldKey]
+        ensures { result.now ≡ filter (λ (row : KeyRow). is_behind after row.born) (replay self.now).keys }
+    {
+        let start = self
+            .keys
+            .partition_point(|held| !is_behind(after, held.row().born));
+        &self.keys[start..]
+    }
+
+    /// The first key, in order of making, that was made behind a place, or the first of all. It is found by halves; no
+    /// memory is taken.
+    pub fn key_after(&self, after: Option<u64>) -> Option<&HeldKey>
+        ensures { option_map (λ row. row.now) result ≡ key_behind (replay self.now).keys after }
+    {
+        self.behind(after).first()
+    }
+}
