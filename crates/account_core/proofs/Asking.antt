@@ -10,7 +10,7 @@ use Rattle.policy_doc.specs.declared.policies.Policy.{Policy}
 use Rattle.authority.specs.Allowed.{is_allowed, IsKeyPolicy, AreIdentityPolicies}
 use Rattle.authority.proofs.LawFacts.{allowed_by}
 use Rattle.authority.proofs.KindFacts.{kind_of_text}
-use Rattle.account_core.specs.declared.rows.KeyRow.{KeyRow}
+use Rattle.key_states.specs.declared.rows.KeyRow.{KeyRow}
 use Rattle.account_core.specs.View.{View}
 use Rattle.account_core.specs.Steps.{or_else}
 use Rattle.account_core.specs.Authority.{Question, setting_of, resource_of, policy_of, asked_of, denied_at, denied_one, denied, MayAsk}

@@ -11,7 +11,7 @@ use Rattle.kms_json.proofs.Statuses.{refused_unserved}
 use Rattle.kms_json.specs.declared.replies.Reply.TheVariants.{Refused}
 use Rattle.account_core.specs.declared.decide.Decision.TheVariants as decision
 use Rattle.account_core.specs.declared.facts.RealmFacts.{RealmFacts}
-use Rattle.account_core.specs.declared.entries.Entry.{Entry}
+use Rattle.account_rows.specs.declared.entries.Entry.{Entry}
 use Rattle.account_core.specs.declared.parts.Made.{Made}
 use Rattle.account_core.specs.declared.stops.Stop.{Stop}
 use Rattle.account_core.specs.declared.stops.Stop.TheVariants as stop

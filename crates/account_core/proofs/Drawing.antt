@@ -7,7 +7,7 @@ use Rattle.enc_context.specs.declared.pairs.Pair.{Pair}
 use Rattle.crypto_ops.specs.Sealed.{sealed}
 use Rattle.account_core.specs.declared.facts.RealmFacts.{RealmFacts}
 use Rattle.kms_json.specs.declared.asks.cryptography.DataKey.{DataKey}
-use Rattle.account_core.specs.declared.rows.KeyRow.{KeyRow}
+use Rattle.key_states.specs.declared.rows.KeyRow.{KeyRow}
 use Rattle.account_core.specs.Crypto.{words_of, sealed_key}
 use Rattle.account_core.specs.Places.{places_of, line_at, IsLineOf}
 use Rattle.account_core.specs.Parts.{takes, after}

@@ -9,9 +9,9 @@ use Rattle.kms_json.specs.declared.asks.Reading.{Reading}
 use Rattle.kms_json.specs.declared.asks.Reading.TheVariants as reading
 use Rattle.kms_json.specs.declared.refusals.Refusal.{Refusal}
 use Rattle.account_core.specs.declared.facts.RealmFacts.{RealmFacts}
-use Rattle.account_core.specs.declared.entries.Entry.{Entry}
-use Rattle.account_core.specs.declared.entries.What.{What}
-use Rattle.account_core.specs.declared.entries.What.TheVariants as what
+use Rattle.account_rows.specs.declared.entries.Entry.{Entry}
+use Rattle.account_rows.specs.declared.entries.What.{What}
+use Rattle.account_rows.specs.declared.entries.What.TheVariants as what
 use Rattle.account_core.specs.declared.places.Uses.{Uses}
 use Rattle.account_core.specs.Ids.{key_id_at}
 use Rattle.account_core.specs.Places.{no_places}

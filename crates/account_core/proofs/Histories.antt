@@ -1,9 +1,9 @@
 -- A history with one more entry.
 use Rattle.std.proofs.Common.{◌≡◌, ◌+◌, List, [], ◌∷◌, ◌++◌, length, fold, sym, ap, subst, ◌∙◌, arith}
 use Rattle.std.proofs.lemmas.List.Sums.{fold-append}
-use Rattle.account_core.specs.declared.entries.Entry.{Entry}
+use Rattle.account_rows.specs.declared.entries.Entry.{Entry}
 use Rattle.account_core.specs.declared.facts.RealmFacts.{RealmFacts}
-use Rattle.account_core.specs.History.{State, step, nothing_yet, replay, keys_after, latest_of}
+use Rattle.account_rows.specs.History.{State, step, nothing_yet, replay, keys_after, latest_of}
 use Rattle.account_core.specs.Decide.{IsLawful, IsNext, empty, longer}
 
 -- the replay counts the entries

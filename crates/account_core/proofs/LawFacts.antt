@@ -33,12 +33,12 @@ use Rattle.kms_json.specs.declared.refusals.Refusal.TheVariants as refusal
 use Rattle.kms_json.specs.declared.refusals.Missing.TheVariants as missing
 use Rattle.kms_json.specs.declared.refusals.Unsupported.TheVariants.{Recipient}
 use Rattle.account_core.specs.declared.facts.RealmFacts.{RealmFacts}
-use Rattle.account_core.specs.declared.entries.Entry.{Entry}
-use Rattle.account_core.specs.declared.rows.KeyRow.{KeyRow}
+use Rattle.account_rows.specs.declared.entries.Entry.{Entry}
+use Rattle.key_states.specs.declared.rows.KeyRow.{KeyRow}
 use Rattle.account_core.specs.Ids.{key_id_at, be32, be48}
 use Rattle.account_core.specs.Places.{Places, IsUpTo, nothing_used}
 use Rattle.account_core.specs.Blobs.{BlobName, name_in, named_in}
-use Rattle.account_core.specs.History.{replay, latest_of, key_with}
+use Rattle.account_rows.specs.History.{replay, latest_of, key_with}
 use Rattle.account_core.specs.Source.{Source}
 use Rattle.account_core.specs.View.{View, view_of}
 use Rattle.account_core.specs.Steps.{unless, and_then, or_else, unfit, unsupported, key_referred, reference_of, key_of, key_if_given, other_key, blob_name, source_in, source_of, opens, seals, arn_of}

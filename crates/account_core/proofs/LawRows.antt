@@ -8,12 +8,12 @@ use Rattle.std.proofs.lemmas.Slice.Eq.{bytes_eq-Decides}
 use Rattle.mac_sha.specs.Hmac.{hmac_sha256}
 use Rattle.mac_sha.proofs.HmacFacts.{hmac_length}
 use Rattle.account_core.specs.declared.facts.RealmFacts.{RealmFacts}
-use Rattle.account_core.specs.declared.entries.Entry.{Entry}
-use Rattle.account_core.specs.declared.entries.What.{What}
-use Rattle.account_core.specs.declared.entries.What.TheVariants.{CreateKey, Policy}
-use Rattle.account_core.specs.declared.rows.KeyRow.{KeyRow}
+use Rattle.account_rows.specs.declared.entries.Entry.{Entry}
+use Rattle.account_rows.specs.declared.entries.What.{What}
+use Rattle.account_rows.specs.declared.entries.What.TheVariants.{CreateKey, Policy}
+use Rattle.key_states.specs.declared.rows.KeyRow.{KeyRow}
 use Rattle.account_core.specs.Ids.{key_id_at, be32, be48}
-use Rattle.account_core.specs.History.{State, step, nothing_yet, replay, keys_after, key_with, with_policy, policy_put}
+use Rattle.account_rows.specs.History.{State, step, nothing_yet, replay, keys_after, key_with, with_policy, policy_put}
 use Rattle.account_core.specs.Decide.{IsNext, appended, kept, IsLawful, empty, longer}
 use Rattle.account_core.proofs.EntryFacts.{IsMadeAt, next_entry}
 use Rattle.account_core.proofs.Histories.{replay-push}

@@ -24,13 +24,13 @@ use Rattle.kms_json.specs.declared.refusals.Missing.TheVariants as missing
 use Rattle.kms_json.specs.Asks.{IsSized, IsSizedReading}
 use Rattle.kms_json.proofs.Sizes.{asked_sized}
 use Rattle.account_core.specs.declared.facts.RealmFacts.{RealmFacts}
-use Rattle.account_core.specs.declared.entries.Entry.{Entry}
-use Rattle.account_core.specs.declared.rows.KeyRow.{KeyRow}
+use Rattle.account_rows.specs.declared.entries.Entry.{Entry}
+use Rattle.key_states.specs.declared.rows.KeyRow.{KeyRow}
 use Rattle.account_core.specs.declared.re_encrypt.Turning.{Turning}
 use Rattle.account_core.specs.declared.places.Uses.{Uses}
 use Rattle.account_core.specs.Places.{Places}
 use Rattle.account_core.specs.Blobs.{BlobName, name_in, named_in, has_form}
-use Rattle.account_core.specs.History.{replay, key_with}
+use Rattle.account_rows.specs.History.{replay, key_with}
 use Rattle.account_core.specs.Source.{Source}
 use Rattle.account_core.specs.View.{View, view_of}
 use Rattle.account_core.specs.Steps.{unless, or_else, and_then, unfit, key_referred, reference_of, key_of, key_if_given, blob_name, other_key, held_key, source_in, source_of, opens, seals, draws, arn_of}

@@ -8,7 +8,7 @@ use Rattle.kms_json.specs.declared.replies.Reply.{Reply}
 use Rattle.kms_json.specs.declared.replies.Reply.TheVariants.{Refused}
 use Rattle.kms_json.specs.declared.refusals.Refusal.{Refusal}
 use Rattle.account_core.specs.declared.facts.RealmFacts.{RealmFacts}
-use Rattle.account_core.specs.declared.entries.Entry.{Entry}
+use Rattle.account_rows.specs.declared.entries.Entry.{Entry}
 use Rattle.account_core.specs.Places.{Places}
 use Rattle.account_core.specs.View.{View, view_of}
 use Rattle.account_core.specs.Steps.{unless, and_then}

@@ -10,7 +10,7 @@ use Rattle.authority.specs.KeyPolicy.{policy_in}
 use Rattle.authority.specs.Setting.{Setting, Particulars, Asked, callers_policies}
 use Rattle.authority.specs.Facts.{request_of}
 use Rattle.authority.specs.Allowed.{is_allowed, May}
-use Rattle.account_core.specs.declared.rows.KeyRow.{KeyRow}
+use Rattle.key_states.specs.declared.rows.KeyRow.{KeyRow}
 use Rattle.account_core.specs.Steps.{or_else, arn_of}
 use Rattle.account_core.specs.View.{View}
 

@@ -11,11 +11,11 @@ use Rattle.kms_json.specs.Replies.{status_of}
 use Rattle.kms_names.specs.declared.principals.Principal.{Principal}
 use Rattle.kms_names.specs.declared.principals.Principal.TheVariants.{Root, User, Role}
 use Rattle.account_core.specs.declared.facts.RealmFacts.{RealmFacts}
-use Rattle.account_core.specs.declared.entries.Entry.{Entry}
+use Rattle.account_rows.specs.declared.entries.Entry.{Entry}
 use Rattle.account_core.specs.declared.decide.Decision.{Decision}
 use Rattle.account_core.specs.declared.decide.Decision.TheVariants as decision
 use Rattle.account_core.specs.Places.{Places, no_places}
-use Rattle.account_core.specs.History.{housekeeping_of}
+use Rattle.account_rows.specs.History.{housekeeping_of}
 use Rattle.account_core.specs.Steps.{unless}
 use Rattle.account_core.specs.View.{view_of}
 use Rattle.account_core.specs.Parts.{Outcome, Decided, decided_by}

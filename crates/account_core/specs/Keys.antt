@@ -9,22 +9,24 @@ use Rattle.kms_json.specs.declared.refusals.Refusal.TheVariants as refusal
 use Rattle.kms_json.specs.declared.refusals.Unsupported.{Unsupported}
 use Rattle.kms_json.specs.declared.refusals.Unsupported.TheVariants as field
 use Rattle.kms_json.specs.declared.replies.KeyMetadata.{KeyMetadata}
+use Rattle.kms_json.specs.declared.states.KeyState.{KeyState}
+use Rattle.kms_json.specs.declared.states.KeyState.TheVariants as state
 use Rattle.kms_json.specs.declared.replies.Reply.TheVariants as reply
 use Rattle.authority.specs.KeyPolicy.{default_text}
 use Rattle.account_core.specs.declared.facts.RealmFacts.{RealmFacts}
-use Rattle.account_core.specs.declared.entries.What.TheVariants as what
-use Rattle.account_core.specs.declared.rows.KeyRow.{KeyRow}
+use Rattle.account_rows.specs.declared.entries.What.TheVariants as what
+use Rattle.key_states.specs.declared.rows.KeyRow.{KeyRow}
 use Rattle.account_core.specs.Ids.{key_id_at}
 use Rattle.account_core.specs.Places.{nothing_used}
 use Rattle.account_core.specs.Steps.{unless, or_else, unsupported, key_of}
 use Rattle.account_core.specs.Authority.{of_key, of_policy}
 use Rattle.account_core.specs.View.{View}
-use Rattle.account_core.specs.Parts.{Parts, takes, appends}
+use Rattle.account_core.specs.Parts.{Parts, takes, appends, told_state}
 use Rattle.account_core.specs.Policies.{policy_refused}
 
 -- a key as replies describe it
-abbrev pub description_of : RealmFacts → List ℕ → ℕ → List ℕ → KeyMetadata
-description_of facts key made description = record { account = facts.account; region = facts.region; key = key; created = made; description = description }
+abbrev pub description_of : RealmFacts → List ℕ → ℕ → List ℕ → KeyState → KeyMetadata
+description_of facts key made description state = record { account = facts.account; region = facts.region; key = key; created = made; description = description; state = state }
 
 -- a text that is given is this one
 abbrev pub unsupported_unless : List ℕ → Option (List ℕ) → Unsupported → Option Refusal
@@ -63,7 +65,7 @@ creates_key view x = record {
   own = λ found. unless (unserved_key x) (unless (refused_if_given view x.policy x.bypass_lockout_check) (Ok tt));
   effect = λ found ready. appends (record { time = view.moment; what = what.CreateKey (key_id_at view.facts view.place) x.description (policy_or_default view.facts.account x.policy) });
   dry_run = false;
-  reply = λ found ready. reply.Metadata (description_of view.facts (key_id_at view.facts view.place) view.moment x.description);
+  reply = λ found ready. reply.Metadata (description_of view.facts (key_id_at view.facts view.place) view.moment x.description state.Enabled);
 }
 
 -- DescribeKey
@@ -76,5 +78,5 @@ describes_key view reference = record {
   own = λ row. Ok tt;
   effect = λ row ready. takes nothing_used;
   dry_run = false;
-  reply = λ row ready. reply.Metadata (description_of view.facts row.key row.made row.description);
+  reply = λ row ready. reply.Metadata (description_of view.facts row.key row.made row.description (told_state row.stored));
 }

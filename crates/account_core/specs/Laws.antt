@@ -20,12 +20,12 @@ use Rattle.kms_json.specs.declared.asks.cryptography.DataKey.{DataKey}
 use Rattle.kms_json.specs.declared.replies.Reply.{Reply}
 use Rattle.kms_json.specs.declared.replies.Reply.TheVariants as reply
 use Rattle.account_core.specs.declared.facts.RealmFacts.{RealmFacts}
-use Rattle.account_core.specs.declared.entries.Entry.{Entry}
-use Rattle.account_core.specs.declared.rows.KeyRow.{KeyRow}
+use Rattle.account_rows.specs.declared.entries.Entry.{Entry}
+use Rattle.key_states.specs.declared.rows.KeyRow.{KeyRow}
 use Rattle.account_core.specs.Ids.{key_id_at}
 use Rattle.account_core.specs.Places.{Places, IsUpTo}
 use Rattle.account_core.specs.Blobs.{BlobName, name_in, named_in}
-use Rattle.account_core.specs.History.{key_with}
+use Rattle.account_rows.specs.History.{key_with}
 use Rattle.account_core.specs.View.{View, view_of}
 use Rattle.account_core.specs.Steps.{unfit, draws, reference_of}
 use Rattle.account_core.specs.Authority.{Question, of_context, resource_of, denied, setting_of, MayAsk}

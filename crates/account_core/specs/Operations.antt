@@ -9,17 +9,28 @@ use Rattle.account_core.specs.View.{View}
 use Rattle.account_core.specs.Parts.{Outcome, outcome}
 use Rattle.account_core.specs.Keys.{creates_key, describes_key}
 use Rattle.account_core.specs.Policies.{puts_policy, gets_policy}
+use Rattle.account_core.specs.declared.key_changes.KeyChange.TheVariants as change
+use Rattle.account_core.specs.KeyChanges.{changes_key, updates_description, gets_rotation_status}
 use Rattle.account_core.specs.Crypto.{encrypts, decrypts, re_encrypts, generates_data_key, generates_sealed_data_key, generates_random}
 
 -- those that change the account
 abbrev pub change_outcome : View → Changing → Result Outcome Refusal
 change_outcome view (changing.CreateKey x) = outcome view (creates_key view x)
 change_outcome view (changing.PutKeyPolicy key_id text bypass) = outcome view (puts_policy view key_id text bypass)
+change_outcome view (changing.UpdateKeyDescription key_id text) = outcome view (updates_description view key_id text)
+change_outcome view (changing.EnableKey key_id) = outcome view (changes_key view key_id change.Enable)
+change_outcome view (changing.DisableKey key_id) = outcome view (changes_key view key_id change.Disable)
+change_outcome view (changing.ScheduleKeyDeletion key_id days) = outcome view (changes_key view key_id (change.ScheduleDeletion days))
+change_outcome view (changing.CancelKeyDeletion key_id) = outcome view (changes_key view key_id change.CancelDeletion)
+change_outcome view (changing.EnableKeyRotation key_id period) = outcome view (changes_key view key_id (change.RotateEvery period))
+change_outcome view (changing.DisableKeyRotation key_id) = outcome view (changes_key view key_id change.RotateNoMore)
+change_outcome view (changing.RotateKeyOnDemand key_id) = outcome view (changes_key view key_id change.RotateNow)
 
 -- those that don't
 abbrev pub read_outcome : View → Reading → Result Outcome Refusal
 read_outcome view (reading.DescribeKey key_id) = outcome view (describes_key view key_id)
 read_outcome view (reading.GetKeyPolicy key_id) = outcome view (gets_policy view key_id)
+read_outcome view (reading.GetKeyRotationStatus key_id) = outcome view (gets_rotation_status view key_id)
 read_outcome view (reading.Encrypt x) = outcome view (encrypts view x)
 read_outcome view (reading.Decrypt x) = outcome view (decrypts view x)
 read_outcome view (reading.ReEncrypt x) = outcome view (re_encrypts view x)

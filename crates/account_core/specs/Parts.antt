@@ -1,18 +1,28 @@
 -- The steps of a decision in their order. Each operation says its own parts of them; the order is written here alone.
-use Rattle.std.specs.Prelude.{ℕ, ◌+◌, ◌^◌, List, length, ◌&&◌, nat_le, nat_lt, Bool, if◌then◌else◌, Option, Some, None, Result, Ok, Err}
+use Rattle.std.specs.Prelude.{ℕ, ◌+◌, ◌^◌, List, [], ◌∷◌, length, ◌&&◌, nat_le, nat_lt, Bool, if◌then◌else◌, Option, Some, None, Result, Ok, Err}
 use Rattle.kms_names.specs.declared.actions.Action.{Action}
 use Rattle.kms_json.specs.declared.replies.Reply.{Reply}
 use Rattle.kms_json.specs.declared.replies.Reply.TheVariants.{Refused}
 use Rattle.kms_json.specs.declared.refusals.Refusal.{Refusal}
 use Rattle.kms_json.specs.declared.refusals.Refusal.TheVariants as refusal
 use Rattle.kms_json.specs.declared.refusals.Limit.TheVariants as limit
-use Rattle.account_core.specs.declared.entries.Entry.{Entry}
-use Rattle.account_core.specs.declared.entries.What.{What}
-use Rattle.account_core.specs.declared.entries.What.TheVariants as what
-use Rattle.account_core.specs.declared.rows.KeyRow.{KeyRow}
+use Rattle.kms_json.specs.declared.states.KeyState.{KeyState}
+use Rattle.kms_json.specs.declared.states.KeyState.TheVariants as told
+use Rattle.key_states.specs.declared.permissions.StateFault.{StateFault}
+use Rattle.key_states.specs.declared.permissions.StateFault.TheVariants as fault
+use Rattle.key_states.specs.declared.states.Stored.{Stored}
+use Rattle.key_states.specs.declared.states.Stored.TheVariants as stored
+use Rattle.key_states.specs.Permissions.{refusal_of, need_of}
+use Rattle.key_states.specs.States.{state_of}
+use Rattle.account_rows.specs.Sizes.{size_of}
+use Rattle.account_rows.specs.History.{key_with, most_entries, most_bytes}
+use Rattle.account_rows.specs.declared.entries.Entry.{Entry}
+use Rattle.account_rows.specs.declared.entries.What.{What}
+use Rattle.account_rows.specs.declared.entries.What.TheVariants as what
+use Rattle.key_states.specs.declared.rows.KeyRow.{KeyRow}
 use Rattle.account_core.specs.declared.places.Uses.{Uses}
 use Rattle.account_core.specs.Places.{Places}
-use Rattle.account_core.specs.Steps.{unless, and_then, or_else}
+use Rattle.account_core.specs.Steps.{unless, and_then, or_else, arn_of}
 use Rattle.account_core.specs.Authority.{Question, denied}
 use Rattle.account_core.specs.View.{View}
 
@@ -37,15 +47,33 @@ pub record Parts (F R : Type 0) : Type 0 where
   pub dry_run : Bool
   pub reply : F → R → Reply
 
--- ---- the steps that don't refuse yet
+-- ---- the step that doesn't refuse yet
 
 -- grant tokens: none is taken
 abbrev pub dead_token : View → List (List ℕ) → Option Refusal
 dead_token view tokens = None
 
--- key states: every key is enabled
+-- ---- key states
+
+-- the state that a refusal tells
+abbrev pub told_state : Stored → KeyState
+told_state stored.Enabled = told.Enabled
+told_state stored.Disabled = told.Disabled
+told_state (stored.Pending date days) = told.PendingDeletion date
+
+-- the refusal of a key's state
+abbrev pub refused_state : View → KeyRow → Option StateFault → Option Refusal
+refused_state view row None = None
+refused_state view row (Some fault.Disabled) = Some (refusal.Disabled (arn_of view.facts row.key))
+refused_state view row (Some fault.InvalidState) = Some (refusal.InvalidState (arn_of view.facts row.key) (told_state row.stored))
+
+unfoldable pub unfit_one : View → Use → Option Refusal
+unfit_one view used = refused_state view used.key (refusal_of (need_of used.action) (state_of used.key.stored view.moment))
+
+-- the first refusal of the keys' states
 abbrev pub unfit_state : View → List Use → Option Refusal
-unfit_state view uses = None
+unfit_state view [] = None
+unfit_state view (used ∷ uses) = or_else (unfit_one view used) (unfit_state view uses)
 
 -- ---- limits
 
@@ -64,14 +92,40 @@ spent places uses = or_else (no_more_draws places uses.words) (no_more_ivs place
 abbrev pub keys_full : ℕ → Option Refusal
 keys_full keys = if nat_le 10000 keys then Some (refusal.LimitExceeded limit.Keys) else None
 
+-- a key is rotated on demand 10 times at most
+abbrev pub rotations_full : Option KeyRow → Option Refusal
+rotations_full None = None
+rotations_full (Some row) = if nat_le 10 row.on_demand then Some (refusal.LimitExceeded limit.Rotations) else None
+
 -- what the entry would add to
 abbrev pub full : View → What → Option Refusal
 full view (what.CreateKey key description policy) = keys_full (length view.keys)
+full view (what.Enable key) = None
+full view (what.Disable key) = None
+full view (what.Schedule key date days) = None
+full view (what.Cancel key) = None
+full view (what.RotationOn key period) = None
+full view (what.RotationOff key) = None
+full view (what.RotateNow key) = rotations_full (key_with view.keys key)
 full view (what.Policy key text) = None
+full view (what.Description key text) = None
+full view what.House = None
+
+-- there are 1,000,000 entries
+abbrev pub entries_full : ℕ → Option Refusal
+entries_full entries = if nat_le most_entries entries then Some (refusal.LimitExceeded limit.Entries) else None
+
+-- the entry would pass 268,435,456 bytes
+abbrev pub bytes_full : ℕ → ℕ → Option Refusal
+bytes_full bytes size = if nat_lt most_bytes (bytes + size) then Some (refusal.LimitExceeded limit.Bytes) else None
+
+-- what the entry would add to, then the number of entries, then their bytes
+abbrev pub overfull : View → What → Option Refusal
+overfull view did = or_else (full view did) (or_else (entries_full view.place) (bytes_full view.bytes (size_of did)))
 
 abbrev pub limited : View → Effect → Option Refusal
 limited view (takes uses) = spent view.places uses
-limited view (appends entry) = full view entry.what
+limited view (appends entry) = overfull view entry.what
 
 -- ---- the order
 

@@ -11,8 +11,8 @@ use Rattle.policy_doc.specs.declared.faults.PolicyFault.TheVariants as fault
 use Rattle.policy_doc.specs.declared.policies.Policy.{Policy}
 use Rattle.authority.specs.KeyPolicy.{fault_in, policy_in}
 use Rattle.authority.specs.Allowed.{is_allowed}
-use Rattle.account_core.specs.declared.entries.What.TheVariants as what
-use Rattle.account_core.specs.declared.rows.KeyRow.{KeyRow}
+use Rattle.account_rows.specs.declared.entries.What.TheVariants as what
+use Rattle.key_states.specs.declared.rows.KeyRow.{KeyRow}
 use Rattle.account_core.specs.declared.stops.Stop.{Stop}
 use Rattle.account_core.specs.declared.stops.Stop.TheVariants as stop
 use Rattle.account_core.specs.Places.{nothing_used}

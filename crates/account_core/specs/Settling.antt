@@ -4,7 +4,7 @@ use Rattle.draw_lines.specs.Line.{Line}
 use Rattle.kms_json.specs.declared.replies.Reply.{Reply}
 use Rattle.kms_json.specs.declared.replies.Reply.TheVariants.{Refused}
 use Rattle.kms_json.specs.declared.refusals.Refusal.{Refusal}
-use Rattle.account_core.specs.declared.entries.Entry.{Entry}
+use Rattle.account_rows.specs.declared.entries.Entry.{Entry}
 use Rattle.account_core.specs.declared.stops.Stop.{Stop}
 use Rattle.account_core.specs.declared.stops.Stop.TheVariants as stop
 use Rattle.account_core.specs.declared.parts.Made.{Made}

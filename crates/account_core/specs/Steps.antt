@@ -1,5 +1,5 @@
 -- The steps that operations share. The first that refuses decides.
-use Rattle.std.specs.Prelude.{◌≡◌, ℕ, List, codes, nat_le, Bool, if◌then◌else◌, Option, Some, None, Result, Ok, Err, ok_or, ⊤}
+use Rattle.std.specs.Prelude.{◌≡◌, ℕ, List, length, codes, nat_le, Bool, if◌then◌else◌, Option, Some, None, Result, Ok, Err, ok_or, ⊤}
 use Rattle.std.specs.Str.{bytes_eq}
 use Rattle.draw_lines.specs.Draw.{draw_at}
 use Rattle.draw_lines.specs.Iv.{iv_at}
@@ -17,16 +17,15 @@ use Rattle.kms_json.specs.declared.refusals.Refusal.TheVariants as refusal
 use Rattle.kms_json.specs.declared.refusals.Missing.TheVariants as missing
 use Rattle.kms_json.specs.declared.refusals.Unsupported.{Unsupported}
 use Rattle.account_core.specs.declared.facts.RealmFacts.{RealmFacts}
-use Rattle.account_core.specs.declared.rows.KeyRow.{KeyRow}
+use Rattle.key_states.specs.declared.rows.KeyRow.{KeyRow}
 use Rattle.account_core.specs.declared.stops.Stop.{Stop}
 use Rattle.account_core.specs.declared.stops.Stop.TheVariants as stop
 use Rattle.blob_format.specs.declared.reading.Blob.{Blob}
 use Rattle.account_core.specs.Blobs.{BlobName, named_in}
 use Rattle.account_core.specs.Ids.{draw_seed}
-use Rattle.account_core.specs.History.{key_with}
 use Rattle.account_core.specs.Places.{Places}
 use Rattle.account_core.specs.Source.{Source}
-use Rattle.account_core.specs.View.{View}
+use Rattle.account_core.specs.View.{View, key_held}
 
 -- ---- one step after another
 
@@ -78,26 +77,26 @@ unfit (Some name) = if bytes_eq name (codes "SYMMETRIC_DEFAULT") then None else 
 abbrev pub unsupported : Bool → Unsupported → Option Refusal
 unsupported given field = if given then Some (refusal.UnsupportedOperation field) else None
 
--- the key that a text refers to: by its id, or by its ARN in this account and region. `alias` is the refusal of an alias
-abbrev pub key_referred : List KeyRow → Refusal → Result KeyRef NameFault → Result KeyRow Refusal
-key_referred keys alias (Ok (Key id)) = ok_or (key_with keys id) (refusal.NotFound missing.Key)
-key_referred keys alias (Ok (Alias name)) = Err alias
-key_referred keys alias (Ok Elsewhere) = Err (refusal.NotFound missing.Key)
-key_referred keys alias (Err fault.BadArn) = Err refusal.InvalidArn
-key_referred keys alias (Err fault.BadAlias) = Err (refusal.NotFound missing.Alias)
-key_referred keys alias (Err fault.BadId) = Err (refusal.NotFound missing.Key)
-key_referred keys alias (Err fault.NoMemory) = Err (refusal.NotFound missing.Key)
+-- the key that a text refers to: by its id, or by its ARN in this account and region. One that is gone isn't there. `alias` is the refusal of an alias
+abbrev pub key_referred : View → Refusal → Result KeyRef NameFault → Result KeyRow Refusal
+key_referred view alias (Ok (Key id)) = ok_or (key_held view id) (refusal.NotFound missing.Key)
+key_referred view alias (Ok (Alias name)) = Err alias
+key_referred view alias (Ok Elsewhere) = Err (refusal.NotFound missing.Key)
+key_referred view alias (Err fault.BadArn) = Err refusal.InvalidArn
+key_referred view alias (Err fault.BadAlias) = Err (refusal.NotFound missing.Alias)
+key_referred view alias (Err fault.BadId) = Err (refusal.NotFound missing.Key)
+key_referred view alias (Err fault.NoMemory) = Err (refusal.NotFound missing.Key)
 
 abbrev pub reference_of : RealmFacts → List ℕ → Result KeyRef NameFault
 reference_of facts reference = key_ref_of reference facts.account facts.region
 
 -- where an alias may stand there is none yet
 unfoldable pub key_of : View → List ℕ → Result KeyRow Refusal
-key_of view reference = key_referred view.keys (refusal.NotFound missing.Alias) (reference_of view.facts reference)
+key_of view reference = key_referred view (refusal.NotFound missing.Alias) (reference_of view.facts reference)
 
 -- where a key is wanted an alias is refused
 unfoldable pub only_key_of : View → List ℕ → Result KeyRow Refusal
-only_key_of view reference = key_referred view.keys refusal.InvalidArn (reference_of view.facts reference)
+only_key_of view reference = key_referred view refusal.InvalidArn (reference_of view.facts reference)
 
 -- the key that a reference names, where one is given
 abbrev pub key_if_given : View → Option (List ℕ) → Result (Option KeyRow) Refusal
@@ -115,7 +114,7 @@ arn_of facts key = key_arn_text facts.account facts.region key
 
 -- the key of a blob; one that isn't there is refused as to a caller who may not use it
 abbrev pub held_key : View → Action → List ℕ → Result KeyRow Refusal
-held_key view action key = ok_or (key_with view.keys key) (refusal.AccessDenied view.caller action (arn_of view.facts key))
+held_key view action key = ok_or (key_held view key) (refusal.AccessDenied view.caller action (arn_of view.facts key))
 
 -- what a blob that was read names
 abbrev pub name_of : Blob → BlobName
@@ -136,9 +135,9 @@ source_of view action reference blob =
     (λ named. and_then (blob_name blob)
     (λ name. unless (other_key named name.key) (source_in view action blob name)))
 
--- every key has the one version 1
+-- versions are counted from 1
 abbrev pub newest_version : KeyRow → ℕ
-newest_version row = 1
+newest_version row = length row.versions
 
 -- the version is one of the key's, and the blob opens under the context
 abbrev pub opens : RealmFacts → Source → List Pair → Result (List ℕ) Refusal

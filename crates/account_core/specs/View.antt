@@ -1,18 +1,21 @@
 -- What every step of a decision goes by.
-use Rattle.std.specs.Prelude.{ℕ, List, length}
+use Rattle.std.specs.Prelude.{ℕ, List, length, Option, Some, None, if◌then◌else◌}
 use Rattle.kms_names.specs.declared.principals.Principal.{Principal}
 use Rattle.kms_json.specs.declared.asks.Ask.{Ask}
 use Rattle.account_core.specs.declared.facts.RealmFacts.{RealmFacts}
-use Rattle.account_core.specs.declared.entries.Entry.{Entry}
-use Rattle.account_core.specs.declared.rows.KeyRow.{KeyRow}
-use Rattle.account_core.specs.History.{replay, moment_of}
+use Rattle.account_rows.specs.declared.entries.Entry.{Entry}
+use Rattle.key_states.specs.declared.rows.KeyRow.{KeyRow}
+use Rattle.account_rows.specs.History.{replay, moment_of, key_with}
+use Rattle.account_rows.specs.Changes.{is_gone}
+use Rattle.account_rows.specs.Sizes.{bytes_in}
 use Rattle.account_core.specs.Places.{Places}
 
--- the facts, the rows of keys, the place of the next entry, the moment, who asks, and the places of the pass that asks
+-- the facts, the rows of keys, the place of the next entry, the bytes that entries count, the moment, who asks, and the places of the pass that asks
 pub record View : Type 0 where
   pub facts : RealmFacts
   pub keys : List KeyRow
   pub place : ℕ
+  pub bytes : ℕ
   pub moment : ℕ
   pub caller : Principal
   pub places : Places
@@ -23,7 +26,17 @@ view_of facts history x places = record {
   facts = facts;
   keys = (replay history).keys;
   place = length history;
+  bytes = bytes_in history;
   moment = moment_of history x.moment;
   caller = x.caller;
   places = places;
 }
+
+-- a key that is gone counts as absent
+abbrev pub unless_gone : ℕ → Option KeyRow → Option KeyRow
+unless_gone moment None = None
+unless_gone moment (Some row) = if is_gone moment row then None else Some row
+
+-- the key of an id
+abbrev pub key_held : View → List ℕ → Option KeyRow
+key_held view id = unless_gone view.moment (key_with view.keys id)

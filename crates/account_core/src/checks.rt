@@ -5,18 +5,15 @@ ghost use Rattle.kms_names.specs.declared.faults.NameFault.TheVariants as fault;
 ghost use Rattle.account_core.specs.Steps.{Gives, unfit, unsupported, key_referred, reference_of, key_of, only_key_of, key_if_given, other_key};
 ghost use Rattle.kms_json.specs.declared.refusals.Refusal.TheVariants as refusal;
 ghost use Rattle.kms_json.specs.declared.refusals.Missing.TheVariants as missing;
-ghost use Rattle.account_core.specs.History.{key_with};
+ghost use Rattle.account_core.specs.View.{key_held};
 
 use crate::facts::RealmFacts;
-use crate::rows::{HeldKey, Lent, row_of, same_key};
 use crate::stops::Stop;
 use crate::view::View;
+use account_rows::{Lent, same_key};
 use kms_json::{Missing, Refusal, SYMMETRIC_DEFAULT, Unsupported};
 use kms_names::{KeyId, KeyRef, NameFault, NoMemory, Text, read_key_ref};
 use std::alloc::Global;
-
-/// The version of every key, as long as none is rotated.
-pub const NEWEST_VERSION: u32 = 1;
 
 /// The refusal of an algorithm that isn't the one of symmetric keys.
 pub fn unfit(algorithm: &Option<Text>) -> Option<Refusal>
@@ -40,25 +37,25 @@ pub fn unsupported(given: bool, field: Unsupported) -> Option<Refusal>
 }
 
 // The key of an id.
-fn key_there<'a>(keys: &'a [HeldKey], key: &KeyId) -> Result<Lent<'a>, Stop>
-    ensures { Gives (ok_or (key_with keys.now key.now) (refusal.NotFound missing.Key)) result }
+fn key_there<'a>(view: &View<'a>, key: &KeyId) -> Result<Lent<'a>, Stop>
+    ensures { Gives (ok_or (key_held view.now key.now) (refusal.NotFound missing.Key)) result }
 {
-    match row_of(keys, key) {
-        Some(held) => Ok(Lent::new(held)),
+    match view.key(key) {
+        Some(lent) => Ok(lent),
         None => Err(Stop::Refused(Refusal::NotFound(Missing::Key))),
     }
 }
 
 // The key that a text refers to; an alias is refused.
 fn key_referred<'a>(
-    keys: &'a [HeldKey],
+    view: &View<'a>,
     alias: Refusal,
     reference: &Result<KeyRef, NameFault>,
 ) -> Result<Lent<'a>, Stop>
-    ensures { Gives (key_referred keys.now alias reference.now) result }
+    ensures { Gives (key_referred view.now alias reference.now) result }
 {
     match reference {
-        Ok(KeyRef::Key(key)) => key_there(keys, key),
+        Ok(KeyRef::Key(key)) => key_there(view, key),
         Ok(KeyRef::Alias(_)) => Err(Stop::Refused(alias)),
         Err(NameFault::BadArn) => Err(Stop::Refused(Refusal::InvalidArn)),
         Err(NameFault::BadAlias) => Err(Stop::Refused(Refusal::NotFound(Missing::Alias))),
@@ -100,7 +97,7 @@ pub fn key_of<'a>(alloc: Global, view: &View<'a>, reference: &Text) -> Result<Le
     ensures { Gives (key_of view.now reference.now) result }
 {
     let read = reference_of(alloc, view.facts(), reference)?;
-    key_referred(view.keys(), Refusal::NotFound(Missing::Alias), &read)
+    key_referred(view, Refusal::NotFound(Missing::Alias), &read)
 }
 
 /// The key that a reference names, where an alias may not stand.
@@ -108,7 +105,7 @@ pub fn only_key_of<'a>(alloc: Global, view: &View<'a>, reference: &Text) -> Resu
     ensures { Gives (only_key_of view.now reference.now) result }
 {
     let read = reference_of(alloc, view.facts(), reference)?;
-    key_referred(view.keys(), Refusal::InvalidArn, &read)
+    key_referred(view, Refusal::InvalidArn, &read)
 }
 
 /// The key that a reference names, where one is given.

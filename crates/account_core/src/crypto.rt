@@ -6,9 +6,8 @@ ghost use Rattle.account_core.specs.Parts.{after, takes};
 ghost use Rattle.account_core.specs.Steps.{seals};
 ghost use Rattle.account_core.specs.Crypto.{one_iv, words_of};
 
-use crate::checks::NEWEST_VERSION;
 use crate::places::Uses;
-use crate::rows::Lent;
+use account_rows::Lent;
 use crate::view::View;
 use crypto_ops::seal_blob;
 use draw_lines::DrawLine;
@@ -41,7 +40,7 @@ pub fn seal(
         alloc,
         &view.facts().root,
         &lent.row().key,
-        NEWEST_VERSION,
+        lent.newest_version(),
         &iv,
         context,
         text,

@@ -7,7 +7,7 @@ use crate::crypto::{draw, seal};
 use crate::particulars::of_context;
 use crate::parts::{Operation, Reads, refuse};
 use crate::places::Uses;
-use crate::rows::Lent;
+use account_rows::Lent;
 use crate::stops::Stop;
 use crate::view::View;
 use draw_lines::DrawLine;
@@ -107,6 +107,11 @@ impl<'a> Operation for GeneratingDataKey<'a> {
             .authorize(alloc, Action::GenerateDataKey, found)
     }
 
+    fn fit(&self, alloc: Global, found: &Lent<'a>) -> Result<(), Stop> {
+        let view = self.drawing.view;
+        view.fit(alloc, Action::GenerateDataKey, found)
+    }
+
     fn own(&self, _alloc: Global, _found: &Lent<'a>) -> Result<(), Stop> {
         refuse(unsupported(self.recipient, Unsupported::Recipient))
     }
@@ -168,6 +173,11 @@ impl<'a> Operation for GeneratingSealedDataKey<'a> {
     fn authorize(&self, alloc: Global, found: &Lent<'a>) -> Result<(), Stop> {
         self.drawing
             .authorize(alloc, Action::GenerateDataKeyWithoutPlaintext, found)
+    }
+
+    fn fit(&self, alloc: Global, found: &Lent<'a>) -> Result<(), Stop> {
+        let view = self.drawing.view;
+        view.fit(alloc, Action::GenerateDataKeyWithoutPlaintext, found)
     }
 
     fn own(&self, _alloc: Global, _found: &Lent<'a>) -> Result<(), Stop> {

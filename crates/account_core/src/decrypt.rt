@@ -51,6 +51,10 @@ impl<'a> Operation for Decrypting<'a> {
             .authorize_on(alloc, Action::Decrypt, found.lent(), &particulars)
     }
 
+    fn fit(&self, alloc: Global, found: &Sealed<'a>) -> Result<(), Stop> {
+        self.view.fit(alloc, Action::Decrypt, found.lent())
+    }
+
     fn own(&self, alloc: Global, found: &Sealed<'a>) -> Result<Bytes, Stop> {
         refuse(unfit(&self.x.algorithm))?;
         refuse(unsupported(self.x.recipient, Unsupported::Recipient))?;

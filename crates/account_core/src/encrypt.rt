@@ -7,7 +7,7 @@ use crate::crypto::{ONE_IV, seal};
 use crate::particulars::of_context;
 use crate::parts::{Operation, Reads, refuse};
 use crate::places::Uses;
-use crate::rows::Lent;
+use account_rows::Lent;
 use crate::stops::Stop;
 use crate::view::View;
 use draw_lines::DrawLine;
@@ -47,6 +47,10 @@ impl<'a> Operation for Encrypting<'a> {
         let particulars = of_context(&self.x.context);
         self.view
             .authorize_on(alloc, Action::Encrypt, found, &particulars)
+    }
+
+    fn fit(&self, alloc: Global, found: &Lent<'a>) -> Result<(), Stop> {
+        self.view.fit(alloc, Action::Encrypt, found)
     }
 
     fn own(&self, _alloc: Global, _found: &Lent<'a>) -> Result<(), Stop> {

@@ -5,18 +5,17 @@ ghost use Rattle.account_core.specs.Steps.{Passes};
 ghost use Rattle.account_core.specs.Keys.{description_of, creates_key, describes_key, unsupported_unless, unserved_key, policy_or_default, refused_if_given};
 
 use crate::checks::{key_of, unsupported};
-use crate::entries::{Entry, What};
 use crate::ids::key_id;
 use crate::particulars::{of_key, of_policy};
 use crate::parts::{Changes, Made, Operation, Reads, refuse};
 use crate::places::Uses;
 use crate::policies::accept;
-use crate::rows::Lent;
 use crate::stops::Stop;
-use crate::view::View;
+use crate::view::{View, told_state};
+use account_rows::{Entry, Lent, What};
 use authority::default_policy_text;
 use draw_lines::DrawLine;
-use kms_json::{CreateKey, KeyMetadata, Refusal, Reply, SYMMETRIC_DEFAULT, Unsupported};
+use kms_json::{CreateKey, KeyMetadata, KeyState, Refusal, Reply, SYMMETRIC_DEFAULT, Unsupported};
 use kms_names::{AccountNumber, Action, KeyId, NoMemory, Text};
 use std::alloc::Global;
 
@@ -26,8 +25,9 @@ fn metadata(
     key: KeyId,
     created: u64,
     description: &Text,
+    state: KeyState,
 ) -> Result<KeyMetadata, NoMemory>
-    ensures { IfOk result (λ metadata. metadata ≡ description_of view.now.facts key created description.now) }
+    ensures { IfOk result (λ metadata. metadata ≡ description_of view.now.facts key created description.now state) }
 {
     let facts = view.facts();
     Ok(KeyMetadata {
@@ -36,6 +36,7 @@ fn metadata(
         key,
         created,
         description: description.copy()?,
+        state,
     })
 }
 
@@ -130,6 +131,10 @@ impl<'a> Operation for CreatingKey<'a> {
         self.view.authorize(alloc, Action::CreateKey, &particulars)
     }
 
+    fn fit(&self, _alloc: Global, _found: &()) -> Result<(), Stop> {
+        Ok(())
+    }
+
     fn own(&self, alloc: Global, _found: &()) -> Result<(), Stop> {
         serve_only(self.x)?;
         accept_if_given(
@@ -150,7 +155,7 @@ impl<'a> Changes for CreatingKey<'a> {
         let time = self.view.moment();
         let facts = self.view.facts();
         let key = key_id(facts, self.view.place());
-        let metadata = metadata(self.view, key, time, &self.x.description)?;
+        let metadata = metadata(self.view, key, time, &self.x.description, KeyState::Enabled)?;
         let description = self.x.description.copy()?;
         let policy = policy_or_default(alloc, &facts.account, &self.x.policy)?;
         Ok(Made {
@@ -198,6 +203,10 @@ impl<'a> Operation for DescribingKey<'a> {
             .authorize_on(alloc, Action::DescribeKey, found, &of_key())
     }
 
+    fn fit(&self, alloc: Global, found: &Lent<'a>) -> Result<(), Stop> {
+        self.view.fit(alloc, Action::DescribeKey, found)
+    }
+
     fn own(&self, _alloc: Global, _found: &Lent<'a>) -> Result<(), Stop> {
         Ok(())
     }
@@ -220,7 +229,8 @@ impl<'a> Reads for DescribingKey<'a> {
         _line: &mut DrawLine,
     ) -> Result<Reply, NoMemory> {
         let row = found.row();
-        let metadata = metadata(self.view, row.key, row.made, &row.description)?;
+        let state = told_state(row.stored);
+        let metadata = metadata(self.view, row.key, row.made, &row.description, state)?;
         Ok(Reply::Metadata(metadata))
     }
 }

@@ -1,4 +1,4 @@
-//! The account of one thread: its history of entries, the rows that they make, and what it answers.
+//! The account of one thread: what it answers, by the history of its entries and the rows that they make.
 //!
 //! Contracts see an account as its facts and the list of its entries. Everything else that it keeps
 //! is the replay of that list.
@@ -11,9 +11,9 @@ mod data_keys;
 mod decide;
 mod decrypt;
 mod encrypt;
-mod entries;
 mod facts;
 mod ids;
+mod key_changes;
 mod keys;
 mod laws;
 mod operations;
@@ -24,19 +24,17 @@ mod policies;
 mod random;
 mod re_encrypt;
 mod realm;
-mod rows;
 mod sources;
 mod stops;
 mod view;
 
 pub use account::Account;
+pub use account_rows::{Entry, What};
 pub use authority::{Identity, IdentityList, PolicyList};
 pub use decide::Decision;
-pub use entries::{Entry, What};
 pub use facts::RealmFacts;
 pub use ids::draw_line;
 pub use laws::{
     authority_passes_where_statements_allow, blobs_name_their_keys, denial_names_the_first_denied,
     keys_differ, one_pass_repeats_no_iv, sealed_is_decrypted_again, times_never_fall,
 };
-pub use rows::KeyRow;

@@ -1,14 +1,16 @@
 // The operations, one arm each.
 ghost use Rattle.std.specs.Prelude.{◌≡◌};
-ghost use Rattle.kms_json.specs.Asks.{IsSizedReading};
+ghost use Rattle.kms_json.specs.Asks.{IsSizedReading, IsSizedChanging};
+ghost use Rattle.account_core.specs.KeyChanges.{changes_key};
 ghost use Rattle.account_core.specs.Places.{places_of, IsLineOf};
-ghost use Rattle.account_core.specs.Parts.{decided_by};
+ghost use Rattle.account_core.specs.Parts.{decided_by, outcome};
 ghost use Rattle.account_core.specs.Settling.{Settles, Makes};
 ghost use Rattle.account_core.specs.Operations.{change_outcome, read_outcome};
 
 use crate::data_keys::{Drawing, GeneratingDataKey, GeneratingSealedDataKey};
 use crate::decrypt::Decrypting;
 use crate::encrypt::Encrypting;
+use crate::key_changes::{ChangingKey, GettingRotationStatus, KeyChange, UpdatingDescription};
 use crate::keys::{CreatingKey, DescribingKey};
 use crate::parts::{Made, change, read};
 use crate::policies::{GettingPolicy, PuttingPolicy};
@@ -18,10 +20,29 @@ use crate::stops::Stop;
 use crate::view::View;
 use draw_lines::DrawLine;
 use kms_json::{Changing, Reading, Reply};
+use kms_names::Text;
 use std::alloc::Global;
+
+// What a request that changes a key's state or rotation comes to.
+fn change_key(
+    alloc: Global,
+    view: &View<'_>,
+    key_id: &Text,
+    how: KeyChange,
+) -> Result<Made, Stop>
+    ensures { Makes (outcome view.now (changes_key view.now key_id.now how)) result }
+{
+    let changing = ChangingKey {
+        view,
+        key_id,
+        change: how,
+    };
+    change(alloc, &changing)
+}
 
 /// What a request that changes the account comes to.
 pub fn change_body(alloc: Global, view: &View<'_>, body: &Changing) -> Result<Made, Stop>
+    requires sized { IsSizedChanging body.now }
     ensures { Makes (change_outcome view.now body.now) result }
 {
     match body {
@@ -39,6 +60,36 @@ pub fn change_body(alloc: Global, view: &View<'_>, body: &Changing) -> Result<Ma
                 bypass,
             };
             change(alloc, &putting)
+        }
+        Changing::UpdateKeyDescription {
+            key_id,
+            description,
+        } => {
+            let updating = UpdatingDescription {
+                view,
+                key_id,
+                description,
+            };
+            change(alloc, &updating)
+        }
+        Changing::EnableKey { key_id } => change_key(alloc, view, key_id, KeyChange::Enable),
+        Changing::DisableKey { key_id } => change_key(alloc, view, key_id, KeyChange::Disable),
+        Changing::ScheduleKeyDeletion { key_id, days } => {
+            let days = *days as u32;
+            change_key(alloc, view, key_id, KeyChange::ScheduleDeletion { days })
+        }
+        Changing::CancelKeyDeletion { key_id } => {
+            change_key(alloc, view, key_id, KeyChange::CancelDeletion)
+        }
+        Changing::EnableKeyRotation { key_id, period } => {
+            let period = *period as u32;
+            change_key(alloc, view, key_id, KeyChange::RotateEvery { period })
+        }
+        Changing::DisableKeyRotation { key_id } => {
+            change_key(alloc, view, key_id, KeyChange::RotateNoMore)
+        }
+        Changing::RotateKeyOnDemand { key_id } => {
+            change_key(alloc, view, key_id, KeyChange::RotateNow)
         }
     }
 }
@@ -58,6 +109,9 @@ pub fn read_body(
     match body {
         Reading::DescribeKey { key_id } => read(alloc, &DescribingKey { view, key_id }, line),
         Reading::GetKeyPolicy { key_id } => read(alloc, &GettingPolicy { view, key_id }, line),
+        Reading::GetKeyRotationStatus { key_id } => {
+            read(alloc, &GettingRotationStatus { view, key_id }, line)
+        }
         Reading::Encrypt(x) => read(alloc, &Encrypting { view, x }, line),
         Reading::Decrypt(x) => read(alloc, &Decrypting { view, x }, line),
         Reading::ReEncrypt(x) => read(alloc, &ReEncrypting { view, x }, line),

@@ -5,13 +5,13 @@ ghost use Rattle.account_core.specs.Places.{places_of, line_at, IsLineOf, IsWith
 ghost use Rattle.account_core.specs.View.{View as SeenView};
 ghost use Rattle.account_core.specs.Steps.{Gives, Passes, stopping};
 ghost use Rattle.account_core.specs.Authority.{denied};
-ghost use Rattle.account_core.specs.Parts.{Parts, takes, cleared, outcome, decided_by, spent, full, limited, only_asked, after};
+ghost use Rattle.account_core.specs.Parts.{Parts, takes, cleared, outcome, decided_by, spent, full, overfull, limited, only_asked, after, unfit_state, entries_full, bytes_full, rotations_full, keys_full};
 ghost use Rattle.account_core.specs.Settling.{Settles, Makes, effect_with};
 
-use crate::entries::{Entry, What};
 use crate::places::{Places, Uses};
 use crate::stops::Stop;
 use crate::view::View;
+use account_rows::{BYTES, ENTRIES, Entry, What};
 use draw_lines::DrawLine;
 use kms_json::{Limit, Refusal, Reply};
 use kms_names::NoMemory;
@@ -22,6 +22,9 @@ const MOST: u64 = 0x1_0000_0000_0000;
 
 // How many keys an account holds at most.
 const KEYS: usize = 10_000;
+
+// How many rotations on demand a key has at most.
+const ROTATIONS: u32 = 10;
 
 /// What an operation says of the steps of a decision.
 pub trait Operation {
@@ -46,6 +49,10 @@ pub trait Operation {
     /// Whether the caller may do what it asks: its questions, in order.
     fn authorize(&self, alloc: Global, found: &Self::Found) -> Result<(), Stop>
         ensures { Passes (denied (seen self.now) ((parts self.now).questions found.now)) result };
+
+    /// Whether the states of its keys let it be served: each key, in order.
+    fn fit(&self, alloc: Global, found: &Self::Found) -> Result<(), Stop>
+        ensures { Passes (unfit_state (seen self.now) ((parts self.now).uses found.now)) result };
 
     /// Its own refusals, in order.
     fn own(&self, alloc: Global, found: &Self::Found) -> Result<Self::Ready, Stop>
@@ -129,11 +136,33 @@ fn full(view: &View<'_>, what: &What) -> Option<Refusal>
     ensures { result ≡ full view.now what.now }
 {
     match what {
-        What::CreateKey { .. } if view.keys().len() >= KEYS => {
+        What::CreateKey { .. } if view.number_of_keys() >= KEYS => {
             Some(Refusal::LimitExceeded(Limit::Keys))
         }
-        What::CreateKey { .. } | What::Policy { .. } => None,
+        What::RotateNow { key } => match view.rotations(key) {
+            Some(rotations) if rotations >= ROTATIONS => {
+                Some(Refusal::LimitExceeded(Limit::Rotations))
+            }
+            _ => None,
+        },
+        _ => None,
     }
+}
+
+// The limits of an entry: what it would add to, then the number of entries, then their bytes.
+fn overfull(view: &View<'_>, what: &What) -> Option<Refusal>
+    ensures { result ≡ overfull view.now what.now }
+{
+    if let Some(why) = full(view, what) {
+        return Some(why);
+    }
+    if view.place() >= ENTRIES {
+        return Some(Refusal::LimitExceeded(Limit::Entries));
+    }
+    if view.bytes().saturating_add(what.size()) > BYTES {
+        return Some(Refusal::LimitExceeded(Limit::Bytes));
+    }
+    None
 }
 
 // The limits of a request that changes the account with this entry, or without one.
@@ -141,7 +170,7 @@ fn limited(view: &View<'_>, entry: &Option<Entry>) -> Option<Refusal>
     ensures { result ≡ limited view.now (effect_with entry.now) }
 {
     match entry {
-        Some(entry) => full(view, &entry.what),
+        Some(entry) => overfull(view, &entry.what),
         None => None,
     }
 }
@@ -152,6 +181,7 @@ fn clear<O: Operation>(alloc: Global, operation: &O) -> Result<(O::Found, O::Rea
 {
     let found = operation.find(alloc)?;
     operation.authorize(alloc, &found)?;
+    operation.fit(alloc, &found)?;
     let ready = operation.own(alloc, &found)?;
     Ok((found, ready))
 }

@@ -7,11 +7,11 @@ ghost use Rattle.account_core.specs.Steps.{Passes};
 ghost use Rattle.account_core.specs.Policies.{StopsAt, IsStopAt, may_put_again, locked_out, policy_refused, puts_policy, gets_policy};
 
 use crate::checks::only_key_of;
-use crate::entries::{Entry, What};
+use account_rows::{Entry, What};
 use crate::particulars::{of_key, of_policy};
 use crate::parts::{Changes, Made, Operation, Reads};
 use crate::places::Uses;
-use crate::rows::Lent;
+use account_rows::Lent;
 use crate::stops::Stop;
 use crate::view::View;
 use authority::KeyPolicy;
@@ -144,6 +144,10 @@ impl<'a> Operation for PuttingPolicy<'a> {
             .authorize_on(alloc, Action::PutKeyPolicy, found, &particulars)
     }
 
+    fn fit(&self, alloc: Global, found: &Lent<'a>) -> Result<(), Stop> {
+        self.view.fit(alloc, Action::PutKeyPolicy, found)
+    }
+
     fn own(&self, alloc: Global, found: &Lent<'a>) -> Result<(), Stop> {
         accept(alloc, self.view, &found.row().key, self.policy, self.bypass)
     }
@@ -198,6 +202,10 @@ impl<'a> Operation for GettingPolicy<'a> {
     fn authorize(&self, alloc: Global, found: &Lent<'a>) -> Result<(), Stop> {
         self.view
             .authorize_on(alloc, Action::GetKeyPolicy, found, &of_key())
+    }
+
+    fn fit(&self, alloc: Global, found: &Lent<'a>) -> Result<(), Stop> {
+        self.view.fit(alloc, Action::GetKeyPolicy, found)
     }
 
     fn own(&self, _alloc: Global, _found: &Lent<'a>) -> Result<(), Stop> {

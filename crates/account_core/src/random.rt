@@ -54,6 +54,10 @@ impl<'a> Operation for GeneratingRandom<'a> {
             .authorize(alloc, Action::GenerateRandom, &of_none())
     }
 
+    fn fit(&self, _alloc: Global, _found: &()) -> Result<(), Stop> {
+        Ok(())
+    }
+
     fn own(&self, _alloc: Global, _found: &()) -> Result<(), Stop> {
         refuse(unsupported(self.custom_key_store, Unsupported::CustomKeyStoreId))?;
         refuse(unsupported(self.recipient, Unsupported::Recipient))

@@ -6,10 +6,10 @@ use crate::crypto::{ONE_IV, Sealable, seal};
 use crate::particulars::of_turning;
 use crate::parts::{Operation, Reads, refuse};
 use crate::places::Uses;
-use crate::rows::{Lent, same_key};
 use crate::sources::{Sealed, find_source};
 use crate::stops::Stop;
 use crate::view::View;
+use account_rows::{Lent, same_key};
 use draw_lines::DrawLine;
 use kms_json::{ReEncrypt, Reply};
 use kms_names::{Action, NoMemory};
@@ -66,6 +66,12 @@ impl<'a> Operation for ReEncrypting<'a> {
             .authorize_on(alloc, Action::ReEncryptFrom, found.source.lent(), &from)?;
         self.view
             .authorize_on(alloc, Action::ReEncryptTo, &found.row, &to)
+    }
+
+    fn fit(&self, alloc: Global, found: &Turning<'a>) -> Result<(), Stop> {
+        let view = self.view;
+        view.fit(alloc, Action::ReEncryptFrom, found.source.lent())?;
+        view.fit(alloc, Action::ReEncryptTo, &found.row)
     }
 
     fn own(&self, alloc: Global, found: &Turning<'a>) -> Result<Sealable, Stop> {

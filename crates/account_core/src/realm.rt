@@ -5,7 +5,6 @@ ghost use Rattle.authority.specs.Callers.{ArePoliciesOf, policies_at};
 ghost use Rattle.authority.specs.Setting.{callers_policies};
 
 use crate::RealmFacts;
-use crate::rows::DefaultPolicy;
 use authority::Callers;
 use kms_names::{NoMemory, Principal, write_principal};
 use policy_eval::Compiled;
@@ -13,13 +12,11 @@ use std::alloc::Global;
 use std::marker::Model;
 use std::sync::Arc;
 
-/// What is constant for a run: beside the facts the policies of callers and the default policy of keys, ready to be
-/// asked. The accounts of a run share it. Contracts see the facts.
+/// What is constant for a run: beside the facts the policies of callers, ready to be asked. The accounts of a run share it. Contracts see the facts.
 #[derive(Drop)]
 pub struct Realm {
     facts: Arc<RealmFacts>,
     callers: Arc<Callers>,
-    default_policy: DefaultPolicy,
 }
 
 impl Model for Realm {
@@ -32,10 +29,7 @@ impl Model for Realm {
 
     ghost view = { λ r. arc_value r.facts };
 
-    ghost invariant = { λ r. record {
-      callers : ArePoliciesOf (arc_value r.callers) (arc_value r.facts).identities;
-      account : r.default_policy ≡ (arc_value r.facts).account;
-    } };
+    ghost invariant = { λ r. ArePoliciesOf (arc_value r.callers) (arc_value r.facts).identities };
 }
 
 fn shared<T: Drop>(alloc: Global, value: T) -> Result<Arc<T>, NoMemory>
@@ -72,11 +66,9 @@ impl Realm {
         ensures { IfOk result (λ r. r ≡ facts) }
     {
         let callers = Callers::new(alloc, &facts.identities)?;
-        let default_policy = DefaultPolicy::new(alloc, &facts.account)?;
         Ok(Realm {
             facts: shared(alloc, facts)?,
             callers: shared(alloc, callers)?,
-            default_policy,
         })
     }
 
@@ -87,7 +79,6 @@ impl Realm {
         Ok(Realm {
             facts: once_more(&self.facts)?,
             callers: once_more(&self.callers)?,
-            default_policy: self.default_policy.share()?,
         })
     }
 
@@ -96,13 +87,6 @@ impl Realm {
         ensures { result.now ≡ self.now }
     {
         &self.facts
-    }
-
-    /// The default policy of keys.
-    pub fn default_policy(&self) -> &DefaultPolicy
-        ensures { result.now ≡ self.now.account }
-    {
-        &self.default_policy
     }
 
     /// A caller's own policies, none of the account's root. They are found by a hash of the caller's ARN.

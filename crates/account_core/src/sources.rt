@@ -3,11 +3,11 @@ ghost use Rattle.std.specs.Prelude.{◌≡◌, ◌≤◌, length, IfOk};
 ghost use Rattle.blob_format.specs.Reading.{IsBlobOf};
 ghost use Rattle.account_core.specs.Steps.{Gives, GivesAs, name_of, blob_name, held_key, source_of, opens};
 
-use crate::checks::{NEWEST_VERSION, key_if_given, other_key};
+use crate::checks::{key_if_given, other_key};
 use crate::parts::refuse;
-use crate::rows::{Lent, row_of};
 use crate::stops::Stop;
 use crate::view::View;
+use account_rows::Lent;
 use blob_format::{Blob, read_blob};
 use crypto_ops::{OpenFault, open_blob};
 use enc_context::Context;
@@ -50,8 +50,8 @@ fn read(bytes: &[u8]) -> Result<Blob, Stop>
 fn held<'a>(alloc: Global, view: &View<'a>, action: Action, key: &KeyId) -> Result<Lent<'a>, Stop>
     ensures { Gives (held_key view.now action key.now) result }
 {
-    match row_of(view.keys(), key) {
-        Some(held) => Ok(Lent::new(held)),
+    match view.key(key) {
+        Some(lent) => Ok(lent),
         None => Err(Stop::Refused(Refusal::AccessDenied {
             caller: view.caller().copy()?,
             action,
@@ -102,7 +102,7 @@ impl<'a> Sealed<'a> {
         ensures some { IfOk result (λ text. 1 ≤ length text) }
         ensures short { IfOk result (λ text. length text ≤ 4096) }
     {
-        if self.blob.version > NEWEST_VERSION {
+        if self.blob.version > self.lent.newest_version() {
             return Err(Stop::Refused(Refusal::InvalidCiphertext));
         }
         match open_blob(alloc, &view.facts().root, self.bytes, &self.blob, context) {

@@ -1,24 +1,25 @@
 // What every step of a decision goes by.
 ghost use Rattle.std.specs.Prelude.{◌≡◌};
+ghost use Rattle.account_core.specs.Parts.{told_state};
 
 use crate::RealmFacts;
 use crate::places::Places;
-use crate::rows::{HeldKey, Lent};
 use crate::stops::Stop;
+use account_rows::{Lent, Rows, is_gone};
 use authority::{KeyPolicy, Particulars, Setting};
-use kms_json::Refusal;
+use key_states::{State, StateFault, Stored, permits};
+use kms_json::{KeyState, Refusal};
 use kms_names::{Action, KeyId, NoMemory, Principal, Text, key_arn};
 use policy_eval::Compiled;
 use std::alloc::Global;
 use std::marker::Model;
 
-/// What every step of a decision goes by, lent: the facts, the rows of keys, the place of the next entry,
-/// the moment, who asks, and the places of the pass that asks. Beside them stand the caller's own policies.
+/// What every step of a decision goes by, lent: the facts, the entries with the rows that they make, the moment, who
+/// asks, and the places of the pass that asks. Beside them stand the caller's own policies.
 #[derive(Drop)]
 pub struct View<'a> {
     facts: &'a RealmFacts,
-    keys: &'a [HeldKey],
-    place: u64,
+    rows: &'a Rows,
     moment: u64,
     caller: &'a Principal,
     policies: &'a [Compiled],
@@ -26,48 +27,58 @@ pub struct View<'a> {
 }
 
 impl<'a> Model for View<'a> {
-    ghost use Rattle.std.specs.Prelude.{◌≡◌};
+    ghost use Rattle.std.specs.Prelude.{◌≡◌, ◌<◌, length};
     ghost use Rattle.authority.specs.Setting.{callers_policies};
+    ghost use Rattle.account_rows.specs.History.{replay};
+    ghost use Rattle.account_rows.specs.Sizes.{bytes_in};
     ghost use Rattle.account_core.specs.View as seen;
 
     ghost Value = { seen.View };
 
     ghost view = { λ v. record {
       facts = v.facts.now;
-      keys = v.keys.now;
-      place = v.place;
+      keys = (replay v.rows.now).keys;
+      place = length v.rows.now;
+      bytes = bytes_in v.rows.now;
       moment = v.moment;
       caller = v.caller.now;
       places = v.places;
     } };
 
-    ghost invariant = { λ v. v.policies.now ≡ callers_policies v.facts.now.identities v.caller.now };
+    ghost invariant = { λ v. record {
+      policies : v.policies.now ≡ callers_policies v.facts.now.identities v.caller.now;
+      moment : v.moment < 253402300800;
+    } };
 }
 
 impl<'a> View<'a> {
-    ghost use Rattle.std.specs.Prelude.{◌≡◌, IfOk, None, Some, option_map};
+    ghost use Rattle.std.specs.Prelude.{◌≡◌, ◌<◌, ◌≤◌, IfOk, None, Some, length, option_map};
     ghost use Rattle.authority.specs.Setting.{callers_policies};
     ghost use Rattle.authority.specs.Allowed.{is_allowed};
+    ghost use Rattle.key_states.specs.declared.rows.KeyRow.{KeyRow};
+    ghost use Rattle.account_rows.specs.History.{replay, key_with, most_bytes};
+    ghost use Rattle.account_rows.specs.Sizes.{bytes_in};
+    ghost use Rattle.account_core.specs.Parts.{unfit_one};
+    ghost use Rattle.account_core.specs.View.{key_held};
     ghost use Rattle.account_core.specs.Steps.{Passes, arn_of};
     ghost use Rattle.account_core.specs.Authority.{setting_of, denied_at, denied_one};
 
     /// The view of these.
     pub fn new(
         facts: &'a RealmFacts,
-        keys: &'a [HeldKey],
-        place: u64,
+        rows: &'a Rows,
         moment: u64,
         caller: &'a Principal,
         policies: &'a [Compiled],
         places: Places,
     ) -> View<'a>
-        requires { policies.now ≡ callers_policies facts.now.identities caller.now }
-        ensures { result ≡ record { facts = facts.now; keys = keys.now; place = place; moment = moment; caller = caller.now; places = places } }
+        requires policies { policies.now ≡ callers_policies facts.now.identities caller.now }
+        requires moment { moment < 253402300800 }
+        ensures { result ≡ record { facts = facts.now; keys = (replay rows.now).keys; place = length rows.now; bytes = bytes_in rows.now; moment = moment; caller = caller.now; places = places } }
     {
         View {
             facts,
-            keys,
-            place,
+            rows,
             moment,
             caller,
             policies,
@@ -82,23 +93,52 @@ impl<'a> View<'a> {
         self.facts
     }
 
-    /// The rows of keys, in order of making.
-    pub fn keys(&self) -> &'a [HeldKey]
-        ensures { result.now ≡ self.now.keys }
+    /// The number of keys, with those that are gone.
+    pub fn number_of_keys(&self) -> usize
+        ensures { result ≡ length self.now.keys }
     {
-        self.keys
+        self.rows.number_of_keys()
+    }
+
+    /// The key of an id; one that is gone counts as absent. It takes no memory.
+    pub fn key(&self, key: &KeyId) -> Option<Lent<'a>>
+        ensures { result ≡ key_held self.now key.now }
+    {
+        match self.rows.key(key) {
+            Some(held) if !is_gone(held.row(), self.moment) => Some(Lent::new(held)),
+            _ => None,
+        }
     }
 
     /// The place of the next entry.
     pub fn place(&self) -> u64
         ensures { result ≡ self.now.place }
     {
-        self.place
+        self.rows.entries()
     }
 
-    /// The moment, in seconds since 1970.
+    /// How many rotations on demand the key of an id has had, where it is there.
+    pub fn rotations(&self, key: &KeyId) -> Option<u32>
+        ensures { result ≡ option_map (λ (row : KeyRow). row.on_demand) (key_with self.now.keys key.now) }
+    {
+        match self.rows.key(key) {
+            Some(held) => Some(held.row().on_demand),
+            None => None,
+        }
+    }
+
+    /// How many bytes the entries count.
+    pub fn bytes(&self) -> u64
+        ensures bytes { result ≡ self.now.bytes }
+        ensures fits { result ≤ most_bytes }
+    {
+        self.rows.bytes()
+    }
+
+    /// The moment, in seconds since 1970: before the year 10000.
     pub fn moment(&self) -> u64
-        ensures { result ≡ self.now.moment }
+        ensures moment { result ≡ self.now.moment }
+        ensures bound { result < 253402300800 }
     {
         self.moment
     }
@@ -194,5 +234,40 @@ impl<'a> View<'a> {
     {
         let allowed = self.allows(alloc, None, action, "*", particulars)?;
         self.pass(allowed, action, Text::from_str(alloc, "*")?)
+    }
+
+    /// Goes on where the state of a key lets it be used for this.
+    pub fn fit(&self, alloc: Global, action: Action, lent: &Lent<'_>) -> Result<(), Stop>
+        ensures { Passes (unfit_one self.now (record { action = action; key = lent.now })) result }
+    {
+        let row = lent.row();
+        let state = row.state_at(self.moment);
+        if state == State::Gone {
+            return Ok(());
+        }
+        let Some(fault) = permits(action, state) else {
+            return Ok(());
+        };
+        let arn = self.arn(alloc, &row.key)?;
+        Err(Stop::Refused(match fault {
+            StateFault::Disabled => Refusal::Disabled(arn),
+            StateFault::InvalidState => Refusal::InvalidState {
+                arn,
+                state: told_state(row.stored),
+            },
+        }))
+    }
+}
+
+/// The state of a key, as replies tell it.
+pub fn told_state(stored: Stored) -> KeyState
+    ensures { result ≡ told_state stored }
+{
+    match stored {
+        Stored::Enabled => KeyState::Enabled,
+        Stored::Disabled => KeyState::Disabled,
+        Stored::Pending { date, .. } => KeyState::PendingDeletion {
+            deletion_date: date,
+        },
     }
 }

@@ -1,2 +1,4 @@
 pub mod RowFacts
-mod Lookups
+pub mod Lookups
+pub mod VersionFacts
+pub mod HouseFacts

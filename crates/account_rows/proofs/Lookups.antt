@@ -127,6 +127,12 @@ module _ (n : ℕ) (rows : List KeyRow) (are : AreRows n rows) (id : List ℕ) w
       none j d lt is (inl before) = omega (arith, lower_place (get_or rows j d).born (place_in id) ((parted searchable).0 j d (omega arith) before), place_of j d lt is)
       none j d lt is (inr behind) = omega (arith, higher_place (get_or rows j d).born (place_in id) ((parted searchable).1 j d behind lt), place_of j d lt is)
 
+-- a row of an id is the one that is found
+pub unique : (n : ℕ) (rows : List KeyRow) → AreRows n rows → (id : List ℕ) (k : ℕ) (d : KeyRow) → k < length rows → (get_or rows k d).key ≡ id → key_with rows id ≡ Some (get_or rows k d)
+unique n rows are id k d lt is =
+    sym (found_there n rows are id k lt (λ e. place_of n rows are id k e lt (ap (λ (r : KeyRow). r.key) (get_or_default rows k e d lt) ∙ is)) (get_or rows k d)
+    (get_or_default rows k d (get_or rows k d) lt) ((bytes_eq-Decides (get_or rows k d).key id).1 is))
+
 -- the row of a place is one
 pub one_at : (rows : List KeyRow) (at : ℕ) (row same : KeyRow) → at < length rows → row ≡ get_or rows at row → same ≡ get_or rows at same → row ≡ same
 one_at rows at row same lt is is_same = is ∙ get_or_default rows at row same lt ∙ sym is_same

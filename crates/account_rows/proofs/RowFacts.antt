@@ -3,17 +3,18 @@ use Rattle.std.proofs.Common.{◌≡◌, ◌≢◌, ℕ, ◌+◌, ◌<◌, ◌�
 use Rattle.std.specs.Prelude.{All, AllPairs}
 use Rattle.std.specs.Str.{bytes_eq}
 use Rattle.std.proofs.lemmas.List.{get_or-map, length-map}
-use Rattle.std.proofs.lemmas.List.Elements.{All-map, All-filter, All-push, All-weaker}
+use Rattle.std.proofs.lemmas.List.Elements.{All-map, All-filter, All-push, All-weaker, All-head, All-tail}
 use Rattle.std.proofs.lemmas.List.Kept.{AllPairs-filter}
 use Rattle.std.proofs.lemmas.List.Quantifiers.{all_pairs_push}
 use Rattle.std.proofs.lemmas.List.Sums.{fold-append}
+use Rattle.std.proofs.lemmas.Slice.Eq.{bytes_eq-Decides}
 use Rattle.key_states.specs.declared.rows.KeyRow.{KeyRow}
 use Rattle.key_states.specs.States.{is_due}
 use Rattle.account_rows.specs.declared.entries.Entry.{Entry}
 use Rattle.account_rows.specs.declared.entries.What.{What}
 use Rattle.account_rows.specs.declared.entries.What.TheVariants as what
 use Rattle.account_rows.specs.Changes.{with_stored, with_period, with_version, with_policy, with_description, new_key, changed, rotated, rotated_if_due, next_date, is_gone, house_kept, keys_after, days_after}
-use Rattle.account_rows.specs.History.{State, step, nothing_yet, replay, latest_of, place_in, IsMadeHere, IsRowOf, AreRows}
+use Rattle.account_rows.specs.History.{State, step, nothing_yet, replay, latest_of, key_with, place_in, IsMadeHere, IsRowOf, AreRows}
 use Rattle.account_rows.specs.Sizes.{size_of, bytes_in}
 
 -- ---- one row
@@ -94,6 +95,62 @@ house_rows time n rows are =
       rise = AllPairs-filter (λ (p q : KeyRow). p.born < q.born) (λ row. not (is_gone time row)) rows are.rise;
       each = All-filter (λ row. not (is_gone time row)) (IsRowOf n) rows are.each;
     })
+
+-- ---- what holds of every row
+
+-- a key that an entry makes is such a row
+abbrev pub IsNew : (KeyRow → Type 0) → ℕ → ℕ → What → Type 0
+IsNew P place time (what.CreateKey key description policy) = P (new_key place time key description policy)
+IsNew P place time (what.Enable key) = Unit {0}
+IsNew P place time (what.Disable key) = Unit {0}
+IsNew P place time (what.Schedule key date days) = Unit {0}
+IsNew P place time (what.Cancel key) = Unit {0}
+IsNew P place time (what.RotationOn key period) = Unit {0}
+IsNew P place time (what.RotationOff key) = Unit {0}
+IsNew P place time (what.RotateNow key) = Unit {0}
+IsNew P place time (what.Policy key text) = Unit {0}
+IsNew P place time (what.Description key text) = Unit {0}
+IsNew P place time what.House = Unit {0}
+
+module _ (P : KeyRow → Type 0) (keeps : (row new : KeyRow) → Follows row new → P row → P new) where
+  all_map : (f : KeyRow → KeyRow) → ((row : KeyRow) → Follows row (f row)) → (rows : List KeyRow) → All P rows → All P (map f rows)
+  all_map f follows rows all = All-map P f rows (λ k d lt. keeps (get_or rows k d) (f (get_or rows k d)) (follows (get_or rows k d)) (all k d lt))
+
+  all_changed : (key : List ℕ) (change : KeyRow → KeyRow) → ((row : KeyRow) → Follows row (change row)) → (rows : List KeyRow) → All P rows → All P (changed key change rows)
+  all_changed key change follows rows all =
+      all_map (λ row. if bytes_eq row.key key then change row else row) (λ row. choose (bytes_eq row.key key) row (change row) (follows row)) rows all
+
+  pub all_after : (n time : ℕ) (w : What) (rows : List KeyRow) → IsNew P n time w → All P rows → All P (keys_after n time w rows)
+  all_after n time (what.CreateKey key description policy) rows new all = All-push P rows (new_key n time key description policy) all new
+  all_after n time (what.Enable key) rows new all = all_changed key _ (λ row. alike _ row refl refl refl refl) rows all
+  all_after n time (what.Disable key) rows new all = all_changed key _ (λ row. alike _ row refl refl refl refl) rows all
+  all_after n time (what.Schedule key date days) rows new all = all_changed key _ (λ row. alike _ row refl refl refl refl) rows all
+  all_after n time (what.Cancel key) rows new all = all_changed key _ (λ row. alike _ row refl refl refl refl) rows all
+  all_after n time (what.RotationOn key period) rows new all = all_changed key _ (λ row. alike _ row refl refl refl refl) rows all
+  all_after n time (what.RotationOff key) rows new all = all_changed key _ (λ row. alike _ row refl refl refl refl) rows all
+  all_after n time (what.RotateNow key) rows new all = all_changed key _ (λ row. versioned time true row.next row) rows all
+  all_after n time (what.Policy key text) rows new all = all_changed key _ (λ row. alike _ row refl refl refl refl) rows all
+  all_after n time (what.Description key text) rows new all = all_changed key _ (λ row. alike _ row refl refl refl refl) rows all
+  all_after n time what.House rows new all =
+      all_map (rotated_if_due time) (due_follows time) (filter (λ row. not (is_gone time row)) rows) (All-filter (λ row. not (is_gone time row)) P rows all)
+
+-- what holds of all rows holds of the one that is found
+pub found_all : (P : KeyRow → Type 0) (rows : List KeyRow) (id : List ℕ) (row : KeyRow) → key_with rows id ≡ Some row → All P rows → P row
+found_all P [] id row e all = cc
+found_all P (x ∷ xs) id row e all = by_test (bytes_eq x.key id) (found_all P xs id row) e
+  where
+    by_test : (b : Bool) → (key_with xs id ≡ Some row → All P xs → P row) → cond b (Some x) (key_with xs id) ≡ Some row → P row
+    by_test true later e = let same : x ≡ row = cc in subst P same (All-head P x xs all)
+    by_test false later e = later e (All-tail P x xs all)
+
+-- the row that is found of an id has that id
+pub found_key : (rows : List KeyRow) (id : List ℕ) (row : KeyRow) → key_with rows id ≡ Some row → row.key ≡ id
+found_key [] id row e = cc
+found_key (x ∷ xs) id row e = by_test (bytes_eq x.key id) (bytes_eq-Decides x.key id).0 (found_key xs id row) e
+  where
+    by_test : (b : Bool) → (b ≡ true → x.key ≡ id) → (key_with xs id ≡ Some row → row.key ≡ id) → cond b (Some x) (key_with xs id) ≡ Some row → row.key ≡ id
+    by_test true same later e = let first : x ≡ row = cc in sym (ap (λ (r : KeyRow). r.key) first) ∙ same refl
+    by_test false same later e = later e
 
 later_row : (n : ℕ) (row : KeyRow) → IsRowOf n row → IsRowOf (n + 1) row
 later_row n row is = record { before = omega (arith, is.before); named = is.named; turned = omega (arith, is.turned); counted = omega (arith, is.counted); some = is.some }

@@ -3,7 +3,7 @@ use Rattle.std.specs.Result.{IfOk}
 use Rattle.draw_lines.specs.Iv.{iv_at}
 use Rattle.crypto_ops.specs.Sealed.{sealed}
 use Rattle.account_core.specs.declared.facts.RealmFacts.{RealmFacts}
-use Rattle.account_core.specs.declared.rows.KeyRow.{KeyRow}
+use Rattle.key_states.specs.declared.rows.KeyRow.{KeyRow}
 use Rattle.account_core.specs.Steps.{seals}
 use Rattle.account_core.proofs.crypto.seal.Goals as goal
 

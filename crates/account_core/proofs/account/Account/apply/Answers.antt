@@ -1,9 +1,9 @@
 use Rattle.std.proofs.Common.{◌≡◌, ap, ap₂, ◌∙◌, sym, subst, List, length, ℕ, ◌++◌, ◌∷◌, []}
 use Rattle.account_core.specs.Account.{Account}
-use Rattle.account_core.specs.declared.rows.KeyRow.{KeyRow}
-use Rattle.account_core.specs.declared.entries.Entry.{Entry}
+use Rattle.key_states.specs.declared.rows.KeyRow.{KeyRow}
+use Rattle.account_rows.specs.declared.entries.Entry.{Entry}
 use Rattle.account_core.specs.Decide.{IsNext}
-use Rattle.account_core.specs.History.{replay, latest_of, keys_after}
+use Rattle.account_rows.specs.History.{replay, latest_of, keys_after}
 use Rattle.account_core.proofs.Histories.{replay-push, latest-push, lawful_more}
 use Rattle.account_core.proofs.account.Account.apply.Goals as goal
 

@@ -1,5 +1,5 @@
 use Rattle.std.proofs.Common.{ap, ◌∙◌, sym}
-use Rattle.account_core.specs.History.{replay, latest_of}
+use Rattle.account_rows.specs.History.{replay, latest_of}
 use Rattle.account_core.proofs.Histories.{lawful_nothing}
 use Rattle.account_core.proofs.account.Account.empty.Goals as goal
 

@@ -13,5 +13,5 @@ returns-in_ok-arn-in-User c =
     c.policies_at.ensures
     ∙ ap (λ (callers : List (List ℕ × List Policy)). unwrap_or (policies_at callers c.as_str.result.now) []) c.deref.ensures
     ∙ ap (λ (arn : List ℕ). unwrap_or (policies_at (arc_value c.self.inside.callers) arn) []) (c.as_str.ensures.value ∙ c.in_ok-arn-in-User.ensures)
-    ∙ found_at_arn _ _ c.self.invariant.callers caller (not_root caller c.in-User.is)
+    ∙ found_at_arn _ _ c.self.invariant caller (not_root caller c.in-User.is)
     ∙ ap (λ (facts : RealmFacts). callers_policies facts.identities caller) c.self.view_is

@@ -1,7 +1,7 @@
 use Rattle.std.proofs.Common.{ℕ, List, Some, Option, ap, ◌∙◌, subst}
 use Rattle.authority.specs.Allowed.{is_allowed}
 use Rattle.kms_json.specs.declared.refusals.Refusal.{Refusal}
-use Rattle.account_core.specs.declared.rows.KeyRow.{KeyRow}
+use Rattle.key_states.specs.declared.rows.KeyRow.{KeyRow}
 use Rattle.account_core.specs.Steps.{Passes, arn_of}
 use Rattle.account_core.specs.Authority.{Question, setting_of}
 use Rattle.account_core.proofs.Asking.{as_asked}

@@ -1,0 +1,126 @@
+-- After housekeeping none is due at the same moment.
+use Rattle.std.proofs.Common.{◌≡◌, ℕ, ◌+◌, ◌<◌, ◌≤◌, Bool, true, false, not, ◌&&◌, ◌||◌, List, [], ◌∷◌, ◌++◌, length, get_or, map, filter, max, Option, Some, None, refl, sym, ◌∙◌, ap, subst, arith, if◌then◌else◌, cond}
+use Rattle.std.specs.Prelude.{All, nat_le, nat_lt, is_some}
+use Rattle.std.specs.List.{list_any}
+use Rattle.std.specs.Str.{bytes_eq}
+use Rattle.std.proofs.lemmas.Bool.Decides.{nat_tests}
+use Rattle.std.proofs.lemmas.List.Elements.{All-map, All-push, All-filter, filter_passes}
+use Rattle.std.proofs.lemmas.List.Folds.{list_any_none}
+use Rattle.key_states.specs.declared.rows.KeyRow.{KeyRow}
+use Rattle.key_states.specs.States.{state_of, is_due, is_enabled}
+use Rattle.account_rows.specs.declared.entries.Entry.{Entry}
+use Rattle.account_rows.specs.declared.entries.What.{What}
+use Rattle.account_rows.specs.declared.entries.What.TheVariants as what
+use Rattle.account_rows.specs.Changes.{with_version, rotated, rotated_if_due, next_date, days_after, is_gone, house_kept, keys_after, wants_house, changed, new_key}
+use Rattle.account_rows.specs.History.{replay, latest_of, moment_of, has_room, housekeeping_of}
+use Rattle.account_rows.specs.Sizes.{size_of}
+use Rattle.account_rows.proofs.RowFacts.{replay-push, latest-push, found_all}
+
+-- a period of automatic rotation has at least one day
+abbrev pub HasDays : Option ℕ → Type 0
+HasDays None = Unit {0}
+HasDays (Some period) = 1 ≤ period
+
+-- an entry gives no other period
+abbrev pub GivesDays : What → Type 0
+GivesDays (what.CreateKey key description policy) = Unit {0}
+GivesDays (what.Enable key) = Unit {0}
+GivesDays (what.Disable key) = Unit {0}
+GivesDays (what.Schedule key date days) = Unit {0}
+GivesDays (what.Cancel key) = Unit {0}
+GivesDays (what.RotationOn key period) = 1 ≤ period
+GivesDays (what.RotationOff key) = Unit {0}
+GivesDays (what.RotateNow key) = Unit {0}
+GivesDays (what.Policy key text) = Unit {0}
+GivesDays (what.Description key text) = Unit {0}
+GivesDays what.House = Unit {0}
+
+abbrev pub RowsHaveDays : List KeyRow → Type 0
+RowsHaveDays rows = All (λ (row : KeyRow). HasDays row.period) rows
+
+choose : (b : Bool) (row new : KeyRow) → HasDays row.period → HasDays new.period → HasDays (if b then new else row).period
+choose true row new old is = is
+choose false row new old is = old
+
+module _ (change : KeyRow → KeyRow) (has : (row : KeyRow) → HasDays row.period → HasDays (change row).period) where
+  days_changed : (key : List ℕ) (rows : List KeyRow) → RowsHaveDays rows → RowsHaveDays (changed key change rows)
+  days_changed key rows all =
+      All-map (λ (row : KeyRow). HasDays row.period) (λ (row : KeyRow). if bytes_eq row.key key then change row else row) rows
+      (λ k d lt. choose (bytes_eq (get_or rows k d).key key) (get_or rows k d) (change (get_or rows k d)) (all k d lt) (has (get_or rows k d) (all k d lt)))
+
+pub days_after_entry : (n time : ℕ) (w : What) (rows : List KeyRow) → GivesDays w → RowsHaveDays rows → RowsHaveDays (keys_after n time w rows)
+days_after_entry n time (what.CreateKey key description policy) rows gives all = All-push (λ (row : KeyRow). HasDays row.period) rows (new_key n time key description policy) all tt
+days_after_entry n time (what.Enable key) rows gives all = days_changed _ (λ row is. is) key rows all
+days_after_entry n time (what.Disable key) rows gives all = days_changed _ (λ row is. is) key rows all
+days_after_entry n time (what.Schedule key date days) rows gives all = days_changed _ (λ row is. is) key rows all
+days_after_entry n time (what.Cancel key) rows gives all = days_changed _ (λ row is. is) key rows all
+days_after_entry n time (what.RotationOn key period) rows gives all = days_changed _ (λ row is. gives) key rows all
+days_after_entry n time (what.RotationOff key) rows gives all = days_changed _ (λ row is. tt) key rows all
+days_after_entry n time (what.RotateNow key) rows gives all = days_changed _ (λ row is. is) key rows all
+days_after_entry n time (what.Policy key text) rows gives all = days_changed _ (λ row is. is) key rows all
+days_after_entry n time (what.Description key text) rows gives all = days_changed _ (λ row is. is) key rows all
+days_after_entry n time what.House rows gives all =
+    All-map (λ (row : KeyRow). HasDays row.period) (rotated_if_due time) (filter (λ row. not (is_gone time row)) rows)
+    (λ k d lt. let old = All-filter (λ row. not (is_gone time row)) (λ (row : KeyRow). HasDays row.period) rows all k d lt in
+    choose (is_due (get_or (filter (λ row. not (is_gone time row)) rows) k d) time) (get_or (filter (λ row. not (is_gone time row)) rows) k d) (rotated time (get_or (filter (λ row. not (is_gone time row)) rows) k d)) old old)
+
+-- ---- a row that was kept
+
+-- its next date is behind the moment
+not_yet : (time : ℕ) (period : Option ℕ) (next : ℕ) → HasDays period → (is_some period && nat_le (next_date time period next) time) ≡ false
+not_yet time None next has = refl
+not_yet time (Some period) next has = grind (arith, nat_tests, has)
+
+rotated_rests : (time : ℕ) (row : KeyRow) → HasDays row.period → is_due (rotated time row) time ≡ false
+rotated_rests time row has = both_false (is_enabled row.stored) _ (not_yet time row.period row.next has)
+  where
+    both_false : (a b : Bool) → b ≡ false → (a && b) ≡ false
+    both_false true b e = e
+    both_false false b e = refl
+
+rests : (time : ℕ) (row : KeyRow) (b : Bool) → is_due row time ≡ b → not (is_gone time row) ≡ true → HasDays row.period
+    → (is_gone time (if b then rotated time row else row) || is_due (if b then rotated time row else row) time) ≡ false
+rests time row true due kept has = neither (is_gone time row) _ (of_not (is_gone time row) kept) (rotated_rests time row has)
+  where
+    of_not : (b : Bool) → not b ≡ true → b ≡ false
+    of_not true e = cc
+    of_not false e = refl
+
+    neither : (a b : Bool) → a ≡ false → b ≡ false → (a || b) ≡ false
+    neither a b e f = rw (e, f) refl
+rests time row false due kept has = neither (is_gone time row) _ (of_not (is_gone time row) kept) due
+  where
+    of_not : (b : Bool) → not b ≡ true → b ≡ false
+    of_not true e = cc
+    of_not false e = refl
+
+    neither : (a b : Bool) → a ≡ false → b ≡ false → (a || b) ≡ false
+    neither a b e f = rw (e, f) refl
+
+all_rest : (time : ℕ) (rows : List KeyRow) → RowsHaveDays rows → wants_house time (house_kept time rows) ≡ false
+all_rest time rows all =
+    list_any_none (λ (row : KeyRow). is_gone time row || is_due row time) (house_kept time rows)
+    (All-map (λ (row : KeyRow). (is_gone time row || is_due row time) ≡ false) (rotated_if_due time) kept
+    (λ k d lt. rests time (get_or kept k d) (is_due (get_or kept k d) time) refl (All-passed k d lt) (All-filter (λ row. not (is_gone time row)) (λ (row : KeyRow). HasDays row.period) rows all k d lt)))
+  where
+    kept : List KeyRow
+    kept = filter (λ row. not (is_gone time row)) rows
+
+    All-passed : All (λ (row : KeyRow). not (is_gone time row) ≡ true) kept
+    All-passed = filter_passes (λ row. not (is_gone time row)) rows
+
+-- housekeeping is kept once at a moment
+pub kept_once : (history : List Entry) (clock : ℕ) (entry : Entry) → RowsHaveDays (replay history).keys → housekeeping_of history clock ≡ Some entry → housekeeping_of (history ++ entry ∷ []) clock ≡ None
+kept_once history clock entry all e =
+    let is = house_is (wants_house (moment_of history clock) (replay history).keys && has_room history (size_of what.House)) (moment_of history clock) entry e in
+    let time : latest_of (history ++ entry ∷ []) ≡ moment_of history clock = latest-push history entry ∙ is.0 in
+    let moment : moment_of (history ++ entry ∷ []) clock ≡ moment_of history clock = omega (arith, time) in
+    let keys : (replay (history ++ entry ∷ [])).keys ≡ house_kept (moment_of history clock) (replay history).keys =
+    replay-push history entry ∙ ap (λ (w : What). keys_after (length history) entry.time w (replay history).keys) is.1 ∙ ap (λ (t : ℕ). house_kept t (replay history).keys) is.0 in
+    let none : wants_house (moment_of (history ++ entry ∷ []) clock) (replay (history ++ entry ∷ [])).keys ≡ false =
+    ap (λ (t : ℕ). wants_house t (replay (history ++ entry ∷ [])).keys) moment ∙ ap (wants_house (moment_of history clock)) keys ∙ all_rest (moment_of history clock) (replay history).keys all in
+    ap (λ (b : Bool). if b && has_room (history ++ entry ∷ []) (size_of what.House) then Some (record { time = moment_of (history ++ entry ∷ []) clock; what = what.House }) else None) none
+  where
+    house_is : (b : Bool) (t : ℕ) (found : Entry) → (if b then Some (record { time = t; what = what.House }) else None) ≡ Some found → (found.time ≡ t) × (found.what ≡ what.House)
+    house_is true t found e = let same : record { time = t; what = what.House } ≡ found = cc in (ap (λ (x : Entry). x.time) (sym same), ap (λ (x : Entry). x.what) (sym same))
+    house_is false t found e = cc

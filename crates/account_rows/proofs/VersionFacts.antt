@@ -1,0 +1,85 @@
+-- The versions of a key only grow, as long as it is there.
+use Rattle.std.proofs.Common.{◌≡◌, ℕ, ◌+◌, ◌<◌, ◌≤◌, List, [], ◌∷◌, ◌++◌, length, length-append, get_or, fold, Some, refl, sym, ◌∙◌, ap, subst, arith}
+use Rattle.std.specs.Prelude.{All}
+use Rattle.std.proofs.lemmas.List.Sums.{fold-append}
+use Rattle.key_states.specs.declared.rows.KeyRow.{KeyRow}
+use Rattle.account_rows.specs.declared.entries.Entry.{Entry}
+use Rattle.account_rows.specs.declared.entries.What.{What}
+use Rattle.account_rows.specs.declared.entries.What.TheVariants as what
+use Rattle.account_rows.specs.Changes.{keys_after}
+use Rattle.account_rows.specs.History.{State, step, nothing_yet, replay, key_with, place_in, IsMadeHere, AreRows}
+use Rattle.account_rows.proofs.RowFacts.{Follows, IsNew, all_after, found_all, found_key, replay-entries}
+use Rattle.account_rows.proofs.Lookups.{unique}
+
+-- the rows of an id have at least so many versions
+abbrev pub AtLeast : ℕ → List ℕ → List KeyRow → Type 0
+AtLeast versions id rows = All (λ (row : KeyRow). row.key ≡ id → versions ≤ length row.versions) rows
+
+-- the keys that entries make from a place on have ids that end with their places
+abbrev pub AreMadeFrom : ℕ → List Entry → Type 0
+AreMadeFrom place [] = Unit {0}
+AreMadeFrom place (entry ∷ more) = IsMadeHere place entry.what × AreMadeFrom (place + 1) more
+
+-- the row that is found is the only one of its id
+pub the_one : (n : ℕ) (rows : List KeyRow) (id : List ℕ) (row : KeyRow) → AreRows n rows → key_with rows id ≡ Some row → AtLeast (length row.versions) id rows
+the_one n rows id row are found k d lt is =
+    let there = unique n rows are id k d lt is in
+    let same : row ≡ get_or rows k d = some_same row (get_or rows k d) (sym found ∙ there) in
+    omega (arith, ap (λ (r : KeyRow). length r.versions) same)
+  where
+    some_same : (a b : KeyRow) → Some a ≡ Some b → a ≡ b
+    some_same a b e = cc
+
+module _ (versions : ℕ) (id : List ℕ) where
+  keeps : (row new : KeyRow) → Follows row new → (row.key ≡ id → versions ≤ length row.versions) → new.key ≡ id → versions ≤ length new.versions
+  keeps row new follows least is = omega (arith, least (sym follows.key ∙ is), follows.more)
+
+  new_at : (n time : ℕ) (w : What) → IsMadeHere n w → place_in id < n → IsNew (λ (row : KeyRow). row.key ≡ id → versions ≤ length row.versions) n time w
+  new_at n time (what.CreateKey key description policy) here before = λ is. absurd (omega (arith, ap place_in is, here, before))
+  new_at n time (what.Enable key) here before = tt
+  new_at n time (what.Disable key) here before = tt
+  new_at n time (what.Schedule key date days) here before = tt
+  new_at n time (what.Cancel key) here before = tt
+  new_at n time (what.RotationOn key period) here before = tt
+  new_at n time (what.RotationOff key) here before = tt
+  new_at n time (what.RotateNow key) here before = tt
+  new_at n time (what.Policy key text) here before = tt
+  new_at n time (what.Description key text) here before = tt
+  new_at n time what.House here before = tt
+
+  least_from : (state : State) (more : List Entry) → AreMadeFrom state.entries more → place_in id < state.entries → AtLeast versions id state.keys → AtLeast versions id (fold step state more).keys
+  least_from state [] made before least = least
+  least_from state (entry ∷ more) made before least =
+      least_from (step state entry) more made.1 (omega (arith, before))
+      (all_after (λ (row : KeyRow). row.key ≡ id → versions ≤ length row.versions) keeps state.entries entry.time entry.what state.keys (new_at state.entries entry.time entry.what made.0 before) least)
+
+made_behind : (n : ℕ) (history more : List Entry) → AreMadeFrom n (history ++ more) → AreMadeFrom (n + length history) more
+made_behind n [] more made = subst (λ (m : ℕ). AreMadeFrom m more) (omega arith) made
+made_behind n (entry ∷ history) more made = subst (λ (m : ℕ). AreMadeFrom m more) (omega arith) (made_behind (n + 1) history more made.1)
+
+pub made_push : (n : ℕ) (history : List Entry) (entry : Entry) → AreMadeFrom n history → IsMadeHere (n + length history) entry.what → AreMadeFrom n (history ++ entry ∷ [])
+made_push n [] entry made here = (subst (λ (m : ℕ). IsMadeHere m entry.what) (omega arith) here, tt)
+made_push n (first ∷ history) entry made here = (made.0, made_push (n + 1) history entry made.1 (subst (λ (m : ℕ). IsMadeHere m entry.what) (omega arith) here))
+
+-- a key that is there at a history and at a longer one has no fewer versions at the longer one
+pub versions_grow : (history more : List Entry) (id : List ℕ) (row later : KeyRow) → AreMadeFrom 0 (history ++ more) → AreRows (length history) (replay history).keys
+    → key_with (replay history).keys id ≡ Some row → key_with (replay (history ++ more)).keys id ≡ Some later → later.key ≡ id → length row.versions ≤ length later.versions
+versions_grow history more id row later made are found found_later is =
+    let entries : (replay history).entries ≡ length history = replay-entries history in
+    let row_of = found_all (λ (r : KeyRow). (r.key ≡ id) → place_in id < length history) (replay history).keys id row found (λ k d lt same. before k d lt same) in
+    let least = least_from (length row.versions) id (replay history) more
+    (subst (λ (n : ℕ). AreMadeFrom n more) (from_zero (length history) ∙ sym entries) (made_behind 0 history more made))
+    (subst (λ (n : ℕ). place_in id < n) (sym entries) (row_of (key_of row found)))
+    (the_one (length history) (replay history).keys id row are found) in
+    let end : AtLeast (length row.versions) id (replay (history ++ more)).keys =
+    subst (λ (s : State). AtLeast (length row.versions) id s.keys) (sym (fold-append step nothing_yet history more)) least in
+    found_all (λ (r : KeyRow). r.key ≡ id → length row.versions ≤ length r.versions) (replay (history ++ more)).keys id later found_later end is
+  where
+    from_zero : (n : ℕ) → 0 + n ≡ n
+    from_zero n = omega arith
+
+    before : (k : ℕ) (d : KeyRow) → k < length (replay history).keys → (get_or (replay history).keys k d).key ≡ id → place_in id < length history
+    before k d lt same = let is_row = are.each k d lt in omega (arith, ap place_in same, is_row.named, is_row.before)
+
+    key_of : (r : KeyRow) → key_with (replay history).keys id ≡ Some r → r.key ≡ id
+    key_of r e = found_key (replay history).keys id r e
