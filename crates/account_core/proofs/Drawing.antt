@@ -11,7 +11,7 @@ use Rattle.key_states.specs.declared.rows.KeyRow.{KeyRow}
 use Rattle.account_core.specs.Crypto.{words_of, sealed_key}
 use Rattle.account_core.specs.Places.{places_of, line_at, IsLineOf}
 use Rattle.account_core.specs.Parts.{takes, after}
-use Rattle.account_core.specs.Steps.{seals, draws}
+use Rattle.account_core.specs.Steps.{seals, draws, newest_version}
 use Rattle.account_core.specs.View.{View}
 
 pub drawn_is : (view : View) (line : Line) (size n : ℕ) (room : List ℕ) → IsLineOf view.facts line → view.places ≡ places_of line → n ≡ size → room ≡ draw_at line.seed line.words n
@@ -26,8 +26,8 @@ sealed_after : (facts : RealmFacts) (row : KeyRow) (pairs : List Pair) (text : L
     → seals facts row pairs text (places_of next) ≡ seals facts row pairs text (places_of line)
 unfolding seals
 sealed_after facts row pairs text line next size e =
-    ap (λ (l : Line). sealed facts.root row.key 1 (iv_at facts.boot l.pass_number l.ivs) pairs text) e
-    ∙ ap (λ (n : ℕ). sealed facts.root row.key 1 (iv_at facts.boot line.pass_number n) pairs text) (add-zero line.ivs)
+    ap (λ (l : Line). sealed facts.root row.key (newest_version row) (iv_at facts.boot l.pass_number l.ivs) pairs text) e
+    ∙ ap (λ (n : ℕ). sealed facts.root row.key (newest_version row) (iv_at facts.boot line.pass_number n) pairs text) (add-zero line.ivs)
 
 -- what is sealed after its draw is the sealed data key
 pub sealed_is : (view : View) (x : DataKey) (row : KeyRow) (line next : Line) (size : ℕ) (room blob : List ℕ)

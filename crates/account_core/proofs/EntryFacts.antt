@@ -1,5 +1,5 @@
 -- The entry that a request appends, and when.
-use Rattle.std.proofs.Common.{◌≡◌, ℕ, List, length, Some, None, Result, Ok, Err, refl, ap, ◌∙◌, subst}
+use Rattle.std.proofs.Common.{◌≡◌, ℕ, ◌≤◌, arith, Bool, true, false, List, length, Some, None, Result, Ok, Err, refl, ap, ◌∙◌, subst}
 use Rattle.kms_json.specs.declared.asks.Ask.{Ask}
 use Rattle.kms_json.specs.declared.asks.AskBody.{AskBody}
 use Rattle.kms_json.specs.declared.asks.AskBody.TheVariants as ask
@@ -17,12 +17,20 @@ use Rattle.account_core.specs.Ids.{key_id_at}
 use Rattle.account_core.specs.Places.{no_places}
 use Rattle.account_core.specs.View.{View, view_of}
 use Rattle.account_core.specs.Steps.{unless}
-use Rattle.account_core.specs.Parts.{Parts, Outcome, Effect, takes, appends, entry_of, decided_by}
+use Rattle.account_core.specs.Parts.{Parts, Outcome, Effect, takes, appends, entry_of, outcome, overfull, limited, decided_by}
 use Rattle.account_core.specs.Keys.{creates_key, describes_key}
 use Rattle.account_core.specs.Policies.{puts_policy, gets_policy}
+use Rattle.account_core.specs.declared.key_changes.KeyChange.{KeyChange}
+use Rattle.account_core.specs.declared.key_changes.KeyChange.TheVariants as change
+use Rattle.account_core.specs.KeyChanges.{effect_at, does_unless, is_enabled, is_disabled, is_period, is_off, changes_key, updates_description, gets_rotation_status}
+use Rattle.account_rows.specs.Changes.{days_after}
+use Rattle.account_rows.proofs.HouseFacts.{GivesDays}
+use Rattle.key_states.specs.declared.rows.KeyRow.{KeyRow}
+use Rattle.kms_json.specs.Asks.{IsSized, IsSizedChanging}
+use Rattle.kms_json.proofs.Sizes.{asked_sized}
 use Rattle.account_core.specs.Crypto.{encrypts, decrypts, re_encrypts, generates_data_key, generates_sealed_data_key, generates_random}
 use Rattle.account_core.specs.Operations.{change_outcome, read_outcome}
-use Rattle.account_core.specs.Decide.{lacking, body_outcome, decide}
+use Rattle.account_core.specs.Decide.{lacking, body_outcome, decide, IsProper}
 use Rattle.account_core.proofs.Passing.{Passed, passed, next_of}
 
 effect_is : {F R : Type 0} {view : View} {parts : Parts F R} {o : Outcome} (p : Passed view parts o) → parts.effect p.found p.ready ≡ o.effect
@@ -36,6 +44,7 @@ TakesOnly o = (uses : Uses) × (takes uses ≡ o.effect)
 takes_only : (view : View) (body : Reading) (o : Outcome) → read_outcome view body ≡ Ok o → TakesOnly o
 takes_only view (reading.DescribeKey key_id) o e = (_, effect_is (passed view (describes_key view key_id) o e))
 takes_only view (reading.GetKeyPolicy key_id) o e = (_, effect_is (passed view (gets_policy view key_id) o e))
+takes_only view (reading.GetKeyRotationStatus key_id) o e = (_, effect_is (passed view (gets_rotation_status view key_id) o e))
 takes_only view (reading.Encrypt x) o e = (_, effect_is (passed view (encrypts view x) o e))
 takes_only view (reading.Decrypt x) o e = (_, effect_is (passed view (decrypts view x) o e))
 takes_only view (reading.ReEncrypt x) o e = (_, effect_is (passed view (re_encrypts view x) o e))
@@ -48,38 +57,122 @@ takes_only view (reading.GenerateRandom size custom_key_store recipient) o e = (
 -- a key that it makes has the id of its place
 abbrev pub IsMadeAt : RealmFacts → ℕ → What → Type 0
 IsMadeAt facts place (what.CreateKey key description policy) = key ≡ key_id_at facts place
+IsMadeAt facts place (what.Enable key) = Unit {0}
+IsMadeAt facts place (what.Disable key) = Unit {0}
+IsMadeAt facts place (what.Schedule key date days) = Unit {0}
+IsMadeAt facts place (what.Cancel key) = Unit {0}
+IsMadeAt facts place (what.RotationOn key period) = Unit {0}
+IsMadeAt facts place (what.RotationOff key) = Unit {0}
+IsMadeAt facts place (what.RotateNow key) = Unit {0}
 IsMadeAt facts place (what.Policy key text) = Unit {0}
+IsMadeAt facts place (what.Description key text) = Unit {0}
+IsMadeAt facts place what.House = Unit {0}
 
--- its time is the moment
-pub record IsEntryAt (view : View) (entry : Entry) : Type 0 where
+-- its time is the moment, and a period that it gives has days
+pub record IsEntryOf (view : View) (entry : Entry) : Type 0 where
   pub time : entry.time ≡ view.moment
   pub made : IsMadeAt view.facts view.place entry.what
+  pub gives : GivesDays entry.what
 
-entry_is : (view : View) (effect : Effect) (made entry : Entry) → IsEntryAt view made → appends made ≡ effect → entry_of effect ≡ Some entry → IsEntryAt view entry
+entry_is : (view : View) (effect : Effect) (made entry : Entry) → IsEntryOf view made → appends made ≡ effect → entry_of effect ≡ Some entry → IsEntryOf view entry
 entry_is view effect made entry at same is =
     let appended : Some made ≡ Some entry = ap entry_of same ∙ is in
     let equal : made ≡ entry = cc in
-    subst (IsEntryAt view) equal at
+    subst (IsEntryOf view) equal at
 
-entry_at : (view : View) (body : Changing) (o : Outcome) (entry : Entry) → change_outcome view body ≡ Ok o → entry_of o.effect ≡ Some entry → IsEntryAt view entry
-entry_at view (changing.CreateKey x) o entry e is =
-    entry_is view o.effect _ entry (record { time = refl; made = refl }) (effect_is (passed view (creates_key view x) o e)) is
-entry_at view (changing.PutKeyPolicy key_id text bypass) o entry e is =
-    entry_is view o.effect _ entry (record { time = refl; made = tt }) (effect_is (passed view (puts_policy view key_id text bypass) o e)) is
+-- ---- of the changes of one key
+
+abbrev SizedChange : KeyChange → Type 0
+SizedChange change.Enable = Unit {0}
+SizedChange change.Disable = Unit {0}
+SizedChange (change.ScheduleDeletion days) = Unit {0}
+SizedChange change.CancelDeletion = Unit {0}
+SizedChange (change.RotateEvery period) = 90 ≤ period
+SizedChange change.RotateNoMore = Unit {0}
+SizedChange change.RotateNow = Unit {0}
+
+unless_done : (done : Bool) (moment : ℕ) (did : What) (entry : Entry) → entry_of (does_unless done moment did) ≡ Some entry → record { time = moment; what = did } ≡ entry
+unless_done true moment did entry e = cc
+unless_done false moment did entry e = cc
+
+done_of : (view : View) (done : Bool) (did : What) (entry : Entry) → IsMadeAt view.facts view.place did → GivesDays did → entry_of (does_unless done view.moment did) ≡ Some entry → IsEntryOf view entry
+done_of view done did entry made gives e =
+    subst (IsEntryOf view) (unless_done done view.moment did entry e) (record { time = refl; made = made; gives = gives })
+
+change_of : (view : View) (row : KeyRow) (c : KeyChange) (entry : Entry) → SizedChange c → entry_of (effect_at view.moment row c) ≡ Some entry → IsEntryOf view entry
+change_of view row change.Enable entry sized e = done_of view (is_enabled row.stored) (what.Enable row.key) entry tt tt e
+change_of view row change.Disable entry sized e = done_of view (is_disabled row.stored) (what.Disable row.key) entry tt tt e
+change_of view row (change.ScheduleDeletion days) entry sized e = done_of view false (what.Schedule row.key (days_after view.moment days) days) entry tt tt e
+change_of view row change.CancelDeletion entry sized e = done_of view false (what.Cancel row.key) entry tt tt e
+change_of view row (change.RotateEvery period) entry sized e = done_of view (is_period period row.period) (what.RotationOn row.key period) entry tt (omega (arith, sized)) e
+change_of view row change.RotateNoMore entry sized e = done_of view (is_off row.period) (what.RotationOff row.key) entry tt tt e
+change_of view row change.RotateNow entry sized e = done_of view false (what.RotateNow row.key) entry tt tt e
+
+key_changed : (view : View) (key_id : List ℕ) (c : KeyChange) (o : Outcome) (entry : Entry) → SizedChange c → outcome view (changes_key view key_id c) ≡ Ok o → entry_of o.effect ≡ Some entry → IsEntryOf view entry
+key_changed view key_id c o entry sized e is =
+    let p = passed view (changes_key view key_id c) o e in
+    change_of view p.found c entry sized (ap entry_of (effect_is p) ∙ is)
+
+-- ---- of all
+
+entry_at : (view : View) (body : Changing) (o : Outcome) (entry : Entry) → IsSizedChanging body → change_outcome view body ≡ Ok o → entry_of o.effect ≡ Some entry → IsEntryOf view entry
+entry_at view (changing.CreateKey x) o entry sized e is =
+    entry_is view o.effect _ entry (record { time = refl; made = refl; gives = tt }) (effect_is (passed view (creates_key view x) o e)) is
+entry_at view (changing.PutKeyPolicy key_id text bypass) o entry sized e is =
+    entry_is view o.effect _ entry (record { time = refl; made = tt; gives = tt }) (effect_is (passed view (puts_policy view key_id text bypass) o e)) is
+entry_at view (changing.UpdateKeyDescription key_id text) o entry sized e is =
+    entry_is view o.effect _ entry (record { time = refl; made = tt; gives = tt }) (effect_is (passed view (updates_description view key_id text) o e)) is
+entry_at view (changing.EnableKey key_id) o entry sized e is = key_changed view key_id change.Enable o entry tt e is
+entry_at view (changing.DisableKey key_id) o entry sized e is = key_changed view key_id change.Disable o entry tt e is
+entry_at view (changing.ScheduleKeyDeletion key_id days) o entry sized e is = key_changed view key_id (change.ScheduleDeletion days) o entry tt e is
+entry_at view (changing.CancelKeyDeletion key_id) o entry sized e is = key_changed view key_id change.CancelDeletion o entry tt e is
+entry_at view (changing.EnableKeyRotation key_id period) o entry sized e is = key_changed view key_id (change.RotateEvery period) o entry sized.0 e is
+entry_at view (changing.DisableKeyRotation key_id) o entry sized e is = key_changed view key_id change.RotateNoMore o entry tt e is
+entry_at view (changing.RotateKeyOnDemand key_id) o entry sized e is = key_changed view key_id change.RotateNow o entry tt e is
+
+-- the limits leave room for it
+left_of : (view : View) (effect : Effect) (entry : Entry) → limited view effect ≡ None → entry_of effect ≡ Some entry → overfull view entry.what ≡ None
+left_of view (takes uses) entry left e = cc
+left_of view (appends made) entry left e = let same : made ≡ entry = cc in subst (λ (x : Entry). overfull view x.what ≡ None) same left
+
+pub record IsEntryAt (view : View) (entry : Entry) : Type 0 where
+  pub of : IsEntryOf view entry
+  pub left : overfull view entry.what ≡ None
+
+room_of : {F R : Type 0} (view : View) (parts : Parts F R) (o : Outcome) (entry : Entry) → outcome view parts ≡ Ok o → entry_of o.effect ≡ Some entry → overfull view entry.what ≡ None
+room_of view parts o entry e is =
+    let p = passed view parts o e in
+    left_of view (parts.effect p.found p.ready) entry p.left (ap entry_of (effect_is p) ∙ is)
+
+room_at : (view : View) (body : Changing) (o : Outcome) (entry : Entry) → change_outcome view body ≡ Ok o → entry_of o.effect ≡ Some entry → overfull view entry.what ≡ None
+room_at view (changing.CreateKey x) o entry e is = room_of view (creates_key view x) o entry e is
+room_at view (changing.PutKeyPolicy key_id text bypass) o entry e is = room_of view (puts_policy view key_id text bypass) o entry e is
+room_at view (changing.UpdateKeyDescription key_id text) o entry e is = room_of view (updates_description view key_id text) o entry e is
+room_at view (changing.EnableKey key_id) o entry e is = room_of view (changes_key view key_id change.Enable) o entry e is
+room_at view (changing.DisableKey key_id) o entry e is = room_of view (changes_key view key_id change.Disable) o entry e is
+room_at view (changing.ScheduleKeyDeletion key_id days) o entry e is = room_of view (changes_key view key_id (change.ScheduleDeletion days)) o entry e is
+room_at view (changing.CancelKeyDeletion key_id) o entry e is = room_of view (changes_key view key_id change.CancelDeletion) o entry e is
+room_at view (changing.EnableKeyRotation key_id period) o entry e is = room_of view (changes_key view key_id (change.RotateEvery period)) o entry e is
+room_at view (changing.DisableKeyRotation key_id) o entry e is = room_of view (changes_key view key_id change.RotateNoMore) o entry e is
+room_at view (changing.RotateKeyOnDemand key_id) o entry e is = room_of view (changes_key view key_id change.RotateNow) o entry e is
 
 module _ (facts : RealmFacts) (history : List Entry) (x : Ask) (entry : Entry) where
-  of_body : (body : AskBody) (o : Outcome) → body_outcome facts history x no_places body ≡ Ok o → entry_of o.effect ≡ Some entry → IsEntryAt (view_of facts history x no_places) entry
-  of_body (ask.Change body) o e is = entry_at (view_of facts history x no_places) body o entry e is
-  of_body (ask.Read body) o e is =
+  of_body : (body : AskBody) (o : Outcome) → IsSized body → body_outcome facts history x no_places body ≡ Ok o → entry_of o.effect ≡ Some entry → IsEntryAt (view_of facts history x no_places) entry
+  of_body (ask.Change body) o sized e is = record {
+    of = entry_at (view_of facts history x no_places) body o entry sized e is;
+    left = room_at (view_of facts history x no_places) body o entry e is;
+  }
+  of_body (ask.Read body) o sized e is =
       let only = takes_only (view_of facts history x no_places) body o e in
       let nothing : None ≡ Some entry = ap entry_of only.1 ∙ is in
       cc
 
-  of_outcome : (wanted : Result Outcome Refusal) → unless (lacking (length history) x.after) (body_outcome facts history x no_places x.body) ≡ wanted
+  of_outcome : (wanted : Result Outcome Refusal) → IsSized x.body → unless (lacking (length history) x.after) (body_outcome facts history x no_places x.body) ≡ wanted
       → (decided_by wanted no_places).entry ≡ Some entry → IsEntryAt (view_of facts history x no_places) entry
-  of_outcome (Ok o) same e = of_body x.body o (next_of (lacking (length history) x.after) (body_outcome facts history x no_places x.body) o same) e
-  of_outcome (Err why) same e = cc
+  of_outcome (Ok o) sized same e = of_body x.body o sized (next_of (lacking (length history) x.after) (body_outcome facts history x no_places x.body) o same) e
+  of_outcome (Err why) sized same e = cc
 
-  pub next_entry : (decide facts history x no_places).entry ≡ Some entry → IsEntryAt (view_of facts history x no_places) entry
+  pub next_entry : IsProper facts x → (decide facts history x no_places).entry ≡ Some entry → IsEntryAt (view_of facts history x no_places) entry
   unfolding decide
-  next_entry e = of_outcome (unless (lacking (length history) x.after) (body_outcome facts history x no_places x.body)) refl e
+  next_entry proper e =
+      of_outcome (unless (lacking (length history) x.after) (body_outcome facts history x no_places x.body)) (asked_sized proper.target proper.text x.body proper.body) refl e

@@ -1,5 +1,5 @@
 -- The laws of sealing.
-use Rattle.std.proofs.Common.{◌≡◌, ℕ, ◌-◌, ◌<◌, ◌≤◌, ◌^◌, max, List, [], ◌∷◌, ◌++◌, length, take, drop, get_or, codes, Bool, false, Option, Some, None, Result, Ok, refl, sym, ap, ◌∙◌, subst, if◌then◌else◌, append_assoc, arith, length-append, length-take}
+use Rattle.std.proofs.Common.{◌≡◌, ℕ, ◌-◌, ◌<◌, ◌≤◌, ◌^◌, max, List, [], ◌∷◌, ◌++◌, length, take, drop, get_or, codes, Bool, true, false, nat_le, le-leb, Option, Some, None, Result, Ok, Err, refl, sym, ap, ◌∙◌, subst, if◌then◌else◌, append_assoc, arith, length-append, length-take}
 use Rattle.std.specs.Prelude.{ok_or}
 use Rattle.std.specs.Int.{w16, w32, to_be_bytes}
 use Rattle.std.specs.List.Sorted.{IsNonDecreasingBy}
@@ -35,26 +35,33 @@ use Rattle.kms_json.specs.declared.refusals.Unsupported.TheVariants.{Recipient}
 use Rattle.account_core.specs.declared.facts.RealmFacts.{RealmFacts}
 use Rattle.account_rows.specs.declared.entries.Entry.{Entry}
 use Rattle.key_states.specs.declared.rows.KeyRow.{KeyRow}
+use Rattle.key_states.specs.declared.states.State.TheVariants as state
+use Rattle.key_states.specs.declared.states.Stored.{Stored}
+use Rattle.key_states.specs.declared.states.Stored.TheVariants as at
+use Rattle.key_states.specs.Permissions.{refusal_of, need_of}
+use Rattle.key_states.specs.States.{state_of}
 use Rattle.account_core.specs.Ids.{key_id_at, be32, be48}
 use Rattle.account_core.specs.Places.{Places, IsUpTo, nothing_used}
 use Rattle.account_core.specs.Blobs.{BlobName, name_in, named_in}
-use Rattle.account_rows.specs.History.{replay, latest_of, key_with}
+use Rattle.account_rows.specs.History.{replay, latest_of, key_with, IsRowOf}
 use Rattle.account_core.specs.Source.{Source}
-use Rattle.account_core.specs.View.{View, view_of}
-use Rattle.account_core.specs.Steps.{unless, and_then, or_else, unfit, unsupported, key_referred, reference_of, key_of, key_if_given, other_key, blob_name, source_in, source_of, opens, seals, arn_of}
+use Rattle.account_core.specs.View.{View, view_of, unless_gone, key_held}
+use Rattle.account_core.specs.Steps.{unless, and_then, or_else, unfit, unsupported, key_referred, reference_of, key_of, key_if_given, other_key, blob_name, source_in, source_of, newest_version, opens, seals, arn_of}
 use Rattle.account_core.specs.Authority.{of_context, denied, MayAsk}
-use Rattle.account_core.specs.Parts.{Outcome, takes, outcome, decided_by, only_asked}
+use Rattle.account_core.specs.Parts.{Outcome, takes, outcome, decided_by, only_asked, refused_state, unfit_one, told_state}
 use Rattle.account_core.specs.Crypto.{decrypts}
 use Rattle.account_core.specs.Decide.{lacking, body_outcome, decide, IsNext, appended, kept, IsLawful, empty, longer}
-use Rattle.account_core.specs.Laws.{reply_to, NoneOrNames, PassGoesOn, no_request, one_more, wants_memory, iv_in, SealedIsDecryptedAgain, OnePassRepeatsNoIv, TimesNeverFall, KeysDiffer}
+use Rattle.account_core.specs.Laws.{reply_to, NoneOrNames, PassGoesOn, no_request, one_more, wants_memory, iv_in, exception_of, unless_excepted, SealedIsDecryptedAgain, OnePassRepeatsNoIv, TimesNeverFall, HouseIsKeptOnce, KeysDiffer}
 use Rattle.account_core.proofs.BlobNames.{named_blob}
 use Rattle.account_core.proofs.GoingOn.{decide_goes_on}
-use Rattle.account_core.proofs.EntryFacts.{next_entry}
-use Rattle.account_core.proofs.Histories.{latest-push}
-use Rattle.account_core.proofs.LawRows.{found_id, key_size, key_stays}
+use Rattle.account_rows.specs.Changes.{HasVersions, is_gone, is_state_gone}
+use Rattle.account_rows.proofs.RowFacts.{found_key, found_all, latest-push}
+use Rattle.account_rows.proofs.VersionFacts.{versions_grow}
+use Rattle.account_rows.proofs.HouseFacts.{kept_once}
+use Rattle.account_core.proofs.Fitting.{HasLaws, laws_of, comes_next, lawful_front, id_ends}
 use Rattle.account_core.proofs.Asking.{one_passes}
-use Rattle.account_core.proofs.LawSealings.{IsText, is_sealed}
-use Rattle.account_core.proofs.Passing.{goes_through}
+use Rattle.account_core.proofs.LawSealings.{IsText, is_sealed, there_of}
+use Rattle.account_core.proofs.Passing.{goes_through, stops_at_state}
 
 -- ---- the initialization vectors of a pass
 
@@ -84,48 +91,60 @@ iv_told key version iv text tag key_is iv_is =
 sealed_iv : (facts : RealmFacts) (row : KeyRow) (context : List Pair) (text : List ℕ) (places : Places) → length row.key ≡ 16
     → iv_in (seals facts row context text places) ≡ iv_at facts.boot places.number places.ivs
 unfolding seals sealed
-sealed_iv facts row context text places is = iv_told row.key 1 _ _ _ is (iv_size facts.boot places.number places.ivs)
+sealed_iv facts row context text places is = iv_told row.key (newest_version row) _ _ _ is (iv_size facts.boot places.number places.ivs)
+
+key_size : (facts : RealmFacts) (history : List Entry) (row : KeyRow) → IsLawful facts history → key_with (replay history).keys row.key ≡ Some row → length row.key ≡ 16
+key_size facts history row lawful there =
+    found_all (λ (r : KeyRow). length r.key ≡ 16) (replay history).keys row.key row there (laws_of facts history lawful).sizes
 
 pub no_iv_again : OnePassRepeatsNoIv
 no_iv_again facts history later x y places later_places one other lawful lawful_later first second on same =
     let a = is_sealed facts history x places one first in
     let b = is_sealed facts later y later_places other second in
     let up = goes_up facts _ later_places on in
-    let iv = ap iv_in a.blob ∙ sealed_iv facts a.row one.context one.plaintext places (key_size facts history a.row.key a.row lawful a.there) in
-    let iv' = ap iv_in b.blob ∙ sealed_iv facts b.row other.context other.plaintext later_places (key_size facts later b.row.key b.row lawful_later b.there) in
+    let iv = ap iv_in a.blob ∙ sealed_iv facts a.row one.context one.plaintext places (key_size facts history a.row lawful a.there) in
+    let iv' = ap iv_in b.blob ∙ sealed_iv facts b.row other.context other.plaintext later_places (key_size facts later b.row lawful_later b.there) in
     let count : places.ivs ≡ later_places.ivs = count_told facts.boot facts.boot places.number later_places.number places.ivs later_places.ivs a.few b.few (sym iv ∙ same ∙ iv') in
     omega (arith, up.ivs_from, a.ivs, count)
 
 -- ---- what was sealed is decrypted again
 
+-- the row of a key that sealed
+sealing_versions : (facts : RealmFacts) (history : List Entry) (row : KeyRow) → IsLawful facts history → key_with (replay history).keys row.key ≡ Some row → HasVersions row
+sealing_versions facts history row lawful there =
+    let laws = laws_of facts history lawful in
+    let is = found_all (IsRowOf (length history)) (replay history).keys row.key row there laws.rows.each in
+    record { some = is.some; few = omega (arith, is.counted, laws.few) }
+
 -- a blob says its key, and opens to its text
 record Opens (facts : RealmFacts) (row : KeyRow) (context : List Pair) (text blob : List ℕ) : Type 0 where
-  named : named_in blob ≡ Some (record { key = row.key; version = 1 })
+  named : named_in blob ≡ Some (record { key = row.key; version = newest_version row })
   key : (name_in blob).key ≡ row.key
   opens_to : opened facts.root blob context ≡ Some text
 
-sealed_opens : (facts : RealmFacts) (row : KeyRow) (context : List Pair) (text : List ℕ) (places : Places) → length row.key ≡ 16 → IsText text
+sealed_opens : (facts : RealmFacts) (row : KeyRow) (context : List Pair) (text : List ℕ) (places : Places) → length row.key ≡ 16 → HasVersions row → IsText text
     → Opens facts row context text (seals facts row context text places)
 unfolding seals
-sealed_opens facts row context text places id_is size =
+sealed_opens facts row context text places id_is versions size =
     let iv : List ℕ = iv_at facts.boot places.number places.ivs in
-    let key : List ℕ = material_of facts.root row.key 1 in
-    let can : CanSeal row.key 1 iv text = record {
+    let version : ℕ = newest_version row in
+    let key : List ℕ = material_of facts.root row.key version in
+    let can : CanSeal row.key version iv text = record {
       id_size = id_is;
-      version_from_one = omega arith;
-      version_fits = omega arith;
+      version_from_one = versions.some;
+      version_fits = omega (arith, versions.few);
       iv_size = iv_size facts.boot places.number places.ivs;
       text_given = size.0;
       text_fits = size.1;
     } in
-    let form = sealed_form facts.root row.key 1 iv context text can in
+    let form = sealed_form facts.root row.key version iv context text can in
     record {
-      named = named_blob _ row.key 1 iv _ _ form;
-      key = (told _ row.key 1 iv _ _ form).key_at;
-      opens_to = opened_blob facts.root _ row.key 1 iv _ _ context form ∙ opens_sealed key iv (additional_data (blob_head row.key 1) context) text;
+      named = named_blob _ row.key version iv _ _ form;
+      key = (told _ row.key version iv _ _ form).key_at;
+      opens_to = opened_blob facts.root _ row.key version iv _ _ context form ∙ opens_sealed key iv (additional_data (blob_head row.key version) context) text;
     }
 
-module _ (view : View) (row : KeyRow) (there : key_with view.keys row.key ≡ Some row) where
+module _ (view : View) (row : KeyRow) (version : ℕ) (there : key_held view row.key ≡ Some row) where
   record Given (reference : Option (List ℕ)) : Type 0 where
     given : Option KeyRow
     is : key_if_given view reference ≡ Ok given
@@ -134,7 +153,7 @@ module _ (view : View) (row : KeyRow) (there : key_with view.keys row.key ≡ So
   key_is : (reference : List ℕ) → reference_of view.facts reference ≡ Ok (Key row.key) → key_of view reference ≡ Ok row
   unfolding key_of
   key_is reference named =
-      ap (key_referred view.keys (refusal.NotFound missing.Alias)) named ∙ ap (λ (found : Option KeyRow). ok_or found (refusal.NotFound missing.Key)) there
+      ap (key_referred view (refusal.NotFound missing.Alias)) named ∙ ap (λ (found : Option KeyRow). ok_or found (refusal.NotFound missing.Key)) there
 
   given_is : (reference : Option (List ℕ)) → NoneOrNames view.facts reference row.key → Given reference
   given_is None named = record { given = None; is = refl; same = refl }
@@ -145,65 +164,105 @@ module _ (view : View) (row : KeyRow) (there : key_with view.keys row.key ≡ So
   }
 
   abbrev source : List ℕ → Source
-  source blob = record { row = row; version = 1; bytes = blob }
+  source blob = record { row = row; version = version; bytes = blob }
 
-  source_is : (reference : Option (List ℕ)) (blob : List ℕ) → NoneOrNames view.facts reference row.key → named_in blob ≡ Some (record { key = row.key; version = 1 })
+  source_is : (reference : Option (List ℕ)) (blob : List ℕ) → NoneOrNames view.facts reference row.key → named_in blob ≡ Some (record { key = row.key; version = version })
       → source_of view action.Decrypt reference blob ≡ Ok (source blob)
   source_is reference blob right named =
       let given = given_is reference right in
       let compared : Option KeyRow → BlobName → Result Source Refusal = λ o name. unless (other_key o name.key) (source_in view action.Decrypt blob name) in
       ap (λ (r : Result (Option KeyRow) Refusal). and_then r (λ o. and_then (blob_name blob) (compared o))) given.is
       ∙ ap (λ (o : Option BlobName). and_then (ok_or o refusal.InvalidCiphertext) (compared given.given)) named
-      ∙ ap (λ (o : Option Refusal). unless o (source_in view action.Decrypt blob (record { key = row.key; version = 1 }))) given.same
-      ∙ ap (λ (o : Option KeyRow). and_then (ok_or o (refusal.AccessDenied view.caller action.Decrypt (arn_of view.facts row.key))) (λ r. Ok (record { row = r; version = 1; bytes = blob }))) there
+      ∙ ap (λ (o : Option Refusal). unless o (source_in view action.Decrypt blob (record { key = row.key; version = version }))) given.same
+      ∙ ap (λ (o : Option KeyRow). and_then (ok_or o (refusal.AccessDenied view.caller action.Decrypt (arn_of view.facts row.key))) (λ r. Ok (record { row = r; version = version; bytes = blob }))) there
 
-  decrypted_is : (d : Decrypt) (plaintext : List ℕ) → NoneOrNames view.facts d.key_id row.key → named_in d.blob ≡ Some (record { key = row.key; version = 1 })
-      → opened view.facts.root d.blob d.context ≡ Some plaintext → denied view ((decrypts view d).questions (source d.blob)) ≡ None → unfit d.algorithm ≡ None → d.recipient ≡ false → d.dry_run ≡ false
-      → outcome view (decrypts view d) ≡ Ok (record { reply = reply.Decrypted plaintext (arn_of view.facts row.key); effect = takes nothing_used })
-  decrypted_is d plaintext right named opens_to allowed fit no_recipient no_dry_run =
+  -- the state of the key, as Decrypt goes by it
+  by_state : (stored : Stored) → row.stored ≡ stored → is_gone view.moment row ≡ false
+      → unfit_one view (record { action = action.Decrypt; key = row }) ≡ exception_of (arn_of view.facts row.key) stored
+  unfolding unfit_one
+  by_state at.Enabled is live = ap (λ (s : Stored). refused_state view row (refusal_of (need_of action.Decrypt) (state_of s view.moment))) is
+  by_state at.Disabled is live = ap (λ (s : Stored). refused_state view row (refusal_of (need_of action.Decrypt) (state_of s view.moment))) is
+  by_state (at.Pending date days) is live =
+      let not_yet : nat_le date view.moment ≡ false = pending_live date (ap (λ (s : Stored). is_state_gone (state_of s view.moment)) (sym is) ∙ live) in
+      ap (λ (s : Stored). refused_state view row (refusal_of (need_of action.Decrypt) (state_of s view.moment))) is
+      ∙ ap (λ (b : Bool). refused_state view row (refusal_of (need_of action.Decrypt) (if b then state.Gone else state.PendingDeletion))) not_yet
+      ∙ ap (λ (s : Stored). Some (refusal.InvalidState (arn_of view.facts row.key) (told_state s))) is
+    where
+      pending_live : (date : ℕ) → is_state_gone (if nat_le date view.moment then state.Gone else state.PendingDeletion) ≡ false → nat_le date view.moment ≡ false
+      pending_live date e = by_test (nat_le date view.moment) e
+        where
+          by_test : (b : Bool) → is_state_gone (if b then state.Gone else state.PendingDeletion) ≡ false → b ≡ false
+          by_test true e = cc
+          by_test false e = refl
+
+  decrypted_is : (d : Decrypt) (plaintext : List ℕ) (e : Option Refusal) → NoneOrNames view.facts d.key_id row.key → named_in d.blob ≡ Some (record { key = row.key; version = version })
+      → version ≤ newest_version row → opened view.facts.root d.blob d.context ≡ Some plaintext → denied view ((decrypts view d).questions (source d.blob)) ≡ None
+      → unfit_one view (record { action = action.Decrypt; key = row }) ≡ e → unfit d.algorithm ≡ None → d.recipient ≡ false → d.dry_run ≡ false
+      → (decided_by (outcome view (decrypts view d)) view.places).reply ≡ unless_excepted e (reply.Decrypted plaintext (arn_of view.facts row.key))
+  decrypted_is d plaintext None right named old opens_to allowed state fit no_recipient no_dry_run =
       let own : (decrypts view d).own (source d.blob) ≡ Ok plaintext =
       ap (λ (o : Option Refusal). unless o (unless (unsupported d.recipient Recipient) (opens view.facts (source d.blob) d.context))) fit
       ∙ ap (λ (b : Bool). unless (unsupported b Recipient) (opens view.facts (source d.blob) d.context)) no_recipient
+      ∙ ap (λ (b : Bool). if b then ok_or (opened view.facts.root d.blob d.context) refusal.InvalidCiphertext else Err refusal.InvalidCiphertext) (le-leb version (newest_version row) old)
       ∙ ap (λ (o : Option (List ℕ)). ok_or o refusal.InvalidCiphertext) opens_to in
-      goes_through view (decrypts view d) (source d.blob) plaintext (source_is d.key_id d.blob right named) allowed own refl (ap only_asked no_dry_run)
+      ap (λ (wanted : Result Outcome Refusal). (decided_by wanted view.places).reply)
+      (goes_through view (decrypts view d) (source d.blob) plaintext (source_is d.key_id d.blob right named) allowed (ap (λ (o : Option Refusal). or_else o None) state) own refl (ap only_asked no_dry_run))
+  decrypted_is d plaintext (Some why) right named old opens_to allowed state fit no_recipient no_dry_run =
+      ap (λ (wanted : Result Outcome Refusal). (decided_by wanted view.places).reply)
+      (stops_at_state view (decrypts view d) (source d.blob) why (source_is d.key_id d.blob right named) allowed (ap (λ (o : Option Refusal). or_else o None) state))
 
-decrypt_reply : (facts : RealmFacts) (history : List Entry) (y : Ask) (places : Places) (d : Decrypt) (o : Outcome) → lacking (length history) y.after ≡ None → y.body ≡ ask.Read (reading.Decrypt d)
-    → outcome (view_of facts history y places) (decrypts (view_of facts history y places) d) ≡ Ok o → reply_to facts history y places ≡ o.reply
+decrypt_reply : (facts : RealmFacts) (history : List Entry) (y : Ask) (places : Places) (d : Decrypt) → lacking (length history) y.after ≡ None → y.body ≡ ask.Read (reading.Decrypt d)
+    → reply_to facts history y places ≡ (decided_by (outcome (view_of facts history y places) (decrypts (view_of facts history y places) d)) places).reply
 unfolding decide
-decrypt_reply facts history y places d o enough body is =
+decrypt_reply facts history y places d enough body =
     ap (λ (first : Option Refusal). (decided_by (unless first (body_outcome facts history y places y.body)) places).reply) enough
     ∙ ap (λ (b : AskBody). (decided_by (body_outcome facts history y places b) places).reply) body
-    ∙ ap (λ (wanted : Result Outcome Refusal). (decided_by wanted places).reply) is
 
 -- who may decrypt under the key is allowed it
-may_open : (view : View) (d : Decrypt) (row : KeyRow) (context : List Pair) (blob : List ℕ) → AreIdentityPolicies (callers_policies view.facts.identities view.caller) → d.context ≡ context
+may_open : (view : View) (d : Decrypt) (row : KeyRow) (context : List Pair) → AreIdentityPolicies (callers_policies view.facts.identities view.caller) → d.context ≡ context
     → MayAsk view (record { action = action.Decrypt; key = Some row; particulars = of_context context })
     → denied view (record { action = action.Decrypt; key = Some row; particulars = of_context d.context } ∷ []) ≡ None
-may_open view d row context blob kinds same may =
+may_open view d row context kinds same may =
     ap (λ (pairs : List Pair). denied view (record { action = action.Decrypt; key = Some row; particulars = of_context pairs } ∷ [])) same
     ∙ ap (λ (o : Option Refusal). or_else o None) ((one_passes view (record { action = action.Decrypt; key = Some row; particulars = of_context context }) kinds).1 may)
+
+live_of : (moment : ℕ) (o : Option KeyRow) (row : KeyRow) → unless_gone moment o ≡ Some row → is_gone moment row ≡ false
+live_of moment (Some found) row e = by_test (is_gone moment found) refl e
+  where
+    by_test : (b : Bool) → is_gone moment found ≡ b → (if b then None else Some found) ≡ Some row → is_gone moment row ≡ false
+    by_test true is e = cc
+    by_test false is e = let same : found ≡ row = cc in ap (is_gone moment) (sym same) ∙ is
+live_of moment None row e = cc
 
 pub decrypted_again : SealedIsDecryptedAgain
 decrypted_again facts history more x y places other_places s lawful proper sealed kinds asks =
     let d : Decrypt = asks.fields in
     let view : View = view_of facts (history ++ more) y other_places in
+    let laws = laws_of facts (history ++ more) lawful in
     let is = is_sealed facts history x places s sealed in
-    let later = key_stays history more is.row.key is.row is.there in
-    let id : later.0.key ≡ is.row.key = found_id (replay (history ++ more)).keys is.row.key later.0 later.1 in
-    let made = sealed_opens facts is.row s.context s.plaintext places (key_size facts (history ++ more) is.row.key later.0 lawful later.1) (is.size proper) in
+    let later : KeyRow = asks.held in
+    let before = lawful_front facts history more lawful in
+    let versions = sealing_versions facts history is.row before is.there in
+    let size = key_size facts history is.row before is.there in
+    let made = sealed_opens facts is.row s.context s.plaintext places size versions (is.size proper) in
     let blob_is : d.blob ≡ seals facts is.row s.context s.plaintext places = asks.same_blob ∙ is.blob in
-    let name_is : (name_in s.blob).key ≡ later.0.key = ap (λ (b : List ℕ). (name_in b).key) is.blob ∙ made.key ∙ sym id in
-    let there : key_with view.keys later.0.key ≡ Some later.0 = subst (λ (key : List ℕ). key_with view.keys key ≡ Some later.0) (sym id) later.1 in
-    let named : named_in d.blob ≡ Some (record { key = later.0.key; version = 1 }) =
-    ap named_in blob_is ∙ made.named ∙ ap (λ (key : List ℕ). Some (record { key = key; version = 1 })) (sym id) in
-    let may = may_open view d later.0 s.context d.blob kinds asks.same_context (asks.may later.0 (ap (key_with view.keys) name_is ∙ there)) in
-    let answer = decrypted_is view later.0 there d s.plaintext
-    (subst (NoneOrNames facts d.key_id) name_is asks.right_key) named
+    let name_is : (name_in s.blob).key ≡ is.row.key = ap (λ (b : List ℕ). (name_in b).key) is.blob ∙ made.key in
+    let found : key_with view.keys (name_in s.blob).key ≡ Some later = there_of view.moment (key_with view.keys (name_in s.blob).key) later asks.is_held in
+    let named_key : later.key ≡ (name_in s.blob).key = found_key view.keys (name_in s.blob).key later found in
+    let id : later.key ≡ is.row.key = named_key ∙ name_is in
+    let held : key_held view later.key ≡ Some later = ap (key_held view) named_key ∙ asks.is_held in
+    let grows : newest_version is.row ≤ newest_version later =
+    versions_grow history more is.row.key is.row later laws.made is.there (ap (key_with view.keys) (sym name_is) ∙ found) id in
+    let named : named_in d.blob ≡ Some (record { key = later.key; version = newest_version is.row }) =
+    ap named_in blob_is ∙ made.named ∙ ap (λ (key : List ℕ). Some (record { key = key; version = newest_version is.row })) (sym id) in
+    let state = by_state view later (newest_version is.row) held later.stored refl (live_of view.moment (key_with view.keys (name_in s.blob).key) later asks.is_held) in
+    let answer = decrypted_is view later (newest_version is.row) held d s.plaintext (exception_of (arn_of facts later.key) later.stored)
+    (subst (NoneOrNames facts d.key_id) (sym named_key) asks.right_key) named grows
     (ap (λ (b : List ℕ). opened facts.root b d.context) blob_is ∙ ap (opened facts.root (seals facts is.row s.context s.plaintext places)) asks.same_context ∙ made.opens_to)
-    may asks.fit asks.no_recipient asks.no_dry_run in
-    decrypt_reply facts (history ++ more) y other_places d _ asks.there asks.body answer
-    ∙ ap (λ (key : List ℕ). reply.Decrypted s.plaintext (arn_of facts key)) id
-    ∙ ap (reply.Decrypted s.plaintext) (sym is.arn)
+    (may_open view d later s.context kinds asks.same_context asks.may) state asks.fit asks.no_recipient asks.no_dry_run in
+    decrypt_reply facts (history ++ more) y other_places d asks.there asks.body
+    ∙ answer
+    ∙ ap (λ (arn : List ℕ). unless_excepted (exception_of arn later.stored) (reply.Decrypted s.plaintext arn)) (ap (arn_of facts) id ∙ sym is.arn)
 
 -- ---- times
 
@@ -211,17 +270,12 @@ record IsInOrder (history : List Entry) : Type 0 where
   falls_never : IsNonDecreasingBy (λ (e : Entry). e.time) history
   last : (d : Entry) → 0 < length history → (get_or history (length history - 1) d).time ≡ latest_of history
 
-not_before : (facts : RealmFacts) (history : List Entry) (entry : Entry) → IsNext facts history entry → latest_of history ≤ entry.time
-not_before facts history entry (appended x proper is) =
-    let time : entry.time ≡ max x.moment (latest_of history) = (next_entry facts history x entry is).time in
-    omega arith
-not_before facts history entry (kept clock bound is) = cc
 
 in_order : (facts : RealmFacts) (history : List Entry) → IsLawful facts history → IsInOrder history
 in_order facts history empty = record { falls_never = λ i j d up within. absurd (omega arith); last = λ d some. absurd (omega arith) }
 in_order facts history (longer {history = before} entry lawful next) =
     let so_far = in_order facts before lawful in
-    let later = not_before facts before entry next in
+    let later = (comes_next facts before entry (laws_of facts before lawful).latest next).later in
     record {
       falls_never = IsNonDecreasingBy-push (λ (e : Entry). e.time) before entry so_far.falls_never (λ d some. subst (λ (n : ℕ). n ≤ entry.time) (sym (so_far.last d some)) later);
       last = λ d some.
@@ -241,11 +295,8 @@ place_told p q p_fits q_fits same =
     let iv : iv_at 0 0 p ≡ iv_at 0 0 q = ap (λ (bytes : List ℕ). to_be_bytes w32 0 ++ to_be_bytes w16 0 ++ bytes) same in
     count_told 0 0 0 0 p q p_fits q_fits iv
 
-id_ends : (facts : RealmFacts) (place : ℕ) → drop 10 (key_id_at facts place) ≡ be48 place
-id_ends facts place =
-    let text : List ℕ = codes "key" ++ be32 facts.boot ++ be48 place in
-    let digest : List ℕ = hmac_sha256 facts.root text in
-    drop_at (take 10 digest) (be48 place) 10 (omega (arith, length-take 10 digest, hmac_length facts.root text))
-
 pub keys_differ : KeysDiffer
 keys_differ facts p q p_fits q_fits same = place_told p q p_fits q_fits (sym (id_ends facts p) ∙ ap (drop 10) same ∙ id_ends facts q)
+
+pub house_kept_once : HouseIsKeptOnce
+house_kept_once facts history clock entry lawful is = kept_once history clock entry (laws_of facts history lawful).days is

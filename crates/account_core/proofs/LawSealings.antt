@@ -32,33 +32,43 @@ use Rattle.account_core.specs.Places.{Places}
 use Rattle.account_core.specs.Blobs.{BlobName, name_in, named_in, has_form}
 use Rattle.account_rows.specs.History.{replay, key_with}
 use Rattle.account_core.specs.Source.{Source}
-use Rattle.account_core.specs.View.{View, view_of}
-use Rattle.account_core.specs.Steps.{unless, or_else, and_then, unfit, key_referred, reference_of, key_of, key_if_given, blob_name, other_key, held_key, source_in, source_of, opens, seals, draws, arn_of}
+use Rattle.account_core.specs.View.{View, view_of, unless_gone, key_held}
+use Rattle.account_rows.specs.Changes.{is_gone}
+use Rattle.account_core.specs.Steps.{unless, or_else, and_then, unfit, key_referred, reference_of, key_of, key_if_given, blob_name, other_key, held_key, source_in, source_of, newest_version, opens, seals, draws, arn_of}
 use Rattle.account_core.specs.Parts.{Outcome, takes, limited, spent, no_more_draws, no_more_ivs, after}
 use Rattle.account_core.specs.Crypto.{one_iv, words_and_iv, encrypts, re_encrypts, generates_data_key, generates_sealed_data_key}
 use Rattle.account_core.specs.Decide.{decide, IsProper}
 use Rattle.account_core.specs.Laws.{Sealing, HasSealed, encrypted, re_encrypted, data_key, sealed_data_key}
 use Rattle.account_core.proofs.Openings.{size_of_opened}
-use Rattle.account_core.proofs.LawRows.{found_id}
+use Rattle.account_rows.proofs.RowFacts.{found_key}
 use Rattle.account_core.proofs.Passing.{found_of, next_of, ok_of, ok_same, passed, Serves, serves_of}
 
 -- ---- the keys
 
+-- a key that counts as there is there, and isn't gone
+pub there_of : (moment : ℕ) (o : Option KeyRow) (row : KeyRow) → unless_gone moment o ≡ Some row → o ≡ Some row
+there_of moment (Some found) row e = by_test (is_gone moment found) e
+  where
+    by_test : (b : Bool) → (if b then None else Some found) ≡ Some row → Some found ≡ Some row
+    by_test true e = cc
+    by_test false e = e
+there_of moment None row e = cc
+
 -- the key that a text refers to is there
-referred : (keys : List KeyRow) (alias : Refusal) (reference : Result KeyRef NameFault) (row : KeyRow) → key_referred keys alias reference ≡ Ok row → key_with keys row.key ≡ Some row
-referred keys alias (Ok (Key id)) row e =
-    let found = ok_of (key_with keys id) (refusal.NotFound missing.Key) row e in
-    subst (λ (key : List ℕ). key_with keys key ≡ Some row) (sym (found_id keys id row found)) found
-referred keys alias (Ok (Alias name)) row e = cc
-referred keys alias (Ok Elsewhere) row e = cc
-referred keys alias (Err fault.BadArn) row e = cc
-referred keys alias (Err fault.BadAlias) row e = cc
-referred keys alias (Err fault.BadId) row e = cc
-referred keys alias (Err fault.NoMemory) row e = cc
+referred : (view : View) (alias : Refusal) (reference : Result KeyRef NameFault) (row : KeyRow) → key_referred view alias reference ≡ Ok row → key_with view.keys row.key ≡ Some row
+referred view alias (Ok (Key id)) row e =
+    let found = there_of view.moment (key_with view.keys id) row (ok_of (key_held view id) (refusal.NotFound missing.Key) row e) in
+    subst (λ (key : List ℕ). key_with view.keys key ≡ Some row) (sym (found_key view.keys id row found)) found
+referred view alias (Ok (Alias name)) row e = cc
+referred view alias (Ok Elsewhere) row e = cc
+referred view alias (Err fault.BadArn) row e = cc
+referred view alias (Err fault.BadAlias) row e = cc
+referred view alias (Err fault.BadId) row e = cc
+referred view alias (Err fault.NoMemory) row e = cc
 
 key_there : (view : View) (reference : List ℕ) (row : KeyRow) → key_of view reference ≡ Ok row → key_with view.keys row.key ≡ Some row
 unfolding key_of
-key_there view reference row e = referred view.keys (refusal.NotFound missing.Alias) (reference_of view.facts reference) row e
+key_there view reference row e = referred view (refusal.NotFound missing.Alias) (reference_of view.facts reference) row e
 
 -- ---- an initialization vector that is left
 
@@ -194,7 +204,7 @@ module _ (facts : RealmFacts) (history : List Entry) (x : Ask) (places : Places)
   turned r turning text plaintext turns own opens_to =
       let second = next_of (unfit r.source_algorithm) (unless (unfit r.algorithm) (opens facts turning.source r.source_context)) text own in
       let third = next_of (unfit r.algorithm) (opens facts turning.source r.source_context) text second in
-      opened_is (nat_le turning.source.version 1) (opened facts.root turning.source.bytes r.source_context) text plaintext third
+      opened_is (nat_le turning.source.version (newest_version turning.source.row)) (opened facts.root turning.source.bytes r.source_context) text plaintext third
       (ap (λ (bytes : List ℕ). opened facts.root bytes r.source_context) turns.source.bytes ∙ opens_to)
 
 -- ---- a request that was answered with a sealed text

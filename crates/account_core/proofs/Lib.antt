@@ -7,8 +7,9 @@ mod Drawing
 mod Decisions
 pub mod GoingOn
 mod Passing
+mod Fit
 pub mod EntryFacts
-mod LawRows
+mod Fitting
 mod Asking
 mod Refusing
 mod Referring

@@ -11,7 +11,7 @@ use Rattle.account_core.specs.declared.facts.RealmFacts.{RealmFacts}
 use Rattle.account_rows.specs.declared.entries.Entry.{Entry}
 use Rattle.account_core.specs.Places.{Places}
 use Rattle.account_core.specs.View.{View, view_of}
-use Rattle.account_core.specs.Steps.{unless, and_then}
+use Rattle.account_core.specs.Steps.{unless, and_then, or_else}
 use Rattle.account_core.specs.Authority.{denied}
 use Rattle.account_core.specs.Parts.{Parts, Outcome, dead_token, unfit_state, limited, only_asked, cleared, outcome, decided_by, after}
 use Rattle.account_core.specs.Operations.{read_outcome}
@@ -43,6 +43,10 @@ ok_of None why wanted e = cc
 
 pub ok_same : {A : Type 0} (a b : A) → ◌≡◌ {A = Result A Refusal} (Ok a) (Ok b) → a ≡ b
 ok_same a b e = cc
+
+one_of_two : {A : Type 0} (first second : Option Refusal) (next : Result A Refusal) → unless first (unless second next) ≡ unless (or_else first second) next
+one_of_two (Some why) second next = refl
+one_of_two None second next = refl
 
 -- ---- all steps
 
@@ -100,15 +104,31 @@ module _ {F R : Type 0} (view : View) (parts : Parts F R) where
         outcome_is = ok_same (given first.value own.value) o (next_of (only_asked parts.dry_run) (Ok (given first.value own.value)) o earnest);
       }
 
-  pub goes_through : (found : F) (ready : R) → parts.found ≡ Ok found → denied view (parts.questions found) ≡ None → parts.own found ≡ Ok ready → limited view (parts.effect found ready) ≡ None → only_asked parts.dry_run ≡ None
+  pub goes_through : (found : F) (ready : R) → parts.found ≡ Ok found → denied view (parts.questions found) ≡ None → unfit_state view (parts.uses found) ≡ None → parts.own found ≡ Ok ready → limited view (parts.effect found ready) ≡ None → only_asked parts.dry_run ≡ None
       → outcome view parts ≡ Ok (record { reply = parts.reply found ready; effect = parts.effect found ready })
-  goes_through found ready found_is allowed own_is left in_earnest =
+  goes_through found ready found_is allowed fit own_is left in_earnest =
       let rest : F × R → Result Outcome Refusal = λ p. unless (limited view (parts.effect p.0 p.1)) (asked p) in
       ap (λ (f : Result F Refusal). and_then (and_then f (λ (v : F). unless (denied view (parts.questions v)) (live_of v))) rest) found_is
       ∙ ap (λ (o : Option Refusal). and_then (unless o (live_of found)) rest) allowed
+      ∙ ap (λ (o : Option Refusal). and_then (unless o (own_of found)) rest) fit
       ∙ ap (λ (r : Result R Refusal). and_then (and_then r (λ (v : R). Ok (found, v))) rest) own_is
       ∙ ap (λ (o : Option Refusal). unless o (asked (found, ready))) left
       ∙ ap (λ (o : Option Refusal). unless o (Ok (given found ready))) in_earnest
+
+  -- limits and DryRun, where all before has passed
+  pub goes_by : (found : F) (ready : R) → cleared view parts ≡ Ok (found, ready)
+      → outcome view parts ≡ unless (or_else (limited view (parts.effect found ready)) (only_asked parts.dry_run)) (Ok (given found ready))
+  goes_by found ready clear =
+      ap (λ (c : Result (F × R) Refusal). and_then c (λ (p : F × R). unless (limited view (parts.effect p.0 p.1)) (asked p))) clear
+      ∙ one_of_two (limited view (parts.effect found ready)) (only_asked parts.dry_run) (Ok (given found ready))
+
+  -- a key's state refuses
+  pub stops_at_state : (found : F) (why : Refusal) → parts.found ≡ Ok found → denied view (parts.questions found) ≡ None → unfit_state view (parts.uses found) ≡ Some why → outcome view parts ≡ Err why
+  stops_at_state found why found_is allowed unfit =
+      let rest : F × R → Result Outcome Refusal = λ p. unless (limited view (parts.effect p.0 p.1)) (asked p) in
+      ap (λ (f : Result F Refusal). and_then (and_then f (λ (v : F). unless (denied view (parts.questions v)) (live_of v))) rest) found_is
+      ∙ ap (λ (o : Option Refusal). and_then (unless o (live_of found)) rest) allowed
+      ∙ ap (λ (o : Option Refusal). and_then (unless o (own_of found)) rest) unfit
 
 -- ---- a decision that serves
 

@@ -1,5 +1,5 @@
 -- Laws of what the account seals.
-use Rattle.std.specs.Prelude.{◌≡◌, ◌≢◌, ◌^◌, ℕ, ◌<◌, List, ◌++◌, length, slice_index, slice_range, Bool, false, Option, Some, None, Ok, All, ◌↔◌, ◌∷◌}
+use Rattle.std.specs.Prelude.{◌≡◌, ◌≢◌, ◌^◌, ℕ, ◌<◌, List, [], ◌++◌, length, slice_index, slice_range, Bool, false, Option, Some, None, Ok, All, ◌↔◌, ◌∷◌}
 use Rattle.std.specs.List.Sorted.{IsNonDecreasingBy}
 use Rattle.blob_format.specs.Blob.{IsBlobText}
 use Rattle.enc_context.specs.declared.pairs.Pair.{Pair}
@@ -19,14 +19,18 @@ use Rattle.kms_json.specs.declared.asks.cryptography.ReEncrypt.{ReEncrypt}
 use Rattle.kms_json.specs.declared.asks.cryptography.DataKey.{DataKey}
 use Rattle.kms_json.specs.declared.replies.Reply.{Reply}
 use Rattle.kms_json.specs.declared.replies.Reply.TheVariants as reply
+use Rattle.kms_json.specs.declared.replies.Reply.TheVariants.{Refused}
+use Rattle.kms_json.specs.declared.states.KeyState.TheVariants as told
+use Rattle.key_states.specs.declared.states.Stored.{Stored}
+use Rattle.key_states.specs.declared.states.Stored.TheVariants as stored
 use Rattle.account_core.specs.declared.facts.RealmFacts.{RealmFacts}
 use Rattle.account_rows.specs.declared.entries.Entry.{Entry}
 use Rattle.key_states.specs.declared.rows.KeyRow.{KeyRow}
 use Rattle.account_core.specs.Ids.{key_id_at}
 use Rattle.account_core.specs.Places.{Places, IsUpTo}
 use Rattle.account_core.specs.Blobs.{BlobName, name_in, named_in}
-use Rattle.account_rows.specs.History.{key_with}
-use Rattle.account_core.specs.View.{View, view_of}
+use Rattle.account_rows.specs.History.{housekeeping_of}
+use Rattle.account_core.specs.View.{View, view_of, key_held}
 use Rattle.account_core.specs.Steps.{unfit, draws, reference_of}
 use Rattle.account_core.specs.Authority.{Question, of_context, resource_of, denied, setting_of, MayAsk}
 use Rattle.account_core.specs.Decide.{lacking, decide, IsProper, IsLawful}
@@ -61,34 +65,42 @@ abbrev pub NoneOrNames : RealmFacts → Option (List ℕ) → List ℕ → Type 
 NoneOrNames facts None key = Unit {0}
 NoneOrNames facts (Some reference) key = reference_of facts reference ≡ Ok (Key key)
 
--- the caller may decrypt under the key of this id with this context
-abbrev pub MayDecrypt : View → List ℕ → List Pair → Type 0
-MayDecrypt view key context =
-    (row : KeyRow) → key_with view.keys key ≡ Some row → MayAsk view (record { action = action.Decrypt; key = Some row; particulars = of_context context })
-
--- the request asks, at a history, what this blob opens to under this context. The caller may decrypt under the blob's key, any
--- key that it names is the blob's, any algorithm is that of symmetric keys, it has no Recipient and no DryRun, and waits for no
--- more entries
+-- the request asks, at a history, what this blob opens to under this context. The blob's key is there, and not gone; the caller
+-- may decrypt under it; any key that the request names is the blob's, any algorithm is that of symmetric keys, it has no
+-- Recipient and no DryRun, and waits for no more entries
 pub record AsksToOpen (facts : RealmFacts) (history : List Entry) (y : Ask) (places : Places) (blob : List ℕ) (context : List Pair) : Type 0 where
   pub fields : Decrypt
   pub body : y.body ≡ ask.Read (reading.Decrypt fields)
   pub same_blob : fields.blob ≡ blob
   pub same_context : fields.context ≡ context
   pub right_key : NoneOrNames facts fields.key_id (name_in blob).key
-  pub may : MayDecrypt (view_of facts history y places) (name_in blob).key context
+  pub held : KeyRow
+  pub is_held : key_held (view_of facts history y places) (name_in blob).key ≡ Some held
+  pub may : MayAsk (view_of facts history y places) (record { action = action.Decrypt; key = Some held; particulars = of_context context })
   pub fit : unfit fields.algorithm ≡ None
   pub no_recipient : fields.recipient ≡ false
   pub no_dry_run : fields.dry_run ≡ false
   pub there : lacking (length history) y.after ≡ None
 
+-- the exception of a key that isn't enabled
+abbrev pub exception_of : List ℕ → Stored → Option Refusal
+exception_of arn stored.Enabled = None
+exception_of arn stored.Disabled = Some (refusal.Disabled arn)
+exception_of arn (stored.Pending date days) = Some (refusal.InvalidState arn (told.PendingDeletion date))
+
+abbrev pub unless_excepted : Option Refusal → Reply → Reply
+unless_excepted None reply = reply
+unless_excepted (Some why) reply = Refused why
+
 -- the text that a request sealed is what Decrypt answers for its blob, with the ARN of the same key, at that history and at
--- every lawful one that goes on from it, to whoever may decrypt and by whatever pass
+-- every lawful one that goes on from it, whatever rotations stand between, to whoever may decrypt and by whatever pass, where
+-- the key is enabled; where it is disabled, or its deletion is scheduled, the answer is the exception of that state
 abbrev pub SealedIsDecryptedAgain : Type 0
 SealedIsDecryptedAgain =
     (facts : RealmFacts) (history more : List Entry) (x y : Ask) (places other_places : Places) (sealing : Sealing)
     → IsLawful facts (history ++ more) → IsProper facts x → HasSealed facts history x places sealing
-    → AreIdentityPolicies (callers_policies facts.identities y.caller) → AsksToOpen facts (history ++ more) y other_places sealing.blob sealing.context
-    → reply_to facts (history ++ more) y other_places ≡ reply.Decrypted sealing.plaintext sealing.arn
+    → AreIdentityPolicies (callers_policies facts.identities y.caller) → (asks : AsksToOpen facts (history ++ more) y other_places sealing.blob sealing.context)
+    → reply_to facts (history ++ more) y other_places ≡ unless_excepted (exception_of sealing.arn asks.held.stored) (reply.Decrypted sealing.plaintext sealing.arn)
 
 -- where a pass's requests, each at some history, leave its places: where their decisions say, or for want of memory at most there
 pub data PassGoesOn (facts : RealmFacts) : Places → Places → Type 0 where
@@ -128,6 +140,12 @@ TimesNeverFall = (facts : RealmFacts) (history : List Entry) → IsLawful facts 
 -- keys that entries at different places make have different ids
 abbrev pub KeysDiffer : Type 0
 KeysDiffer = (facts : RealmFacts) (p q : ℕ) → p < 2 ^ 48 → q < 2 ^ 48 → key_id_at facts p ≡ key_id_at facts q → p ≡ q
+
+-- housekeeping that was kept at a clock's answer has nothing more to do at it
+abbrev pub HouseIsKeptOnce : Type 0
+HouseIsKeptOnce =
+    (facts : RealmFacts) (history : List Entry) (clock : ℕ) (entry : Entry) → IsLawful facts history → housekeeping_of history clock ≡ Some entry
+    → housekeeping_of (history ++ entry ∷ []) clock ≡ None
 
 -- ---- authority
 

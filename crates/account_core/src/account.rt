@@ -1,5 +1,5 @@
 // The account.
-ghost use Rattle.std.specs.Prelude.{◌≡◌, ◌++◌, ◌∷◌, [], length, true, false, IfOk};
+ghost use Rattle.std.specs.Prelude.{◌≡◌, ◌<◌, ◌++◌, ◌∷◌, [], length, true, false, IfOk};
 
 use crate::decide::{decision_from, lacking_entries};
 use crate::operations::{change_body, read_body};
@@ -35,7 +35,7 @@ impl Model for Account {
 }
 
 impl Account {
-    ghost use Rattle.std.specs.Prelude.{◌≡◌, ◌++◌, ◌∷◌, [], length, true, false, IfOk};
+    ghost use Rattle.std.specs.Prelude.{◌≡◌, ◌<◌, ◌++◌, ◌∷◌, [], length, true, false, IfOk};
     ghost use Rattle.kms_json.specs.Asks.{changes_account};
     ghost use Rattle.account_rows.specs.History.{latest_of, housekeeping_of};
     ghost use Rattle.std.specs.Prelude.{OnOk, OnErr};

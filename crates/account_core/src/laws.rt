@@ -1,12 +1,14 @@
 //! Laws of what the account answers. Each stands as the contract of a function that does nothing.
 
-ghost use Rattle.account_core.specs.Laws.{SealedIsDecryptedAgain, OnePassRepeatsNoIv, BlobsAreNamed, NamedAreBlobs, TimesNeverFall, KeysDiffer, PassesWhereStatementsAllow, NamesTheFirstDenied};
+ghost use Rattle.account_core.specs.Laws.{SealedIsDecryptedAgain, OnePassRepeatsNoIv, BlobsAreNamed, NamedAreBlobs, TimesNeverFall, HouseIsKeptOnce, KeysDiffer, PassesWhereStatementsAllow, NamesTheFirstDenied};
 
 /// What Encrypt, ReEncrypt or a data key call answered as sealed under a context, Decrypt opens to the
-/// text that was sealed, at that history and at every lawful one that goes on from it: under an equal
-/// context, for any pass and any caller whom statements allow it, where the key is left out or is the
-/// blob's, the algorithm is left out or that of symmetric keys, and the request has no Recipient and no
-/// DryRun, and waits for no entry that isn't there. The reply names the key that sealed the text.
+/// text that was sealed, at that history and at every lawful one that goes on from it, where the key is
+/// there and enabled, whatever rotations stand between: under an equal context, for any pass and any
+/// caller whom statements allow it, where the key is left out or is the blob's, the algorithm is left out
+/// or that of symmetric keys, and the request has no Recipient and no DryRun, and waits for no entry that
+/// isn't there. The reply names the key that sealed the text. Where the key is disabled, or its deletion
+/// is scheduled, the reply is the exception of that state.
 pub fn sealed_is_decrypted_again()
     ensures { SealedIsDecryptedAgain }
 {}
@@ -27,6 +29,11 @@ pub fn blobs_name_their_keys()
 /// Along a lawful history times never fall, whatever the clock answers.
 pub fn times_never_fall()
     ensures { TimesNeverFall }
+{}
+
+/// After housekeeping at a clock's answer there is nothing more to do at it.
+pub fn house_is_kept_once()
+    ensures { HouseIsKeptOnce }
 {}
 
 /// Keys that are made at different places of a history have different ids. A place is below 2^48.

@@ -3,7 +3,7 @@
 ghost use Rattle.std.specs.Prelude.{◌≡◌, IfOk, OnOk, OnErr, None, length};
 ghost use Rattle.account_core.specs.Places.{places_of, line_at, IsLineOf, IsWithin};
 ghost use Rattle.account_core.specs.View.{View as SeenView};
-ghost use Rattle.account_core.specs.Steps.{Gives, Passes, stopping};
+ghost use Rattle.account_core.specs.Steps.{Gives, Passes, or_else, stopping};
 ghost use Rattle.account_core.specs.Authority.{denied};
 ghost use Rattle.account_core.specs.Parts.{Parts, takes, cleared, outcome, decided_by, spent, full, overfull, limited, only_asked, after, unfit_state, entries_full, bytes_full, rotations_full, keys_full};
 ghost use Rattle.account_core.specs.Settling.{Settles, Makes, effect_with};
@@ -198,13 +198,22 @@ pub fn read<O: Reads>(alloc: Global, operation: &O, line: &mut DrawLine) -> Resu
     Ok(operation.serve(alloc, found, ready, line)?)
 }
 
+// The limits of an entry, and then DryRun.
+fn let_pass<O: Operation>(operation: &O, entry: &Option<Entry>) -> Result<(), Stop>
+    ensures { Passes (or_else (limited (O.seen operation.now) (effect_with entry.now)) (only_asked (O.parts operation.now).dry_run)) result }
+{
+    refuse(limited(operation.view(), entry))?;
+    refuse(only_asked(operation.dry_run()))
+}
+
 /// What a request that changes the account comes to.
 pub fn change<O: Changes>(alloc: Global, operation: &O) -> Result<Made, Stop>
     ensures { Makes (outcome (O.seen operation.now) (O.parts operation.now)) result }
 {
     let (found, ready) = clear(alloc, operation)?;
     let made = operation.make(alloc, found, ready)?;
-    refuse(limited(operation.view(), &made.entry))?;
-    refuse(only_asked(operation.dry_run()))?;
-    Ok(made)
+    match let_pass(operation, &made.entry) {
+        Ok(()) => Ok(made),
+        Err(stop) => Err(stop),
+    }
 }

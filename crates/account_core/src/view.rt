@@ -1,13 +1,15 @@
 // What every step of a decision goes by.
 ghost use Rattle.std.specs.Prelude.{◌≡◌};
 ghost use Rattle.account_core.specs.Parts.{told_state};
+ghost use Rattle.key_states.specs.Permissions.{refusal_of, need_of};
+ghost use Rattle.key_states.specs.States.{state_of};
 
 use crate::RealmFacts;
 use crate::places::Places;
 use crate::stops::Stop;
 use account_rows::{Lent, Rows, is_gone};
 use authority::{KeyPolicy, Particulars, Setting};
-use key_states::{State, StateFault, Stored, permits};
+use key_states::{KeyRow, State, StateFault, Stored, permits};
 use kms_json::{KeyState, Refusal};
 use kms_names::{Action, KeyId, NoMemory, Principal, Text, key_arn};
 use policy_eval::Compiled;
@@ -241,21 +243,28 @@ impl<'a> View<'a> {
         ensures { Passes (unfit_one self.now (record { action = action; key = lent.now })) result }
     {
         let row = lent.row();
-        let state = row.state_at(self.moment);
-        if state == State::Gone {
-            return Ok(());
+        match fault_of(row, action, self.moment()) {
+            Some(StateFault::Disabled) => {
+                let arn = self.arn(alloc, &row.key)?;
+                Err(Stop::Refused(Refusal::Disabled(arn)))
+            }
+            Some(StateFault::InvalidState) => {
+                let arn = self.arn(alloc, &row.key)?;
+                let state = told_state(row.stored);
+                Err(Stop::Refused(Refusal::InvalidState { arn, state }))
+            }
+            None => Ok(()),
         }
-        let Some(fault) = permits(action, state) else {
-            return Ok(());
-        };
-        let arn = self.arn(alloc, &row.key)?;
-        Err(Stop::Refused(match fault {
-            StateFault::Disabled => Refusal::Disabled(arn),
-            StateFault::InvalidState => Refusal::InvalidState {
-                arn,
-                state: told_state(row.stored),
-            },
-        }))
+    }
+}
+
+// How the state of a key refuses an action. A key that is gone isn't looked up.
+fn fault_of(row: &KeyRow, action: Action, moment: u64) -> Option<StateFault>
+    ensures { result ≡ refusal_of (need_of action) (state_of row.now.stored moment) }
+{
+    match row.state_at(moment) {
+        State::Gone => None,
+        state => permits(action, state),
     }
 }
 

@@ -8,7 +8,7 @@ use Rattle.account_rows.specs.declared.entries.What.{What}
 use Rattle.account_rows.specs.declared.entries.What.TheVariants as what
 use Rattle.account_rows.specs.Changes.{keys_after}
 use Rattle.account_rows.specs.History.{State, step, nothing_yet, replay, key_with, place_in, IsMadeHere, AreRows}
-use Rattle.account_rows.proofs.RowFacts.{Follows, IsNew, all_after, found_all, found_key, replay-entries}
+use Rattle.account_rows.proofs.RowFacts.{Follows, IsNew, all_after, found_all, found_key, replay-entries, rows_after, no_rows}
 use Rattle.account_rows.proofs.Lookups.{unique}
 
 -- the rows of an id have at least so many versions
@@ -61,10 +61,25 @@ pub made_push : (n : ℕ) (history : List Entry) (entry : Entry) → AreMadeFrom
 made_push n [] entry made here = (subst (λ (m : ℕ). IsMadeHere m entry.what) (omega arith) here, tt)
 made_push n (first ∷ history) entry made here = (made.0, made_push (n + 1) history entry made.1 (subst (λ (m : ℕ). IsMadeHere m entry.what) (omega arith) here))
 
+made_front : (n : ℕ) (history more : List Entry) → AreMadeFrom n (history ++ more) → AreMadeFrom n history
+made_front n [] more made = tt
+made_front n (entry ∷ history) more made = (made.0, made_front (n + 1) history more made.1)
+
+rows_from : (state : State) (more : List Entry) → AreMadeFrom state.entries more → AreRows state.entries state.keys → AreRows (state.entries + length more) (fold step state more).keys
+rows_from state [] made are = subst (λ (n : ℕ). AreRows n state.keys) (omega arith) are
+rows_from state (entry ∷ more) made are =
+    subst (λ (n : ℕ). AreRows n (fold step state (entry ∷ more)).keys) (omega arith)
+    (rows_from (step state entry) more made.1 (rows_after state.entries entry.time entry.what state.keys made.0 are))
+
+pub made_rows : (history more : List Entry) → AreMadeFrom 0 (history ++ more) → AreRows (length history) (replay history).keys
+made_rows history more made =
+    subst (λ (n : ℕ). AreRows n (replay history).keys) (omega arith) (rows_from nothing_yet history (made_front 0 history more made) (no_rows 0 [] refl))
+
 -- a key that is there at a history and at a longer one has no fewer versions at the longer one
-pub versions_grow : (history more : List Entry) (id : List ℕ) (row later : KeyRow) → AreMadeFrom 0 (history ++ more) → AreRows (length history) (replay history).keys
+pub versions_grow : (history more : List Entry) (id : List ℕ) (row later : KeyRow) → AreMadeFrom 0 (history ++ more)
     → key_with (replay history).keys id ≡ Some row → key_with (replay (history ++ more)).keys id ≡ Some later → later.key ≡ id → length row.versions ≤ length later.versions
-versions_grow history more id row later made are found found_later is =
+versions_grow history more id row later made found found_later is =
+    let are : AreRows (length history) (replay history).keys = made_rows history more made in
     let entries : (replay history).entries ≡ length history = replay-entries history in
     let row_of = found_all (λ (r : KeyRow). (r.key ≡ id) → place_in id < length history) (replay history).keys id row found (λ k d lt same. before k d lt same) in
     let least = least_from (length row.versions) id (replay history) more
@@ -79,7 +94,7 @@ versions_grow history more id row later made are found found_later is =
     from_zero n = omega arith
 
     before : (k : ℕ) (d : KeyRow) → k < length (replay history).keys → (get_or (replay history).keys k d).key ≡ id → place_in id < length history
-    before k d lt same = let is_row = are.each k d lt in omega (arith, ap place_in same, is_row.named, is_row.before)
+    before k d lt same = let is_row = (made_rows history more made).each k d lt in omega (arith, ap place_in same, is_row.named, is_row.before)
 
     key_of : (r : KeyRow) → key_with (replay history).keys id ≡ Some r → r.key ≡ id
     key_of r e = found_key (replay history).keys id r e

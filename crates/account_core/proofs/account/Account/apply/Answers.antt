@@ -1,23 +1,18 @@
-use Rattle.std.proofs.Common.{◌≡◌, ap, ap₂, ◌∙◌, sym, subst, List, length, ℕ, ◌++◌, ◌∷◌, []}
-use Rattle.account_core.specs.Account.{Account}
-use Rattle.key_states.specs.declared.rows.KeyRow.{KeyRow}
+use Rattle.std.proofs.Common.{◌≡◌, ap, ◌∙◌, sym, subst, List, ◌++◌, ◌∷◌, []}
 use Rattle.account_rows.specs.declared.entries.Entry.{Entry}
+use Rattle.account_rows.specs.History.{IsFitting}
+use Rattle.account_core.specs.Account.{Account}
 use Rattle.account_core.specs.Decide.{IsNext}
-use Rattle.account_rows.specs.History.{replay, latest_of, keys_after}
-use Rattle.account_core.proofs.Histories.{replay-push, latest-push, lawful_more}
+use Rattle.account_core.proofs.Histories.{lawful_more}
+use Rattle.account_core.proofs.Fitting.{laws_of, comes_next}
 use Rattle.account_core.proofs.account.Account.apply.Goals as goal
+
+pub apply-requires : goal.apply-requires
+apply-requires c =
+    let next = subst (λ (a : Account). IsNext a.facts a.entries c.args.entry.now) (sym c.self.view_is) c.requires in
+    (comes_next c.self.inside.realm c.self.inside.rows c.args.entry.now (laws_of c.self.inside.realm c.self.inside.rows c.self.invariant).latest next).fits
 
 pub invariant_of-result : goal.invariant_of-result
 invariant_of-result c =
-    let history = c.self.inside.entries.items in
-    let entry = c.args.entry.now in
-    let entries = c.in_ok-with_entry.ensures in
-    let grown = entries ∙ ap (λ (h : List Entry). h ++ entry ∷ []) c.deref.ensures.value in
-    let place : c.len-place.result ≡ length history = c.len-place.ensures ∙ c.self.inside.entries.ok.0 in
-    let keys = c.in_ok-keys_with.ensures ∙ ap₂ (λ (n : ℕ) (rows : List KeyRow). keys_after n entry.time entry.what rows) place (c.deref-2.ensures.value ∙ c.self.invariant.keys) in
-    let next = subst (λ (a : Account). IsNext a.facts a.entries entry) (sym c.self.view_is) c.requires in
-    record {
-      keys = keys ∙ sym (replay-push history entry) ∙ ap (λ h. (replay h).keys) (sym grown);
-      latest = sym (latest-push history entry) ∙ ap latest_of (sym grown);
-      lawful = lawful_more c.self.inside.realm c.in_ok-share.field-0 history c.in_ok-with_entry.field-0.items entry c.in_ok-share.ensures grown c.self.invariant.lawful next;
-    }
+    let next = subst (λ (a : Account). IsNext a.facts a.entries c.args.entry.now) (sym c.self.view_is) c.requires in
+    lawful_more c.self.inside.realm c.in_ok-share.field-0 c.self.inside.rows c.in_ok-apply.field-0 c.args.entry.now c.in_ok-share.ensures c.in_ok-apply.ensures c.self.invariant next

@@ -1,4 +1,6 @@
-use Rattle.std.proofs.Common.{◌≡◌, ℕ, length, sym, ap, ◌∙◌}
+use Rattle.std.proofs.Common.{◌≡◌, ℕ, length, sym, ap, subst, ◌∙◌}
+use Rattle.kms_json.specs.Asks.{IsSized}
+use Rattle.kms_json.proofs.Sizes.{asked_sized}
 use Rattle.account_core.specs.Account.{Account}
 use Rattle.account_core.specs.Places.{no_places}
 use Rattle.account_core.specs.Parts.{decided_by}
@@ -6,11 +8,16 @@ use Rattle.account_core.specs.Decide.{lacking}
 use Rattle.account_core.proofs.Decisions.{refused_first, by_change, made_refusal, refuses, makes}
 use Rattle.account_core.proofs.account.Account.decide_change.Goals as goal
 
+pub change_body-requires : goal.change_body-requires
+change_body-requires c =
+    let proper = c.requires.proper in
+    record { sized = subst IsSized c.in-Change.is (asked_sized proper.target proper.text c.args.ask.now.body proper.body) }
+
 pub returns-in-Some : goal.returns-in-Some
 returns-in-Some c =
     let a = c.args.self.now in
     let x = c.args.ask.now in
-    let number : c.len.result ≡ length a.entries = c.len.ensures ∙ c.self.inside.entries.ok.0 ∙ ap (λ (s : Account). length s.entries) c.self.view_is in
+    let number : c.entries.result ≡ length a.entries = c.entries.ensures.number ∙ ap (λ (s : Account). length s.entries) c.self.view_is in
     let short = c.in-Some.ensures ∙ ap (λ (n : ℕ). lacking n x.after) number in
     refuses a.facts a.entries x c.in-Some.refusal (sym (refused_first a.facts a.entries x no_places c.in-Some.refusal short))
 
@@ -18,7 +25,7 @@ pub returns-in-Ok : goal.returns-in-Ok
 returns-in-Ok c =
     let a = c.args.self.now in
     let x = c.args.ask.now in
-    let number : c.len.result ≡ length a.entries = c.len.ensures ∙ c.self.inside.entries.ok.0 ∙ ap (λ (s : Account). length s.entries) c.self.view_is in
+    let number : c.entries.result ≡ length a.entries = c.entries.ensures.number ∙ ap (λ (s : Account). length s.entries) c.self.view_is in
     let enough = c.in_default.ensures ∙ ap (λ (n : ℕ). lacking n x.after) number in
     let is = by_change a.facts a.entries x no_places c.in_ok-view.view c.in-Change.body enough c.in-Change.is c.in_ok-view.ensures in
     c.decision_from.ensures ∙ makes a.facts a.entries x c.in-Ok.made (sym (ap (λ o. decided_by o no_places) c.in-Ok.ensures) ∙ is)
@@ -27,7 +34,7 @@ pub returns-in-Err-Refused : goal.returns-in-Err-Refused
 returns-in-Err-Refused c =
     let a = c.args.self.now in
     let x = c.args.ask.now in
-    let number : c.len.result ≡ length a.entries = c.len.ensures ∙ c.self.inside.entries.ok.0 ∙ ap (λ (s : Account). length s.entries) c.self.view_is in
+    let number : c.entries.result ≡ length a.entries = c.entries.ensures.number ∙ ap (λ (s : Account). length s.entries) c.self.view_is in
     let enough = c.in_default.ensures ∙ ap (λ (n : ℕ). lacking n x.after) number in
     let is = by_change a.facts a.entries x no_places c.in_ok-view.view c.in-Change.body enough c.in-Change.is c.in_ok-view.ensures in
     let refused = made_refusal _ c.in-Err-Refused.field-0 c.in-Err-Refused.refusal c.in-Err-Refused.field-0-is c.in-Err-Refused.ensures in

@@ -15,7 +15,7 @@ pub returns-in-Some-clause-answer : goal.returns-in-Some-clause-answer
 returns-in-Some-clause-answer c =
     let a = c.args.self.now in
     let x = c.args.ask.now in
-    let number : c.len.result ≡ length a.entries = c.len.ensures ∙ c.self.inside.entries.ok.0 ∙ ap (λ (s : Account). length s.entries) c.self.view_is in
+    let number : c.entries.result ≡ length a.entries = c.entries.ensures.number ∙ ap (λ (s : Account). length s.entries) c.self.view_is in
     let short = c.in-Some.ensures ∙ ap (λ (n : ℕ). lacking n x.after) number in
     sym (ap (λ (d : Decided). d.reply) (refused_first a.facts a.entries x (places_of c.args.places.now) c.in-Some.refusal short))
 
@@ -24,7 +24,7 @@ returns-in-Some-clause-used c =
     let a = c.args.self.now in
     let x = c.args.ask.now in
     let line = c.args.places.now in
-    let number : c.len.result ≡ length a.entries = c.len.ensures ∙ c.self.inside.entries.ok.0 ∙ ap (λ (s : Account). length s.entries) c.self.view_is in
+    let number : c.entries.result ≡ length a.entries = c.entries.ensures.number ∙ ap (λ (s : Account). length s.entries) c.self.view_is in
     let short = c.in-Some.ensures ∙ ap (λ (n : ℕ). lacking n x.after) number in
     sym (ap (λ (d : Decided). line_at line d.places) (refused_first a.facts a.entries x (places_of line) c.in-Some.refusal short))
 
@@ -37,7 +37,7 @@ pub returns-in-Ok-clause-answer : goal.returns-in-Ok-clause-answer
 returns-in-Ok-clause-answer c =
     let a = c.args.self.now in
     let x = c.args.ask.now in
-    let number : c.len.result ≡ length a.entries = c.len.ensures ∙ c.self.inside.entries.ok.0 ∙ ap (λ (s : Account). length s.entries) c.self.view_is in
+    let number : c.entries.result ≡ length a.entries = c.entries.ensures.number ∙ ap (λ (s : Account). length s.entries) c.self.view_is in
     let enough = c.in_default.ensures ∙ ap (λ (n : ℕ). lacking n x.after) number in
     let seen = c.in_ok-view.ensures ∙ ap (view_of a.facts a.entries x) c.of.ensures in
     c.in-Ok.ensures.0 ∙ ap (λ (d : Decided). d.reply) (by_read a.facts a.entries x (places_of c.args.places.now) c.in_ok-view.view c.in-Read.body enough c.in-Read.is seen)
@@ -47,7 +47,7 @@ returns-in-Ok-clause-used c =
     let a = c.args.self.now in
     let x = c.args.ask.now in
     let line = c.args.places.now in
-    let number : c.len.result ≡ length a.entries = c.len.ensures ∙ c.self.inside.entries.ok.0 ∙ ap (λ (s : Account). length s.entries) c.self.view_is in
+    let number : c.entries.result ≡ length a.entries = c.entries.ensures.number ∙ ap (λ (s : Account). length s.entries) c.self.view_is in
     let enough = c.in_default.ensures ∙ ap (λ (n : ℕ). lacking n x.after) number in
     let seen = c.in_ok-view.ensures ∙ ap (view_of a.facts a.entries x) c.of.ensures in
     c.in-Ok.ensures.1 ∙ ap (λ (d : Decided). line_at line d.places) (by_read a.facts a.entries x (places_of line) c.in_ok-view.view c.in-Read.body enough c.in-Read.is seen)
@@ -57,7 +57,7 @@ returns-in-Err-Refused-clause-answer c =
     let a = c.args.self.now in
     let x = c.args.ask.now in
     let line = c.args.places.now in
-    let number : c.len.result ≡ length a.entries = c.len.ensures ∙ c.self.inside.entries.ok.0 ∙ ap (λ (s : Account). length s.entries) c.self.view_is in
+    let number : c.entries.result ≡ length a.entries = c.entries.ensures.number ∙ ap (λ (s : Account). length s.entries) c.self.view_is in
     let enough = c.in_default.ensures ∙ ap (λ (n : ℕ). lacking n x.after) number in
     let seen = c.in_ok-view.ensures ∙ ap (view_of a.facts a.entries x) c.of.ensures in
     let stopped = at_refusal (decided_by (read_outcome c.in_ok-view.view c.in-Read.body) (places_of line)) line c.read_body.new.line c.in-Err-Refused.field-0 c.in-Err-Refused.refusal c.in-Err-Refused.field-0-is c.in-Err-Refused.ensures in
@@ -68,7 +68,7 @@ returns-in-Err-Refused-clause-used c =
     let a = c.args.self.now in
     let x = c.args.ask.now in
     let line = c.args.places.now in
-    let number : c.len.result ≡ length a.entries = c.len.ensures ∙ c.self.inside.entries.ok.0 ∙ ap (λ (s : Account). length s.entries) c.self.view_is in
+    let number : c.entries.result ≡ length a.entries = c.entries.ensures.number ∙ ap (λ (s : Account). length s.entries) c.self.view_is in
     let enough = c.in_default.ensures ∙ ap (λ (n : ℕ). lacking n x.after) number in
     let seen = c.in_ok-view.ensures ∙ ap (view_of a.facts a.entries x) c.of.ensures in
     let stopped = at_refusal (decided_by (read_outcome c.in_ok-view.view c.in-Read.body) (places_of line)) line c.read_body.new.line c.in-Err-Refused.field-0 c.in-Err-Refused.refusal c.in-Err-Refused.field-0-is c.in-Err-Refused.ensures in
@@ -79,7 +79,7 @@ returns-in-Err-NoMemory-clause-within c =
     let a = c.args.self.now in
     let x = c.args.ask.now in
     let line = c.args.places.now in
-    let number : c.len.result ≡ length a.entries = c.len.ensures ∙ c.self.inside.entries.ok.0 ∙ ap (λ (s : Account). length s.entries) c.self.view_is in
+    let number : c.entries.result ≡ length a.entries = c.entries.ensures.number ∙ ap (λ (s : Account). length s.entries) c.self.view_is in
     let enough = c.in_default.ensures ∙ ap (λ (n : ℕ). lacking n x.after) number in
     let seen = c.in_ok-view.ensures ∙ ap (view_of a.facts a.entries x) c.of.ensures in
     let is = by_read a.facts a.entries x (places_of line) c.in_ok-view.view c.in-Read.body enough c.in-Read.is seen in
