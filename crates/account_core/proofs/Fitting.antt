@@ -84,15 +84,17 @@ record IsKept (history : List Entry) (clock : ℕ) (entry : Entry) : Type 0 wher
   house : entry.what ≡ what.House
   room : has_room history (size_of what.House) ≡ true
 
+kept_by : (history : List Entry) (clock : ℕ) (entry : Entry) (a b : Bool) → has_room history (size_of what.House) ≡ b
+    → (if a && b then Some (record { time = moment_of history clock; what = what.House }) else None) ≡ Some entry → IsKept history clock entry
+kept_by history clock entry true true room e =
+    let same : record { time = moment_of history clock; what = what.House } ≡ entry = cc in
+    record { time = ap (λ (x : Entry). x.time) (sym same); house = ap (λ (x : Entry). x.what) (sym same); room = room }
+kept_by history clock entry true false room e = cc
+kept_by history clock entry false b room e = cc
+
 kept_is : (history : List Entry) (clock : ℕ) (entry : Entry) → housekeeping_of history clock ≡ Some entry → IsKept history clock entry
-kept_is history clock entry e = by_test (wants_house (moment_of history clock) (replay history).keys) (has_room history (size_of what.House)) refl e
-  where
-    by_test : (a b : Bool) → has_room history (size_of what.House) ≡ b → (if a && b then Some (record { time = moment_of history clock; what = what.House }) else None) ≡ Some entry → IsKept history clock entry
-    by_test true true room e =
-        let same : record { time = moment_of history clock; what = what.House } ≡ entry = cc in
-        record { time = ap (λ (x : Entry). x.time) (sym same); house = ap (λ (x : Entry). x.what) (sym same); room = room }
-    by_test true false room e = cc
-    by_test false b room e = cc
+unfolding housekeeping_of
+kept_is history clock entry e = kept_by history clock entry (wants_house (moment_of history clock) (replay history).keys) (has_room history (size_of what.House)) refl e
 
 both_true : (a b : Bool) → (a && b) ≡ true → (a ≡ true) × (b ≡ true)
 both_true true true e = (refl, refl)

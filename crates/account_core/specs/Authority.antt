@@ -57,20 +57,26 @@ denied view (q ∷ questions) = or_else (denied_one view q) (denied view questio
 
 -- about a key
 abbrev pub of_key : Particulars
-of_key = record { keyed = true; context = []; same_key = None; bypass = None }
+of_key = record { keyed = true; context = []; same_key = None; bypass = None; window = None; period = None }
 
 abbrev pub of_context : List Pair → Particulars
-of_context context = record { keyed = true; context = context; same_key = None; bypass = None }
+of_context context = record { keyed = true; context = context; same_key = None; bypass = None; window = None; period = None }
 
 abbrev pub of_turning : List Pair → Bool → Particulars
-of_turning context same = record { keyed = true; context = context; same_key = Some same; bypass = None }
+of_turning context same = record { keyed = true; context = context; same_key = Some same; bypass = None; window = None; period = None }
 
 abbrev pub of_policy : Bool → Particulars
-of_policy bypass = record { keyed = true; context = []; same_key = None; bypass = Some bypass }
+of_policy bypass = record { keyed = true; context = []; same_key = None; bypass = Some bypass; window = None; period = None }
+
+abbrev pub of_window : ℕ → Particulars
+of_window days = record { keyed = true; context = []; same_key = None; bypass = None; window = Some days; period = None }
+
+abbrev pub of_period : ℕ → Particulars
+of_period days = record { keyed = true; context = []; same_key = None; bypass = None; window = None; period = Some days }
 
 -- about no key
 abbrev pub of_none : Particulars
-of_none = record { keyed = false; context = []; same_key = None; bypass = None }
+of_none = record { keyed = false; context = []; same_key = None; bypass = None; window = None; period = None }
 
 -- ---- in terms of statements
 

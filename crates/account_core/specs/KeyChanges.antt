@@ -17,7 +17,8 @@ use Rattle.account_core.specs.declared.key_changes.KeyChange.{KeyChange}
 use Rattle.account_core.specs.declared.key_changes.KeyChange.TheVariants as change
 use Rattle.account_core.specs.Places.{nothing_used}
 use Rattle.account_core.specs.Steps.{only_key_of, arn_of}
-use Rattle.account_core.specs.Authority.{of_key}
+use Rattle.authority.specs.Setting.{Particulars}
+use Rattle.account_core.specs.Authority.{of_key, of_window, of_period}
 use Rattle.account_core.specs.View.{View}
 use Rattle.account_core.specs.Parts.{Parts, Effect, takes, appends}
 
@@ -29,6 +30,16 @@ action_of change.CancelDeletion = action.CancelKeyDeletion
 action_of (change.RotateEvery period) = action.EnableKeyRotation
 action_of change.RotateNoMore = action.DisableKeyRotation
 action_of change.RotateNow = action.RotateKeyOnDemand
+
+-- what the request says to conditions
+abbrev pub said_of : KeyChange → Particulars
+said_of change.Enable = of_key
+said_of change.Disable = of_key
+said_of (change.ScheduleDeletion days) = of_window days
+said_of change.CancelDeletion = of_key
+said_of (change.RotateEvery period) = of_period period
+said_of change.RotateNoMore = of_key
+said_of change.RotateNow = of_key
 
 -- ---- what has nothing to do
 
@@ -79,7 +90,7 @@ reply_of view row change.RotateNow = reply.Rotated row.key
 abbrev pub changes_key : View → List ℕ → KeyChange → Parts KeyRow ⊤
 changes_key view reference change = record {
   found = only_key_of view reference;
-  questions = λ row. record { action = action_of change; key = Some row; particulars = of_key } ∷ [];
+  questions = λ row. record { action = action_of change; key = Some row; particulars = said_of change } ∷ [];
   tokens = [];
   uses = λ row. record { action = action_of change; key = row } ∷ [];
   own = λ row. Ok tt;

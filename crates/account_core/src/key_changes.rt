@@ -1,15 +1,16 @@
 // The operations on the state, the rotation and the description of a key.
 ghost use Rattle.std.specs.Prelude.{◌≡◌, ◌<◌, ◌≤◌, IfOk};
-ghost use Rattle.account_core.specs.KeyChanges.{action_of, effect_at, reply_of, rotation_of, changes_key, updates_description, gets_rotation_status};
+ghost use Rattle.account_core.specs.KeyChanges.{action_of, said_of, effect_at, reply_of, rotation_of, changes_key, updates_description, gets_rotation_status};
 ghost use Rattle.account_core.specs.Settling.{effect_with};
 
 use crate::checks::only_key_of;
-use crate::particulars::of_key;
+use crate::particulars::{of_key, of_period, of_window};
 use crate::parts::{Changes, Made, Operation, Reads};
 use crate::places::Uses;
 use crate::stops::Stop;
 use crate::view::View;
 use account_rows::{Entry, Lent, What, days_after};
+use authority::Particulars;
 use draw_lines::DrawLine;
 use key_states::{KeyRow, Stored};
 use kms_json::{AutomaticRotation, Reply};
@@ -48,6 +49,21 @@ impl KeyChange {
             KeyChange::RotateEvery { .. } => Action::EnableKeyRotation,
             KeyChange::RotateNoMore => Action::DisableKeyRotation,
             KeyChange::RotateNow => Action::RotateKeyOnDemand,
+        }
+    }
+
+    // What it says to conditions.
+    fn particulars<'a>(self) -> Particulars<'a>
+        ensures { result ≡ said_of self }
+    {
+        match self {
+            KeyChange::ScheduleDeletion { days } => of_window(days),
+            KeyChange::RotateEvery { period } => of_period(period),
+            KeyChange::Enable
+            | KeyChange::Disable
+            | KeyChange::CancelDeletion
+            | KeyChange::RotateNoMore
+            | KeyChange::RotateNow => of_key(),
         }
     }
 }
@@ -133,7 +149,8 @@ impl<'a> Operation for ChangingKey<'a> {
 
     fn authorize(&self, alloc: Global, found: &Lent<'a>) -> Result<(), Stop> {
         let action = self.change.action();
-        self.view.authorize_on(alloc, action, found, &of_key())
+        let particulars = self.change.particulars();
+        self.view.authorize_on(alloc, action, found, &particulars)
     }
 
     fn fit(&self, alloc: Global, found: &Lent<'a>) -> Result<(), Stop> {

@@ -1,6 +1,6 @@
 // What requests say of themselves.
 ghost use Rattle.std.specs.Prelude.{◌≡◌};
-ghost use Rattle.account_core.specs.Authority.{of_key, of_context, of_turning, of_policy, of_none};
+ghost use Rattle.account_core.specs.Authority.{of_key, of_context, of_turning, of_policy, of_window, of_period, of_none};
 
 use authority::Particulars;
 use enc_context::Context;
@@ -14,6 +14,8 @@ pub fn of_key<'a>() -> Particulars<'a>
         context: None,
         same_key: None,
         bypass: None,
+        window: None,
+        period: None,
     }
 }
 
@@ -26,6 +28,8 @@ pub fn of_context(context: &Context) -> Particulars<'_>
         context: Some(context),
         same_key: None,
         bypass: None,
+        window: None,
+        period: None,
     }
 }
 
@@ -38,6 +42,8 @@ pub fn of_turning(context: &Context, same: bool) -> Particulars<'_>
         context: Some(context),
         same_key: Some(same),
         bypass: None,
+        window: None,
+        period: None,
     }
 }
 
@@ -50,6 +56,28 @@ pub fn of_policy<'a>(bypass: bool) -> Particulars<'a>
         context: None,
         same_key: None,
         bypass: Some(bypass),
+        window: None,
+        period: None,
+    }
+}
+
+/// A request that schedules the deletion of a key, after some days.
+pub fn of_window<'a>(days: u32) -> Particulars<'a>
+    ensures { result ≡ of_window days }
+{
+    Particulars {
+        window: Some(days),
+        ..of_key()
+    }
+}
+
+/// A request that turns automatic rotation of a key on, with a period in days.
+pub fn of_period<'a>(days: u32) -> Particulars<'a>
+    ensures { result ≡ of_period days }
+{
+    Particulars {
+        period: Some(days),
+        ..of_key()
     }
 }
 
@@ -62,5 +90,7 @@ pub fn of_none<'a>() -> Particulars<'a>
         context: None,
         same_key: None,
         bypass: None,
+        window: None,
+        period: None,
     }
 }

@@ -109,8 +109,13 @@ all_rest time rows all =
     All-passed : All (λ (row : KeyRow). not (is_gone time row) ≡ true) kept
     All-passed = filter_passes (λ row. not (is_gone time row)) rows
 
+house_is : (b : Bool) (t : ℕ) (found : Entry) → (if b then Some (record { time = t; what = what.House }) else None) ≡ Some found → (found.time ≡ t) × (found.what ≡ what.House)
+house_is true t found e = let same : record { time = t; what = what.House } ≡ found = cc in (ap (λ (x : Entry). x.time) (sym same), ap (λ (x : Entry). x.what) (sym same))
+house_is false t found e = cc
+
 -- housekeeping is kept once at a moment
 pub kept_once : (history : List Entry) (clock : ℕ) (entry : Entry) → RowsHaveDays (replay history).keys → housekeeping_of history clock ≡ Some entry → housekeeping_of (history ++ entry ∷ []) clock ≡ None
+unfolding housekeeping_of
 kept_once history clock entry all e =
     let is = house_is (wants_house (moment_of history clock) (replay history).keys && has_room history (size_of what.House)) (moment_of history clock) entry e in
     let time : latest_of (history ++ entry ∷ []) ≡ moment_of history clock = latest-push history entry ∙ is.0 in
@@ -120,7 +125,3 @@ kept_once history clock entry all e =
     let none : wants_house (moment_of (history ++ entry ∷ []) clock) (replay (history ++ entry ∷ [])).keys ≡ false =
     ap (λ (t : ℕ). wants_house t (replay (history ++ entry ∷ [])).keys) moment ∙ ap (wants_house (moment_of history clock)) keys ∙ all_rest (moment_of history clock) (replay history).keys all in
     ap (λ (b : Bool). if b && has_room (history ++ entry ∷ []) (size_of what.House) then Some (record { time = moment_of (history ++ entry ∷ []) clock; what = what.House }) else None) none
-  where
-    house_is : (b : Bool) (t : ℕ) (found : Entry) → (if b then Some (record { time = t; what = what.House }) else None) ≡ Some found → (found.time ≡ t) × (found.what ≡ what.House)
-    house_is true t found e = let same : record { time = t; what = what.House } ≡ found = cc in (ap (λ (x : Entry). x.time) (sym same), ap (λ (x : Entry). x.what) (sym same))
-    house_is false t found e = cc

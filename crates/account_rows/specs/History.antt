@@ -50,7 +50,7 @@ has_room history size = nat_lt (length history) most_entries && nat_le (bytes_in
 -- ---- housekeeping
 
 -- the entry of housekeeping at a clock's answer: where some key is gone or due, and there is room for it
-abbrev pub housekeeping_of : List Entry → ℕ → Option Entry
+unfoldable pub housekeeping_of : List Entry → ℕ → Option Entry
 housekeeping_of history clock =
     if wants_house (moment_of history clock) (replay history).keys && has_room history (size_of House)
     then Some (record { time = moment_of history clock; what = House }) else None

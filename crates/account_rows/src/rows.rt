@@ -125,6 +125,7 @@ impl Rows {
     /// The entry of housekeeping at the clock's answer, if any: where the date of deletion of some key has come or an
     /// automatic rotation is due, and there is room for one more entry of 64 bytes. It takes no memory, and its time
     /// grows with the number of keys.
+    #[tactic(auto, unfolding(crate::specs::History::housekeeping_of))]
     pub fn housekeeping(&self, moment: u64) -> Option<Entry>
         ensures { result ≡ housekeeping_of self.now moment }
     {

@@ -105,6 +105,10 @@ abbrev pub truth_facts : List ℕ → Option Bool → List Fact
 truth_facts key None = []
 truth_facts key (Some truth) = single key (truth_text truth) ∷ []
 
+abbrev pub number_facts : List ℕ → Option ℕ → List Fact
+number_facts key None = []
+number_facts key (Some number) = single key (decimal number) ∷ []
+
 -- ---- all of them, in order
 
 abbrev pub facts_of : Setting → Action → Particulars → List Fact
@@ -116,7 +120,9 @@ facts_of setting op particulars =
     ++ (context_facts particulars.context
     ++ (algorithm_facts (seals_or_opens op)
     ++ (truth_facts (codes "kms:ReEncryptOnSameKey") particulars.same_key
-    ++ truth_facts (codes "kms:BypassPolicyLockoutSafetyCheck") particulars.bypass))))))
+    ++ (truth_facts (codes "kms:BypassPolicyLockoutSafetyCheck") particulars.bypass
+    ++ (number_facts (codes "kms:ScheduleKeyDeletionPendingWindowInDays") particulars.window
+    ++ number_facts (codes "kms:RotationPeriodInDays") particulars.period))))))))
 
 -- what policies are asked about a request
 unfoldable pub request_of : Setting → Asked → RequestFacts

@@ -17,12 +17,15 @@ pub record Setting : Type 0 where
   pub policies : List Policy
 
 -- what a request says of itself beside its action: whether it is about a key, one that it makes included; its encryption
--- context; whether it encrypts anew under the same key; and whether it passes over the check of a new policy
+-- context; whether it encrypts anew under the same key; whether it passes over the check of a new policy; the waiting period
+-- of a deletion in days; and the period of automatic rotation in days
 pub record Particulars : Type 0 where
   pub keyed : Bool
   pub context : List Pair
   pub same_key : Option Bool
   pub bypass : Option Bool
+  pub window : Option ℕ
+  pub period : Option ℕ
 
 -- an action on a resource, with what the request says of itself
 pub record Asked : Type 0 where

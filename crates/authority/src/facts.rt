@@ -1,7 +1,7 @@
 //! What a request says to conditions of policies.
 ghost use Rattle.std.specs.Prelude.{◌≡◌, ◌≢◌, ◌++◌, ◌∷◌, [], All, IfOk, OnOk, MatchOption, map};
 ghost use Rattle.authority.specs.Setting.{Setting as SeenSetting, Particulars as SeenParticulars};
-ghost use Rattle.authority.specs.Facts.{single, behind_slash, caller_facts, user_facts, time_facts, service_facts, key_facts, pair_fact, keys_fact, context_facts, seals_or_opens, algorithm_facts, truth_text, truth_facts, facts_of};
+ghost use Rattle.authority.specs.Facts.{single, behind_slash, caller_facts, user_facts, time_facts, service_facts, key_facts, pair_fact, keys_fact, context_facts, seals_or_opens, algorithm_facts, truth_text, truth_facts, number_facts, facts_of};
 
 use crate::settings::{Particulars, Setting};
 use crate::times::write_moment;
@@ -209,6 +209,19 @@ fn put_truth(facts: &mut Vec<Fact>, key: &str, truth: Option<bool>) -> Result<()
     }
 }
 
+// Adds a number, where there is one.
+fn put_number(facts: &mut Vec<Fact>, key: &str, number: Option<u32>) -> Result<(), NoMemory>
+    ensures { OnOk result (facts.new.items ≡ facts.old.items ++ number_facts key.now number) }
+{
+    match number {
+        Some(number) => {
+            let text = format!(in *facts.allocator(); "{number}")?;
+            put_text(facts, key, text.as_str())
+        }
+        None => Ok(()),
+    }
+}
+
 /// What a request says to conditions.
 pub fn facts_of(
     alloc: Global,
@@ -233,5 +246,11 @@ pub fn facts_of(
         "kms:BypassPolicyLockoutSafetyCheck",
         particulars.bypass,
     )?;
+    put_number(
+        &mut facts,
+        "kms:ScheduleKeyDeletionPendingWindowInDays",
+        particulars.window,
+    )?;
+    put_number(&mut facts, "kms:RotationPeriodInDays", particulars.period)?;
     Ok(FactList::new(facts))
 }

@@ -43,6 +43,10 @@ pub struct Particulars<'a> {
     pub same_key: Option<bool>,
     /// Whether it passes over the lockout check, where it takes a policy.
     pub bypass: Option<bool>,
+    /// The waiting period in days, where it schedules a key's deletion.
+    pub window: Option<u32>,
+    /// The period in days, where it turns automatic rotation on.
+    pub period: Option<u32>,
 }
 
 impl<'a> Model for Particulars<'a> {
@@ -56,6 +60,8 @@ impl<'a> Model for Particulars<'a> {
       context = unwrap_or (option_map (λ c. c.now) p.context) [];
       same_key = p.same_key;
       bypass = p.bypass;
+      window = p.window;
+      period = p.period;
     } };
 }
 
