@@ -8,7 +8,8 @@ use Rattle.kms_json.specs.declared.asks.Ask.{Ask}
 use Rattle.kms_json.specs.declared.replies.Reply.{Reply}
 use Rattle.account_core.specs.Decide.{account_of, IsLawful}
 use Rattle.account_core.specs.Laws.{Sealing, HasSealed, iv_in}
-use Rattle.publish_pass.specs.Pass.{Pass, Reads, entries_of}
+use Rattle.publish_pass.specs.Pairs.{entries_of}
+use Rattle.publish_pass.specs.Pass.{Pass, Reads}
 use Rattle.kms_session.specs.Run.{Item, fault, Cuts, SessionRun, caller_of, plan_of, asks}
 use Rattle.kms_session.specs.Session.{Outside, EndsBetween, EndsClosed, EndsInside}
 
