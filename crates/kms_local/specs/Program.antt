@@ -9,7 +9,7 @@ use Rattle.kms_local.specs.declared.settings.RunOption.{RunOption}
 use Rattle.kms_local.specs.declared.settings.RunOption.TheVariants.{Account, Region, Root, As}
 use Rattle.kms_session.specs.declared.session.SessionEnd.{SessionEnd}
 use Rattle.kms_session.specs.declared.session.SessionEnd.TheVariants.{Ended, Closed, CutOff, ReadFault, WriteFault, NoMemory}
-use Rattle.publish_pass.specs.Pass.{Pass, first_pass}
+use Rattle.publish_pass.specs.Pass.{Pass, fresh_pass}
 use Rattle.kms_session.specs.Session.{outside, SendsWhole, SendsShort, EndsBy}
 use Rattle.kms_local.specs.Words.{Command, command_of}
 use Rattle.kms_local.specs.Settings.{IsSettings, IsRefusedAt}
@@ -42,7 +42,7 @@ status_of_end NoMemory = 7
 -- one session is served from an empty history, and ends so
 pub record Serving (facts : RealmFacts) (trust : Trust) (end : SessionEnd) (old : Wire) (told : Option (List ℕ)) (new : Wire) (later : Option (List ℕ)) : Type 0 where
   pub pass : Pass
-  pub ends : EndsBy trust end (outside old told (first_pass facts)) (outside new later pass)
+  pub ends : EndsBy trust end (outside old told (fresh_pass facts 1)) (outside new later pass)
 
 -- the values have their forms, and a session was served
 pub record Serves (command : Command) (status : ℕ) (old : Wire) (told : Option (List ℕ)) (new : Wire) (later : Option (List ℕ)) : Type 0 where

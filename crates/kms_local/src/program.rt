@@ -1,6 +1,7 @@
 // The program, but for its handles.
 ghost use Rattle.std.specs.Prelude.{◌≡◌, drop, map, string_bytes, vec_len};
 ghost use Rattle.account_core.specs.Decide.{account_of};
+ghost use Rattle.publish_pass.specs.Rules.{Names};
 ghost use Rattle.kms_session.specs.Run.{caller_of};
 ghost use Rattle.kms_session.specs.declared.trust.Trust.TheVariants.{Word};
 ghost use Rattle.kms_local.specs.Program.{Runs, Serving, SaysLine, first_told, usage_line, refused_line, status_of_end};
@@ -58,13 +59,16 @@ fn serve_once<W: Wait, R: Realm, L: Link, C: Clock, G: Gate>(
     link: &mut L,
     gate: &G,
 ) -> SessionEnd
-    requires { account_of (caller_of trust.now) ≡ opening.account }
-    ensures { Serving opening trust.now result (L.shows link.old) (C.told clock.old) (L.shows link.new) (C.told clock.new) }
+    requires ledger { (opening.name ≡ R.name) × (opening.parts ≡ R.parts) }
+    requires names { Names R.book R.facts R.passes opening.shown }
+    requires passes { opening.shown.whole.passes ≡ 1 }
+    requires caller { account_of (caller_of trust.now) ≡ opening.shown.whole.facts.account }
+    ensures { Serving opening.shown.whole.facts trust.now result (L.shows link.old) (C.told clock.old) (L.shows link.new) (C.told clock.new) }
 {
     let Ok((service, mut passes)) = open_service::<W, R>(rt, alloc, opening) else {
         return SessionEnd::NoMemory;
     };
-    serve_session(
+    let end = serve_session(
         rt,
         alloc,
         &service,
@@ -73,7 +77,9 @@ fn serve_once<W: Wait, R: Realm, L: Link, C: Clock, G: Gate>(
         clock,
         link,
         gate,
-    )
+    );
+    service.shut(rt);
+    end
 }
 
 // Serves one session of a new service.

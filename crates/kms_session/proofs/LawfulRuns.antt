@@ -22,7 +22,8 @@ use Rattle.http_front.specs.Heading.{values_of}
 use Rattle.std.proofs.Common.{codes}
 use Rattle.kms_session.proofs.AskedLemmas.{once_asked}
 use Rattle.publish_pass.specs.Answers.{Answer}
-use Rattle.publish_pass.specs.Pass.{Pass, Changes, making_any, keeping_house, entries_of}
+use Rattle.publish_pass.specs.Pairs.{entries_of}
+use Rattle.publish_pass.specs.Pass.{Pass, Meets, Learns, Changes, making_any, keeping_house, at_places}
 use Rattle.kms_session.specs.declared.trust.Trust.{Trust}
 use Rattle.kms_session.specs.Run.{Item, whole, fault, asks, caller_of, planned, plan_of, Answers, early, reads, changes, Wanting, wants_nothing, wants_read, wants_change, Replies, answers, wants_memory, SessionRun, begins, goes_on}
 use Rattle.kms_session.specs.Laws.{RunsKeepLawful, SealsAt, OneSessionRepeatsNoIv}
@@ -62,6 +63,17 @@ house_lawful facts s clock before is = makes_lawful facts s (housekeeping_of (en
 same_pass : (facts : RealmFacts) (s t : Pass) → t ≡ s → HasLawful facts s → HasLawful facts t
 same_pass facts s t same is = subst (HasLawful facts) (sym same) is
 
+met_lawful : (facts : RealmFacts) (s u : Pass) → u.facts ≡ s.facts → (IsLawful s.facts (entries_of s.history) → IsLawful u.facts (entries_of u.history)) → HasLawful facts s → HasLawful facts u
+met_lawful facts s u same lawful is =
+    let here : IsLawful s.facts (entries_of s.history) = subst (λ (f : RealmFacts). IsLawful f (entries_of s.history)) (sym is.0) is.1 in
+    (same ∙ is.0, subst (λ (f : RealmFacts). IsLawful f (entries_of u.history)) (same ∙ is.0) (lawful here))
+
+read_lawful : (facts : RealmFacts) (s u : Pass) → Meets s u → HasLawful facts s → HasLawful facts u
+read_lawful facts s u met is = met_lawful facts s u (ap (λ (p : Pass). p.facts) met.others) met.lawful is
+
+learnt_lawful : (facts : RealmFacts) (s u : Pass) → Learns s u → HasLawful facts s → HasLawful facts u
+learnt_lawful facts s u met is = met_lawful facts s u (ap (λ (p : Pass). p.facts) met.others) met.lawful is
+
 left_lawful : (facts : RealmFacts) (met t : Pass) (clock : ℕ) → clock < 253402300800 → HasLawful facts met → (t ≡ met) ⊎ (t ≡ keeping_house met clock) → HasLawful facts t
 left_lawful facts met t clock before is (inl same) = same_pass facts met t same is
 left_lawful facts met t clock before is (inr house) = same_pass facts (keeping_house met clock) t house (house_lawful facts met clock before is)
@@ -69,7 +81,7 @@ left_lawful facts met t clock before is (inr house) = same_pass facts (keeping_h
 changed_lawful : (facts : RealmFacts) (s : Pass) (x : Ask) (reply : Reply) (t : Pass) → IsProper facts x → changes_account x.body ≡ true → HasLawful facts s → Changes s x reply t
     → HasLawful facts t
 changed_lawful facts s x reply t proper changing is h =
-    let met = same_pass facts s h.met h.seen is in
+    let met = learnt_lawful facts s h.met h.seen is in
     let house = house_lawful facts h.met x.moment proper.moment met in
     let kept : Pass = keeping_house h.met x.moment in
     let next : (entry : Entry) → (decide kept.facts (entries_of kept.history) x kept.places).entry ≡ Some entry → IsNext facts (entries_of kept.history) entry =
@@ -91,19 +103,18 @@ stays : (facts : RealmFacts) (s t : Pass) → t.places ≡ s.places → PassGoes
 stays facts s t same = subst (PassGoesOn facts s.places) (sym same) (no_request s.places)
 
 module _ (facts : RealmFacts) (trust : Trust) (c : ℕ) (before : c < 253402300800) (caller : account_of (caller_of trust) ≡ facts.account) (item : Item) where
-  reading_steps : (s met t : Pass) (x : Ask) (left : Places) → met ≡ s → t ≡ record { facts = met.facts; number = met.number; history = met.history; own = met.own; places = left } → HasLawful facts s
-      → PassGoesOn facts met.places left → Steps facts s t
+  reading_steps : (s met t : Pass) (x : Ask) (left : Places) → Meets s met → t ≡ at_places met left → HasLawful facts s → PassGoesOn facts met.places left → Steps facts s t
   reading_steps s met t x left seen used is on =
-      let there = same_pass facts s met seen is in
+      let there = read_lawful facts s met seen is in
       record {
         lawful = subst (HasLawful facts) (sym used) there;
-        on = subst (λ (p : Places). PassGoesOn facts p t.places) (ap (λ (p : Pass). p.places) seen) (subst (PassGoesOn facts met.places) (sym (ap (λ (p : Pass). p.places) used)) on);
+        on = subst (λ (p : Places). PassGoesOn facts p t.places) (ap (λ (p : Pass). p.places) seen.others) (subst (PassGoesOn facts met.places) (sym (ap (λ (p : Pass). p.places) used)) on);
       }
 
   answer_steps : (s : Pass) (answer : Answer) (t : Pass) → HasLawful facts s → Answers s (plan_of trust item c) answer t → Steps facts s t
   answer_steps s answer t is (early plan same) = record { lawful = same_pass facts s t same is; on = stays facts s t (ap (λ (p : Pass). p.places) same) }
   answer_steps s answer t is (reads x reply plan which h gives) =
-      let there = same_pass facts s h.met h.seen is in
+      let there = read_lawful facts s h.met h.seen is in
       let decided : PassGoesOn facts h.met.places (decide h.met.facts (entries_of h.met.history) x h.met.places).places =
       subst (λ (f : RealmFacts). PassGoesOn facts h.met.places (decide f (entries_of h.met.history) x h.met.places).places) (sym there.0)
       (one_more (entries_of h.met.history) x (no_request h.met.places)) in
@@ -115,7 +126,7 @@ module _ (facts : RealmFacts) (trust : Trust) (c : ℕ) (before : c < 2534023008
         lawful = changed_lawful facts s x reply t proper which is h;
         on = stays facts s t
             (ap (λ (p : Pass). p.places) h.decides.made ∙ any_places kept (decide kept.facts (entries_of kept.history) x kept.places).entry
-            ∙ any_places h.met (housekeeping_of (entries_of h.met.history) x.moment) ∙ ap (λ (p : Pass). p.places) h.seen);
+            ∙ any_places h.met (housekeeping_of (entries_of h.met.history) x.moment) ∙ ap (λ (p : Pass). p.places) h.seen.others);
       }
 
   left_places : (met t : Pass) (clock : ℕ) → (t ≡ met) ⊎ (t ≡ keeping_house met clock) → t.places ≡ met.places
@@ -125,14 +136,14 @@ module _ (facts : RealmFacts) (trust : Trust) (c : ℕ) (before : c < 2534023008
   wanting_steps : (s t : Pass) → HasLawful facts s → Wanting s (plan_of trust item c) t → Steps facts s t
   wanting_steps s t is (wants_nothing answer plan same) = record { lawful = same_pass facts s t same is; on = stays facts s t (ap (λ (p : Pass). p.places) same) }
   wanting_steps s t is (wants_read x plan which h) =
-      let there = same_pass facts s h.met h.seen is in
+      let there = read_lawful facts s h.met h.seen is in
       let at_most = subst (λ (f : RealmFacts). IsUpTo h.met.places h.places (decide f (entries_of h.met.history) x h.met.places).places) there.0 h.at_most in
       reading_steps s h.met t x h.places h.seen h.used is (left_short (entries_of h.met.history) x h.places (no_request h.met.places) at_most)
   wanting_steps s t is (wants_change x plan which h) =
       let proper = proper_item facts trust c before caller x item plan in
       record {
-        lawful = left_lawful facts h.met t x.moment proper.moment (same_pass facts s h.met h.seen is) h.left;
-        on = stays facts s t (left_places h.met t x.moment h.left ∙ ap (λ (p : Pass). p.places) h.seen);
+        lawful = left_lawful facts h.met t x.moment proper.moment (learnt_lawful facts s h.met h.seen is) h.left;
+        on = stays facts s t (left_places h.met t x.moment h.left ∙ ap (λ (p : Pass). p.places) h.seen.others);
       }
 
   turn_steps : (s : Pass) (closes : Bool) (text : List ℕ) (t : Pass) → HasLawful facts s → Replies s (plan_of trust item c) c closes text t → Steps facts s t
@@ -175,14 +186,14 @@ record Stands (facts : RealmFacts) (s t : Pass) (sealing : Sealing) : Type 0 whe
 stands : (facts : RealmFacts) (trust : Trust) (item : Item) (c : ℕ) (s t : Pass) (sealing : Sealing) → HasLawful facts s → SealsAt trust item c s t sealing → Stands facts s t sealing
 stands facts trust item c s t sealing is h =
     let met = h.reads.met in
-    let there = same_pass facts s met h.reads.seen is in
+    let there = read_lawful facts s met h.reads.seen is in
     record {
       history = entries_of met.history;
       request = h.request;
       places = met.places;
       sealed = subst (λ (f : RealmFacts). HasSealed f (entries_of met.history) h.request met.places sealing) there.0 h.sealed;
       lawful = there.1;
-      at = ap (λ (p : Pass). p.places) h.reads.seen;
+      at = ap (λ (p : Pass). p.places) h.reads.seen.others;
       leaves = ap (λ (p : Pass). p.places) h.reads.used ∙ ap (λ (f : RealmFacts). (decide f (entries_of met.history) h.request met.places).places) there.0;
       after = subst (HasLawful facts) (sym h.reads.used) there;
     }

@@ -6,3 +6,4 @@ mod ReplyLemmas
 mod OneCut
 mod OneEnd
 mod LawfulRuns
+mod GrowingRuns

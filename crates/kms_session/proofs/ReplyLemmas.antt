@@ -1,9 +1,9 @@
 -- Replies that were written, whole or cut short.
-use Rattle.std.proofs.Common.{◌≡◌, ℕ, List, ◌++◌, length, Bool, true, false, Option, None, Some, refl, sym, ap, ap₂, ◌∙◌, subst, arith, ◌⊎◌, inl, inr}
+use Rattle.std.proofs.Common.{◌≡◌, ◌≤◌, ℕ, List, ◌++◌, length, Bool, true, false, Option, None, Some, refl, sym, ap, ap₂, ◌∙◌, subst, arith, ◌⊎◌, inl, inr}
 use Rattle.std.specs.Bool.{MatchBool}
 use Rattle.kms_io.specs.Wire.{Wire}
 use Rattle.account_core.proofs.GoingOn.{decide_goes_on}
-use Rattle.publish_pass.specs.declared.pass.Answered.{Answered}
+use Rattle.publish_pass.specs.declared.answered.Answered.{Answered}
 use Rattle.http_front.specs.Head.{IsHead}
 use Rattle.kms_json.specs.declared.asks.Ask.{Ask}
 use Rattle.kms_json.specs.declared.replies.Reply.{Reply}
@@ -11,7 +11,8 @@ use Rattle.kms_json.specs.declared.replies.Reply.TheVariants.{Refused}
 use Rattle.kms_json.specs.Asks.{AnswersFor, refusal_of, changes_account}
 use Rattle.account_core.specs.declared.entries.Entry.{Entry}
 use Rattle.account_core.specs.History.{housekeeping_of}
-use Rattle.account_core.specs.Decide.{decide}
+use Rattle.account_core.specs.Decide.{decide, IsLawful}
+use mathlib.Core.List.{IsPrefix}
 use Rattle.kms_session.specs.declared.trust.Trust.{Trust}
 use Rattle.http_front.specs.Message.{Message}
 use Rattle.std.proofs.Common.{Result, Err}
@@ -23,7 +24,11 @@ use Rattle.kms_session.specs.Asked.{asked_in, after_in}
 use Rattle.kms_session.specs.declared.asked.After.{After}
 use Rattle.publish_pass.specs.Answers.{Answer, answer_in, answer_of}
 use Rattle.kms_session.specs.Answers.{IsReplyText, five_hundred}
-use Rattle.publish_pass.specs.Pass.{Pass, Reads, Wants, WantsChange, Changes, keeping_house, making_any, entries_of}
+use Rattle.publish_pass.specs.Pairs.{entries_of}
+use Rattle.publish_pass.specs.Pass.{Pass, Meets, Reads, Wants, WantsChange, AnswersRead, AnswersChange, LacksRead, Misses, Rose, keeping_house, making_any}
+use Rattle.publish_pass.specs.declared.answered.Unread.TheVariants.{NoMemory as Unfed}
+use Rattle.publish_pass.proofs.Lists.{prefix_self}
+use Rattle.publish_pass.proofs.Meeting.{learns_self}
 use Rattle.kms_session.specs.Run.{Plan, answered, asks, plan_of, planned, whole, Wanting, wants_nothing, wants_read, wants_change, Answers, early, reads, changes, Replies, answers, wants_memory}
 use Rattle.kms_session.specs.Session.{SendsWhole, SendsShort, Responds, RespondsShort}
 use Rattle.kms_session.specs.Replying.{SendsReply, SendsReplyShort, Gives}
@@ -68,13 +73,16 @@ replied true s plan answer second front closes old new t is at reply =
 replied false s plan answer second front closes old new t is at reply =
     record { text = reply.text; replies = answers answer is (subst (λ (n : ℕ). IsReplyText answer second n closes reply.text) at reply.is); short = reply.short }
 
+meets_self : (s : Pass) → Meets s s
+meets_self s = record { history = prefix_self s.history; others = refl; missed = omega arith; lawful = λ is. is }
+
 -- a pass that holds what it held has used nothing
 wants_none : (s : Pass) (x : Ask) → Wants s x s
 wants_none s x =
     let goes = decide_goes_on s.facts (entries_of s.history) x s.places in
     record {
       met = s;
-      seen = refl;
+      seen = meets_self s;
       places = s.places;
       used = refl;
       at_most = record {
@@ -87,7 +95,7 @@ wants_none s x =
     }
 
 wanting_where : (s : Pass) (x : Ask) (changing : Bool) → changes_account x.body ≡ changing → Wanting s (asks x) s
-wanting_where s x true is = wants_change x refl is (record { met = s; seen = refl; left = inl refl })
+wanting_where s x true is = wants_change x refl is (record { met = s; seen = learns_self s; left = inl refl })
 wanting_where s x false is = wants_read x refl is (wants_none s x)
 
 pub wanting_none : (s : Pass) (plan : Plan) → Wanting s plan s
@@ -97,8 +105,32 @@ wanting_none s (asks x) = wanting_where s x (changes_account x.body) refl
 pub wants_changed : (s t : Pass) (x : Ask) → true ≡ changes_account x.body → WantsChange s x t → Wanting s (asks x) t
 wants_changed s t x is h = wants_change x refl (sym is) h
 
-pub wants_reading : (s t : Pass) (x : Ask) → false ≡ changes_account x.body → Wants s x t → Wanting s (asks x) t
-wants_reading s t x is h = wants_read x refl (sym is) h
+-- ---- a pass that missed the published account, and is otherwise as it was
+
+pub record MissesOnly (s t : Pass) : Type 0 where
+  pub others : t ≡ record s { missed = t.missed }
+  pub missed : s.missed ≤ t.missed
+
+pub misses_none : (s : Pass) → MissesOnly s s
+misses_none s = record { others = refl; missed = omega arith }
+
+pub misses_more : (s t u : Pass) → MissesOnly s t → Misses t u → MissesOnly s u
+misses_more s t u is more = record {
+  others = more.others ∙ ap (λ (p : Pass). let q : Pass = record p { missed = u.missed } in q) is.others;
+  missed = omega (arith, is.missed, more.rose.0);
+}
+
+meets_later : (s t u : Pass) → MissesOnly s t → Meets t u → Meets s u
+meets_later s t u is met = record {
+  history = subst (λ (h : List (Entry × ℕ)). IsPrefix h u.history) (ap (λ (p : Pass). p.history) is.others) met.history;
+  others = met.others ∙ ap (λ (p : Pass). let q : Pass = record p { history = u.history; missed = u.missed } in q) is.others;
+  missed = omega (arith, is.missed, met.missed);
+  lawful = λ lawful. met.lawful (subst (λ (p : Pass). IsLawful p.facts (entries_of p.history)) (sym is.others) lawful);
+}
+
+pub wants_reading : (s t u : Pass) (x : Ask) → changes_account x.body ≡ false → MissesOnly s t → LacksRead t x Unfed u → Wanting s (asks x) u
+wants_reading s t u x is missed h =
+    wants_read x refl is (record { met = h.0.met; seen = meets_later s t h.0.met missed h.0.seen; places = h.0.places; used = h.0.used; at_most = h.0.at_most })
 
 -- a reply for want of memory
 pub wanted : (sent : Bool) (s : Pass) (plan : Plan) (second : ℕ) (closes : Bool) (old new : Wire) (t : Pass) → Wanting s plan t
@@ -108,14 +140,15 @@ wanted true s plan second closes old new t is reply = record { text = five_hundr
 wanted false s plan second closes old new t is reply = record { text = five_hundred; replies = wants_memory is refl; short = reply }
 
 -- what a pass hands on as the answer to a request that changes the account
-pub gives_changed : (s t : Pass) (x : Ask) (a : Answered) → true ≡ changes_account x.body
-    → (reply : Reply) × Changes s x reply t × (answer_in a ≡ answer_of reply) × (a.front ≡ length t.history) → Gives s (asks x) a t
-gives_changed s t x a is h = record { answers = changes x h.0 refl (sym is) h.1 h.2; front = h.3 }
+pub gives_changed : (s t : Pass) (x : Ask) (a : Answered) → true ≡ changes_account x.body → AnswersChange s x a t → Gives s (asks x) a t
+gives_changed s t x a is h = record { answers = changes x h.reply refl (sym is) h.changes h.answer; front = h.front }
 
 -- and to one that doesn't
-pub gives_read : (s t : Pass) (x : Ask) (a : Answered) → false ≡ changes_account x.body
-    → (reply : Reply) × Reads s x reply t × (answer_in a ≡ answer_of reply) × (a.front ≡ length t.history) → Gives s (asks x) a t
-gives_read s t x a is h = record { answers = reads x h.0 refl (sym is) h.1 h.2; front = h.3 }
+pub gives_read : (s t u : Pass) (x : Ask) (a : Answered) → changes_account x.body ≡ false → MissesOnly s t → AnswersRead t x a u → Gives s (asks x) a u
+gives_read s t u x a is missed h = record {
+  answers = reads x h.reply refl is (record { met = h.reads.met; seen = meets_later s t h.reads.met missed h.reads.seen; answer = h.reads.answer; used = h.reads.used }) h.answer;
+  front = h.front;
+}
 
 -- what a pass hands on is replied
 pub replied_given : (sent : Bool) (s t : Pass) (plan other : Plan) (a : Answered) (body : List ℕ) (second : ℕ) (closes : Bool) (old new : Wire)
@@ -152,19 +185,19 @@ house_facts s clock = any_facts s (keeping_house s clock) (housekeeping_of (entr
 -- the facts stay
 facts_answered : {s t : Pass} {plan : Plan} {answer : Answer} → Answers s plan answer t → t.facts ≡ s.facts
 facts_answered (early is same) = ap (λ (p : Pass). p.facts) same
-facts_answered (reads x reply is which h has) = ap (λ (p : Pass). p.facts) h.used ∙ ap (λ (p : Pass). p.facts) h.seen
+facts_answered (reads x reply is which h has) = ap (λ (p : Pass). p.facts) h.used ∙ ap (λ (p : Pass). p.facts) h.seen.others
 facts_answered {t = t} (changes x reply is which h has) =
     let kept = keeping_house h.met x.moment in
-    any_facts kept t (decide kept.facts (entries_of kept.history) x kept.places).entry h.decides.made ∙ house_facts h.met x.moment ∙ ap (λ (p : Pass). p.facts) h.seen
+    any_facts kept t (decide kept.facts (entries_of kept.history) x kept.places).entry h.decides.made ∙ house_facts h.met x.moment ∙ ap (λ (p : Pass). p.facts) h.seen.others
 
-facts_left : (s met t : Pass) (clock : ℕ) → met ≡ s → (t ≡ met) ⊎ (t ≡ keeping_house met clock) → t.facts ≡ s.facts
-facts_left s met t clock seen (inl same) = ap (λ (p : Pass). p.facts) same ∙ ap (λ (p : Pass). p.facts) seen
-facts_left s met t clock seen (inr kept) = ap (λ (p : Pass). p.facts) kept ∙ house_facts met clock ∙ ap (λ (p : Pass). p.facts) seen
+facts_left : (met t : Pass) (clock : ℕ) → (t ≡ met) ⊎ (t ≡ keeping_house met clock) → t.facts ≡ met.facts
+facts_left met t clock (inl same) = ap (λ (p : Pass). p.facts) same
+facts_left met t clock (inr kept) = ap (λ (p : Pass). p.facts) kept ∙ house_facts met clock
 
 facts_wanting : {s t : Pass} {plan : Plan} → Wanting s plan t → t.facts ≡ s.facts
 facts_wanting (wants_nothing answer is same) = ap (λ (p : Pass). p.facts) same
-facts_wanting (wants_read x is which h) = ap (λ (p : Pass). p.facts) h.used ∙ ap (λ (p : Pass). p.facts) h.seen
-facts_wanting {s = s} {t = t} (wants_change x is which h) = facts_left s h.met t x.moment h.seen h.left
+facts_wanting (wants_read x is which h) = ap (λ (p : Pass). p.facts) h.used ∙ ap (λ (p : Pass). p.facts) h.seen.others
+facts_wanting {s = s} {t = t} (wants_change x is which h) = facts_left h.met t x.moment h.left ∙ ap (λ (p : Pass). p.facts) h.seen.others
 
 pub facts_kept : {s t : Pass} {plan : Plan} {c : ℕ} {closes : Bool} {text : List ℕ} → Replies s plan c closes text t → t.facts ≡ s.facts
 facts_kept (answers answer is text) = facts_answered is

@@ -8,8 +8,10 @@ use Rattle.kms_json.specs.declared.asks.Ask.{Ask}
 use Rattle.kms_json.specs.declared.replies.Reply.{Reply}
 use Rattle.account_core.specs.Decide.{account_of, IsLawful}
 use Rattle.account_core.specs.Laws.{Sealing, HasSealed, iv_in}
-use Rattle.publish_pass.specs.Pass.{Pass, Reads, entries_of}
-use Rattle.kms_session.specs.Run.{Item, fault, Cuts, SessionRun, caller_of, plan_of, asks}
+use Rattle.publish_pass.specs.Pairs.{entries_of}
+use Rattle.publish_pass.specs.Pass.{Pass, Reads}
+use Rattle.kms_session.specs.Run.{Item, fault, Cuts, Turn, SessionRun, caller_of, plan_of, asks}
+use mathlib.Core.List.{IsPrefix}
 use Rattle.kms_session.specs.Session.{Outside, EndsBetween, EndsClosed, EndsInside}
 
 -- The items are the same, or they end in two names of one fault: bytes that no head can come of may bear another fault, as one
@@ -46,6 +48,14 @@ RunsKeepLawful =
     (trust : Trust) (start end : Pass) (items : List Item) (clocks text : List ℕ) → SessionRun start trust end items clocks text
     → account_of (caller_of trust) ≡ start.facts.account → IsLawful start.facts (entries_of start.history)
     → (end.facts ≡ start.facts) × IsLawful end.facts (entries_of end.history)
+
+-- A turn, and a run of turns, leave a history that begins with the one before. The number of entries that a reply names is the
+-- length of the history after its turn, so along a session it never falls
+abbrev pub TurnsGoOn : Type 0
+TurnsGoOn = (s : Pass) (trust : Trust) (item : Item) (c : ℕ) (closes : Bool) (text : List ℕ) (t : Pass) → Turn s trust item c closes text t → IsPrefix s.history t.history
+
+abbrev pub RunsGoOn : Type 0
+RunsGoOn = (trust : Trust) (start end : Pass) (items : List Item) (clocks text : List ℕ) → SessionRun start trust end items clocks text → IsPrefix start.history end.history
 
 -- a turn whose reply holds this sealed text, from one state of the pass to the next
 pub record SealsAt (trust : Trust) (item : Item) (c : ℕ) (s t : Pass) (sealing : Sealing) : Type 0 where

@@ -1,5 +1,5 @@
 // What follows from the definitions alone.
-ghost use Rattle.kms_session.specs.Laws.{OneCut, OneEnd, RunsKeepLawful, OneSessionRepeatsNoIv};
+ghost use Rattle.kms_session.specs.Laws.{OneCut, OneEnd, RunsKeepLawful, TurnsGoOn, RunsGoOn, OneSessionRepeatsNoIv};
 
 /// A stream is cut into messages in one way: two cuts into as many items have the same items and the
 /// same rest.
@@ -18,6 +18,14 @@ pub fn one_end()
 /// whatever history a session leaves.
 pub fn runs_keep_lawful()
     ensures { RunsKeepLawful }
+{}
+
+/// A turn and a run of turns only add to what the pass has seen. So the numbers of entries that the replies
+/// of a session name never fall, and what stood in the history when a reply was given stands in it at every
+/// later one.
+pub fn histories_only_grow()
+    ensures turns { TurnsGoOn }
+    ensures runs { RunsGoOn }
 {}
 
 /// The texts that one session seals have initialization vectors of their own, whatever turns, also those

@@ -1,6 +1,6 @@
 // One connection, from its first byte to its end.
 ghost use Rattle.std.specs.Prelude.{◌≡◌, ◌+◌, ◌<◌, ◌==◌, ◌||◌, ℕ, List, Ok, MatchBool, IfOk, OnErr, true, false, codes};
-ghost use Rattle.kms_json.specs.Asks.{asked, refusal_of};
+ghost use Rattle.kms_json.specs.Asks.{asked, changes_account, refusal_of};
 ghost use Rattle.kms_json.specs.declared.refusals.Refusal.TheVariants.{Validation};
 ghost use Rattle.kms_json.specs.declared.replies.Reply.TheVariants.{Refused};
 ghost use Rattle.account_core.specs.Decide.{account_of, IsProper};
@@ -20,7 +20,7 @@ use http_front::{Cut, HttpFault};
 use kms_io::{Clock, Gate, Link};
 use kms_json::{Ask, AskBody, JsonFault, Refusal, Reply};
 use kms_names::{NoMemory, Principal, Text};
-use publish_pass::{Answered, Pass, Realm, Service, answer_with};
+use publish_pass::{Answered, Pass, Realm, Service, Unread, answer_with};
 use std::alloc::Global;
 use std::sync::Wait;
 
@@ -106,6 +106,30 @@ fn fault_status(fault: HttpFault) -> u16
     }
 }
 
+// Answers a request that doesn't change the account. Where the published account can't be entered, it is asked
+// again.
+#[tactic(auto, using(crate::proofs::ReplyLemmas::misses_none, crate::proofs::ReplyLemmas::misses_more))]
+fn answer_read<R: Realm, W: Wait>(
+    rt: &W,
+    alloc: Global,
+    pass: &mut Pass<R>,
+    ask: &Ask,
+) -> Result<Answered, NoMemory>
+    requires proper { IsProper pass.old.facts ask.now }
+    requires reads { changes_account ask.now.body ≡ false }
+    ensures answer { IfOk result (λ a. Gives pass.old (asks ask.now) a pass.new) }
+    ensures wants { OnErr result (Wanting pass.old (asks ask.now) pass.new) }
+{
+    for _ in rt.forever() {
+        match pass.read(alloc, ask) {
+            Ok(answered) => return Ok(answered),
+            Err(Unread::NoMemory) => return Err(NoMemory),
+            Err(Unread::NotEntered) => {}
+        }
+    }
+    unreachable!()
+}
+
 // Answers a request of the account.
 fn answer_ask<W: Wait, R: Realm, G: Gate>(
     host: &Host<'_, W, R, G>,
@@ -120,10 +144,7 @@ fn answer_ask<W: Wait, R: Realm, G: Gate>(
         let answered = pass.change(host.rt, host.alloc, host.service, ask, host.gate)?;
         return Ok(answered);
     }
-    match pass.read(host.alloc, ask) {
-        Ok(answered) => Ok(answered),
-        Err(_) => Err(NoMemory),
-    }
+    answer_read(host.rt, host.alloc, pass, ask)
 }
 
 // Answers a request that asks nothing of the account.

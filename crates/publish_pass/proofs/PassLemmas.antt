@@ -1,122 +1,104 @@
--- The one pass of a service.
-use Rattle.std.proofs.Common.{◌≡◌, ◌+◌, ◌==◌, ℕ, suc, List, [], ◌∷◌, ◌++◌, length, Option, Some, None, Bool, true, false, refl, sym, ap, ap₂, ◌∙◌, subst, add-one, length-append, if◌then◌else◌, ◌⊎◌, inl, inr, Result, Ok, Err}
-use Rattle.std.specs.Result.{OnErr}
+-- Decisions of a pass.
+use Rattle.std.proofs.Common.{◌≡◌, ◌<◌, ◌==◌, ℕ, List, ◌++◌, ◌∷◌, [], length, Option, Some, None, Bool, true, false, refl, sym, ap, ap₂, ◌∙◌, subst, if◌then◌else◌, ◌⊎◌, inl, inr, Result, Ok, Err}
+use Rattle.std.specs.Result.{IfOk, OnOk, OnErr}
+use Rattle.kms_names.specs.declared.faults.NoMemory.{NoMemory}
+use Rattle.publish_pass.specs.declared.answered.Answered.{Answered}
+use Rattle.publish_pass.specs.Answers.{answer_in, answer_of}
 use Rattle.kms_json.specs.declared.asks.Ask.{Ask}
 use Rattle.kms_json.specs.declared.replies.Reply.{Reply}
 use Rattle.kms_json.specs.Replies.{status_of}
+use Rattle.kms_json.specs.Asks.{changes_account}
 use Rattle.account_core.specs.declared.facts.RealmFacts.{RealmFacts}
 use Rattle.account_core.specs.declared.entries.Entry.{Entry}
 use Rattle.account_core.specs.declared.decide.Decision.{Decision}
 use Rattle.account_core.specs.declared.decide.Decision.TheVariants.{Refused, Served, Change}
+use Rattle.account_core.specs.History.{housekeeping_of}
+use Rattle.account_core.specs.Account.{Account}
 use Rattle.account_core.specs.Decide.{decide, decision_by, decision_of, IsNext, appended, kept, IsProper}
-use Rattle.kms_json.specs.Asks.{changes_account}
-use Rattle.account_core.specs.declared.places.Places.{Places}
-use Rattle.account_core.specs.Places.{IsUpTo, no_places}
-use Rattle.account_core.specs.Parts.{Decided}
+use Rattle.account_core.specs.Places.{no_places}
 use Rattle.account_core.proofs.GoingOn.{same_reply, same_entry}
-use Rattle.publish_pass.specs.Pass.{Pass, entries_of, made_by, first_places, making, making_any, one_pass, Reads, Wants, Decides}
+use Rattle.publish_pass.specs.Pairs.{entries_of}
+use Rattle.publish_pass.specs.Pass.{Pass, making, making_any, keeping_house, Decides, AnswersHere}
 
-pub entries_of-made_by : (number : ℕ) (entries : List Entry) → entries_of (made_by number entries) ≡ entries
-entries_of-made_by number [] = refl
-entries_of-made_by number (entry ∷ entries) = ap (λ (rest : List Entry). entry ∷ rest) (entries_of-made_by number entries)
+refused_where : (b : Bool) (reply r : Reply) → Refused reply ≡ (if b then Served r else Refused r) → reply ≡ r
+refused_where true reply r e = cc
+refused_where false reply r e = cc
 
-pub length-made_by : (number : ℕ) (entries : List Entry) → length (made_by number entries) ≡ length entries
-length-made_by number [] = refl
-length-made_by number (entry ∷ entries) = ap suc (length-made_by number entries)
+served_where : (b : Bool) (reply r : Reply) → Served reply ≡ (if b then Served r else Refused r) → reply ≡ r
+served_where true reply r e = cc
+served_where false reply r e = cc
 
-made_by-push : (number : ℕ) (entries : List Entry) (last : Entry) → made_by number (entries ++ last ∷ []) ≡ made_by number entries ++ (last, number) ∷ []
-made_by-push number [] last = refl
-made_by-push number (entry ∷ entries) last = ap (λ (rest : List (Entry × ℕ)). (entry, number) ∷ rest) (made_by-push number entries last)
+refused_parts : (reply r : Reply) (entry : Option Entry) → Refused reply ≡ decision_by r entry → (entry ≡ None) × (reply ≡ r)
+refused_parts reply r (Some entry) e = cc
+refused_parts reply r None e = (refl, refused_where (status_of r == 200) reply r e)
 
-first_places-push : (n m : ℕ) → m ≡ n + 1 → first_places m ≡ first_places n ++ n ∷ []
-first_places-push n m is = ap first_places (is ∙ add-one n)
+served_parts : (reply r : Reply) (entry : Option Entry) → Served reply ≡ decision_by r entry → (entry ≡ None) × (reply ≡ r)
+served_parts reply r (Some entry) e = cc
+served_parts reply r None e = (refl, served_where (status_of r == 200) reply r e)
 
--- one more entry
-pub one_pass-push : (facts : RealmFacts) (entries : List Entry) (last : Entry) (places : Places) → one_pass facts (entries ++ last ∷ []) places ≡ making (one_pass facts entries places) last
-one_pass-push facts entries last places =
-    let longer : length (entries ++ last ∷ []) ≡ length entries + 1 = length-append entries (last ∷ []) in
-    let own : first_places (length (entries ++ last ∷ [])) ≡ first_places (length entries) ++ length (made_by 1 entries) ∷ [] =
-    first_places-push (length entries) (length (entries ++ last ∷ [])) longer
-    ∙ ap (λ (n : ℕ). first_places (length entries) ++ n ∷ []) (sym (length-made_by 1 entries)) in
-    ap₂ (λ (history : List (Entry × ℕ)) (own : List ℕ). record { facts = facts; number = 1; history = history; own = own; places = places }) (made_by-push 1 entries last) own
+change_where : (b : Bool) (entry : Entry) (reply r : Reply) → Change entry reply ≡ (if b then Served r else Refused r) → ⊥
+change_where true entry reply r e = cc
+change_where false entry reply r e = cc
 
-module _ (facts : RealmFacts) (entries : List Entry) (x : Ask) (places : Places) where
-  -- the decision of the pass is the account's
-  here : decide facts (entries_of (made_by 1 entries)) x places ≡ decide facts entries x places
-  here = ap (λ (history : List Entry). decide facts history x places) (entries_of-made_by 1 entries)
+change_parts : (entry : Entry) (reply r : Reply) (other : Option Entry) → Change entry reply ≡ decision_by r other → (other ≡ Some entry) × (reply ≡ r)
+change_parts entry reply r (Some other) e = let same : entry ≡ other = cc in (ap Some (sym same), cc)
+change_parts entry reply r None e = absurd (change_where (status_of r == 200) entry reply r e)
 
-  pub reads_here : (reply : Reply) (after : Places) → reply ≡ (decide facts entries x places).reply → after ≡ (decide facts entries x places).places
-      → Reads (one_pass facts entries places) x reply (one_pass facts entries after)
-  reads_here reply after is used = record {
-    met = one_pass facts entries places;
-    seen = refl;
-    answer = is ∙ ap (λ (d : Decided). d.reply) (sym here);
-    used = ap (one_pass facts entries) (used ∙ ap (λ (d : Decided). d.places) (sym here));
-  }
+either_parts : (reply r : Reply) (entry : Option Entry) (d : Decision) → (d ≡ Refused reply) ⊎ (d ≡ Served reply) → d ≡ decision_by r entry → (entry ≡ None) × (reply ≡ r)
+either_parts reply r entry d (inl is) e = refused_parts reply r entry (sym is ∙ e)
+either_parts reply r entry d (inr is) e = served_parts reply r entry (sym is ∙ e)
 
-  pub wants_here : (after : Places) → IsUpTo places after (decide facts entries x places).places → Wants (one_pass facts entries places) x (one_pass facts entries after)
-  wants_here after is = record {
-    met = one_pass facts entries places;
-    seen = refl;
-    places = after;
-    used = refl;
-    at_most = subst (λ (d : Decided). IsUpTo places after d.places) (sym here) is;
-  }
+-- the entry of a decision may come next
+pub next_entry : (facts : RealmFacts) (entries : List Entry) (x : Ask) (entry : Entry) (reply : Reply) → Change entry reply ≡ decision_of facts entries x → IsProper facts x → IsNext facts entries entry
+next_entry facts entries x entry reply is proper = appended x proper (change_parts entry reply _ _ is).0
 
-  changes_to : changes_account x.body ≡ true → (reply : Reply) (t : Pass) → t ≡ making_any (one_pass facts entries places) (decide facts entries x no_places).entry
-      → reply ≡ (decide facts entries x no_places).reply → Decides (one_pass facts entries places) x reply t
-  changes_to changing reply t made is = record {
-    made = made ∙ ap (making_any (one_pass facts entries places)) (same_entry facts entries x no_places places changing ∙ ap (λ (d : Decided). d.entry) (sym here));
-    answer = is ∙ same_reply facts entries x no_places places changing ∙ ap (λ (d : Decided). d.reply) (sym here);
-  }
+pub house_next : (facts : RealmFacts) (entries : List Entry) (clock : ℕ) (entry : Entry) → clock < 253402300800 → housekeeping_of entries clock ≡ Some entry → IsNext facts entries entry
+house_next facts entries clock entry before is = kept clock before is
 
-  refused_where : (b : Bool) (reply r : Reply) → Refused reply ≡ (if b then Served r else Refused r) → reply ≡ r
-  refused_where true reply r e = cc
-  refused_where false reply r e = cc
+-- what the decision of the account does to a pass of these facts and this history
+module _ (s : Pass) (x : Ask) (account : Account) (facts : account.facts ≡ s.facts) (entries : account.entries ≡ entries_of s.history) (changing : changes_account x.body ≡ true) where
+  decision_here : (d : Decision) → d ≡ decision_of account.facts account.entries x → d ≡ decision_of s.facts (entries_of s.history) x
+  decision_here d is = is ∙ ap₂ (λ (f : RealmFacts) (h : List Entry). decision_of f h x) facts entries
 
-  served_where : (b : Bool) (reply r : Reply) → Served reply ≡ (if b then Served r else Refused r) → reply ≡ r
-  served_where true reply r e = cc
-  served_where false reply r e = cc
+  pub decides_none : (reply : Reply) (d : Decision) → (d ≡ Refused reply) ⊎ (d ≡ Served reply) → d ≡ decision_of account.facts account.entries x → Decides s x reply s
+  decides_none reply d is gives =
+      let parts = either_parts reply _ _ d is (decision_here d gives) in
+      record {
+        made = ap (making_any s) (sym parts.0 ∙ same_entry s.facts (entries_of s.history) x no_places s.places changing);
+        answer = parts.1 ∙ same_reply s.facts (entries_of s.history) x no_places s.places changing;
+      }
 
-  refused_parts : (reply r : Reply) (entry : Option Entry) → Refused reply ≡ decision_by r entry → (entry ≡ None) × (reply ≡ r)
-  refused_parts reply r (Some entry) e = cc
-  refused_parts reply r None e = (refl, refused_where (status_of r == 200) reply r e)
+  pub decides_one : (entry : Entry) (reply : Reply) → Change entry reply ≡ decision_of account.facts account.entries x → (t : Pass) → t ≡ making s entry → Decides s x reply t
+  decides_one entry reply gives t is =
+      let parts = change_parts entry reply _ _ (decision_here (Change entry reply) gives) in
+      record {
+        made = is ∙ ap (making_any s) (sym parts.0 ∙ same_entry s.facts (entries_of s.history) x no_places s.places changing);
+        answer = parts.1 ∙ same_reply s.facts (entries_of s.history) x no_places s.places changing;
+      }
 
-  served_parts : (reply r : Reply) (entry : Option Entry) → Served reply ≡ decision_by r entry → (entry ≡ None) × (reply ≡ r)
-  served_parts reply r (Some entry) e = cc
-  served_parts reply r None e = (refl, served_where (status_of r == 200) reply r e)
+  -- what is handed on of it
+  pub answers_none : (r : Result Answered NoMemory) (front : ℕ) (reply : Reply) (d : Decision) → (d ≡ Refused reply) ⊎ (d ≡ Served reply) → d ≡ decision_of account.facts account.entries x
+      → front ≡ length s.history → (desk : List (Entry × ℕ)) → desk ≡ s.history → IfOk r (λ a. (a.front ≡ front) × (answer_in a ≡ answer_of reply))
+      → IfOk r (λ a. AnswersHere s x a s × (desk ≡ s.history))
+  answers_none (Ok a) front reply d is gives counted desk same given =
+      (record { reply = reply; decides = decides_none reply d is gives; answer = given.1; front = given.0 ∙ counted }, same)
+  answers_none (Err why) front reply d is gives counted desk same given = tt
 
-  change_where : (b : Bool) (entry : Entry) (reply r : Reply) → Change entry reply ≡ (if b then Served r else Refused r) → ⊥
-  change_where true entry reply r e = cc
-  change_where false entry reply r e = cc
+  pub answers_one : (r : Result Answered NoMemory) (entry : Entry) (reply : Reply) → Change entry reply ≡ decision_of account.facts account.entries x → (t : Pass) (desk : List (Entry × ℕ))
+      → OnOk r ((desk ≡ t.history) × (t ≡ making s entry)) → IfOk r (λ a. (a.front ≡ length t.history) × (answer_in a ≡ answer_of reply))
+      → IfOk r (λ a. AnswersHere s x a t × (desk ≡ t.history))
+  answers_one (Ok a) entry reply gives t desk made given =
+      (record { reply = reply; decides = decides_one entry reply gives t made.1; answer = given.1; front = given.0 }, made.0)
+  answers_one (Err why) entry reply gives t desk made given = tt
 
-  change_parts : (entry : Entry) (reply r : Reply) (other : Option Entry) → Change entry reply ≡ decision_by r other → (other ≡ Some entry) × (reply ≡ r)
-  change_parts entry reply r (Some other) e = let same : entry ≡ other = cc in (ap Some (sym same), cc)
-  change_parts entry reply r None e = absurd (change_where (status_of r == 200) entry reply r e)
+making_facts : (s : Pass) (made : Option Entry) → (making_any s made).facts ≡ s.facts
+making_facts s None = refl
+making_facts s (Some entry) = refl
 
-  pub changes_refused : changes_account x.body ≡ true → (reply : Reply) → Refused reply ≡ decision_of facts entries x → Decides (one_pass facts entries places) x reply (one_pass facts entries places)
-  changes_refused changing reply is =
-      let parts = refused_parts reply _ _ is in
-      changes_to changing reply (one_pass facts entries places) (ap (making_any (one_pass facts entries places)) (sym parts.0)) parts.1
-
-  pub changes_served : changes_account x.body ≡ true → (reply : Reply) → Served reply ≡ decision_of facts entries x → Decides (one_pass facts entries places) x reply (one_pass facts entries places)
-  changes_served changing reply is =
-      let parts = served_parts reply _ _ is in
-      changes_to changing reply (one_pass facts entries places) (ap (making_any (one_pass facts entries places)) (sym parts.0)) parts.1
-
-  pub changes_either : changes_account x.body ≡ true → (reply : Reply) (d : Decision) → (d ≡ Refused reply) ⊎ (d ≡ Served reply) → d ≡ decision_of facts entries x
-      → Decides (one_pass facts entries places) x reply (one_pass facts entries places)
-  changes_either changing reply d (inl is) gives = changes_refused changing reply (sym is ∙ gives)
-  changes_either changing reply d (inr is) gives = changes_served changing reply (sym is ∙ gives)
-
-  pub changes_made : changes_account x.body ≡ true → (entry : Entry) (reply : Reply) → Change entry reply ≡ decision_of facts entries x
-      → Decides (one_pass facts entries places) x reply (one_pass facts (entries ++ entry ∷ []) places)
-  changes_made changing entry reply is =
-      let parts = change_parts entry reply _ _ is in
-      changes_to changing reply (one_pass facts (entries ++ entry ∷ []) places) (one_pass-push facts entries entry places ∙ ap (making_any (one_pass facts entries places)) (sym parts.0)) parts.1
-
-  pub next_entry : (entry : Entry) (reply : Reply) → Change entry reply ≡ decision_of facts entries x → IsProper facts x → IsNext facts entries entry
-  next_entry entry reply is proper = appended x proper (change_parts entry reply _ _ is).0
+-- a request stays proper where housekeeping comes first
+pub proper_kept : (s t : Pass) (x : Ask) (clock : ℕ) → t ≡ keeping_house s clock → IsProper s.facts x → IsProper t.facts x
+proper_kept s t x clock is proper =
+    subst (λ (f : RealmFacts). IsProper f x) (sym (ap (λ (p : Pass). p.facts) is ∙ making_facts s (housekeeping_of (entries_of s.history) clock))) proper
 
 -- what holds holds where there is an error
 pub on_err : {A E P : Type 0} (r : Result A E) → P → OnErr r P

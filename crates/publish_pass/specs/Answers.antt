@@ -3,7 +3,7 @@ use Rattle.std.specs.Prelude.{ℕ, List}
 use Rattle.serde_json.specs.Written.{compact_text}
 use Rattle.kms_json.specs.declared.replies.Reply.{Reply}
 use Rattle.kms_json.specs.Replies.{status_of, reply_data}
-use Rattle.publish_pass.specs.declared.pass.Answered.{Answered}
+use Rattle.publish_pass.specs.declared.answered.Answered.{Answered}
 
 -- the status and the body
 pub record Answer : Type 0 where

@@ -1,2 +1,7 @@
 pub mod Answers
+pub mod Pairs
+pub mod Rules
+pub mod Growing
+pub mod Reading
 pub mod Pass
+pub mod Machine

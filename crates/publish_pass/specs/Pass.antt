@@ -1,50 +1,55 @@
 -- What a pass holds, and how a request changes it.
-use Rattle.std.specs.Prelude.{◌≡◌, ℕ, zero, suc, List, [], ◌∷◌, ◌++◌, length, map, Option, Some, None, ◌⊎◌}
+use Rattle.std.specs.Prelude.{◌≡◌, ◌<◌, ◌≤◌, ℕ, zero, suc, List, [], ◌∷◌, ◌++◌, length, Option, Some, None, ◌⊎◌}
+use mathlib.Core.List.{IsPrefix}
 use Rattle.kms_json.specs.declared.asks.Ask.{Ask}
 use Rattle.kms_json.specs.declared.replies.Reply.{Reply}
 use Rattle.account_core.specs.declared.facts.RealmFacts.{RealmFacts}
 use Rattle.account_core.specs.declared.entries.Entry.{Entry}
 use Rattle.account_core.specs.History.{housekeeping_of}
 use Rattle.account_core.specs.declared.places.Places.{Places}
-use Rattle.account_core.specs.Places.{IsUpTo, no_places}
-use Rattle.account_core.specs.Decide.{decide}
+use Rattle.account_core.specs.Places.{IsUpTo}
+use Rattle.account_core.specs.Decide.{decide, IsLawful}
+use Rattle.publish_pass.specs.declared.answered.Answered.{Answered}
+use Rattle.publish_pass.specs.declared.answered.Unread.{Unread}
+use Rattle.publish_pass.specs.declared.answered.Unread.TheVariants.{NotEntered, NoMemory}
+use Rattle.publish_pass.specs.Answers.{answer_of, answer_in}
+use Rattle.publish_pass.specs.Pairs.{Shown, entries_of}
 
--- its number, the history that it has seen with the number of the pass that made each entry, the places of its own
--- entries, and what it has used of its random stream and its initialization vectors
+-- the facts of its service, its number, the history that it has seen with the number of the pass that made each entry, the places of
+-- its own entries, what it has used of its random stream and its initialization vectors, and how often it missed the published account
 pub record Pass : Type 0 where
   pub facts : RealmFacts
   pub number : ℕ
   pub history : List (Entry × ℕ)
   pub own : List ℕ
   pub places : Places
+  pub missed : ℕ
 
-abbrev pub entries_of : List (Entry × ℕ) → List Entry
-entries_of history = map (λ made. made.0) history
-
--- the entries of a list, made by the pass of this number
-abbrev pub made_by : ℕ → List Entry → List (Entry × ℕ)
-made_by number entries = map (λ entry. (entry, number)) entries
-
--- the first n places
-abbrev pub first_places : ℕ → List ℕ
-first_places zero = []
-first_places (suc n) = first_places n ++ n ∷ []
-
--- the pass has made one more entry
+-- the pass has made one more entry, which is the last of the history
 abbrev pub making : Pass → Entry → Pass
-making s entry = record { facts = s.facts; number = s.number; history = s.history ++ (entry, s.number) ∷ []; own = s.own ++ length s.history ∷ []; places = s.places }
+making s entry = record s { history = s.history ++ (entry, s.number) ∷ []; own = s.own ++ length s.history ∷ [] }
 
 abbrev pub making_any : Pass → Option Entry → Pass
 making_any s None = s
 making_any s (Some entry) = making s entry
 
--- what a pass comes to hold of the changes of others: nothing, as long as a service has one pass
-abbrev pub Meets : Pass → Pass → Type 0
-Meets s u = u ≡ s
-
 -- the pass at other places
 abbrev pub at_places : Pass → Places → Pass
-at_places s places = record { facts = s.facts; number = s.number; history = s.history; own = s.own; places = places }
+at_places s places = record s { places = places }
+
+-- the pass comes to hold more of the history, in which all that it held comes first, and a lawful history stays lawful. Nothing else
+-- changes
+pub record Learns (s u : Pass) : Type 0 where
+  pub history : IsPrefix s.history u.history
+  pub others : u ≡ record s { history = u.history }
+  pub lawful : IsLawful s.facts (entries_of s.history) → IsLawful u.facts (entries_of u.history)
+
+-- the same of a pass that may meanwhile have missed the published account more often
+pub record Meets (s u : Pass) : Type 0 where
+  pub history : IsPrefix s.history u.history
+  pub others : u ≡ record s { history = u.history; missed = u.missed }
+  pub missed : s.missed ≤ u.missed
+  pub lawful : IsLawful s.facts (entries_of s.history) → IsLawful u.facts (entries_of u.history)
 
 -- a request that doesn't change the account is answered at what the pass then holds, and uses what its answer uses
 pub record Reads (s : Pass) (x : Ask) (reply : Reply) (t : Pass) : Type 0 where
@@ -61,10 +66,39 @@ pub record Wants (s : Pass) (x : Ask) (t : Pass) : Type 0 where
   pub used : t ≡ at_places met places
   pub at_most : IsUpTo met.places places (decide met.facts (entries_of met.history) x met.places).places
 
+-- the count rose, or stands at the last value of its type. It never falls
+abbrev pub Rose : ℕ → ℕ → Type 0
+Rose m n = (m ≤ n) × ((m < n) ⊎ (n ≡ 18446744073709551615))
+
+-- the pass is as it was, and has missed the published account once more
+pub record Misses (s t : Pass) : Type 0 where
+  pub others : t ≡ record s { missed = t.missed }
+  pub rose : Rose s.missed t.missed
+
+-- what is answered to a request that doesn't change the account
+pub record AnswersRead (s : Pass) (x : Ask) (a : Answered) (t : Pass) : Type 0 where
+  pub reply : Reply
+  pub reads : Reads s x reply t
+  pub answer : answer_in a ≡ answer_of reply
+  pub front : a.front ≡ length t.history
+  pub missed : t.missed ≡ s.missed
+
+-- and why it isn't answered
+abbrev pub LacksRead : Pass → Ask → Unread → Pass → Type 0
+LacksRead s x NotEntered t = Misses s t
+LacksRead s x NoMemory t = Wants s x t × (t.missed ≡ s.missed)
+
 -- the decision, whose entry is the last of the history
 pub record Decides (s : Pass) (x : Ask) (reply : Reply) (t : Pass) : Type 0 where
   pub made : t ≡ making_any s (decide s.facts (entries_of s.history) x s.places).entry
   pub answer : reply ≡ (decide s.facts (entries_of s.history) x s.places).reply
+
+-- what is answered by the decision at what the pass holds
+pub record AnswersHere (s : Pass) (x : Ask) (a : Answered) (t : Pass) : Type 0 where
+  pub reply : Reply
+  pub decides : Decides s x reply t
+  pub answer : answer_in a ≡ answer_of reply
+  pub front : a.front ≡ length t.history
 
 -- the pass after housekeeping at a clock's answer
 abbrev pub keeping_house : Pass → ℕ → Pass
@@ -73,19 +107,53 @@ keeping_house s clock = making_any s (housekeeping_of (entries_of s.history) clo
 -- a request that changes the account: housekeeping comes first, then the decision
 pub record Changes (s : Pass) (x : Ask) (reply : Reply) (t : Pass) : Type 0 where
   pub met : Pass
-  pub seen : Meets s met
+  pub seen : Learns s met
   pub decides : Decides (keeping_house met x.moment) x reply t
+
+-- what is answered to it
+pub record AnswersChange (s : Pass) (x : Ask) (a : Answered) (t : Pass) : Type 0 where
+  pub reply : Reply
+  pub changes : Changes s x reply t
+  pub answer : answer_in a ≡ answer_of reply
+  pub front : a.front ≡ length t.history
+
+-- what is answered at the desk, whose whole history the pass holds
+abbrev pub AnswersAtDesk : Pass → Ask → Answered → Pass → Type 0
+AnswersAtDesk s x a t = AnswersHere (keeping_house s x.moment) x a t
+
+-- nothing more was made, or the entry of housekeeping alone
+abbrev pub LeavesAtMost : Pass → ℕ → Pass → Type 0
+LeavesAtMost s clock t = (t ≡ s) ⊎ (t ≡ keeping_house s clock)
 
 -- a request that changes the account and is answered for want of memory leaves at most the entry of housekeeping
 pub record WantsChange (s : Pass) (x : Ask) (t : Pass) : Type 0 where
   pub met : Pass
-  pub seen : Meets s met
-  pub left : (t ≡ met) ⊎ (t ≡ keeping_house met x.moment)
+  pub seen : Learns s met
+  pub left : LeavesAtMost met x.moment t
 
--- the one pass of a service, which made every entry
-abbrev pub one_pass : RealmFacts → List Entry → Places → Pass
-one_pass facts entries places = record { facts = facts; number = 1; history = made_by 1 entries; own = first_places (length entries); places = places }
+-- housekeeping at a clock's answer
+pub record KeepsHouse (s : Pass) (clock : ℕ) (t : Pass) : Type 0 where
+  pub met : Pass
+  pub seen : Learns s met
+  pub kept : t ≡ keeping_house met clock
 
--- it has made nothing and used nothing
-abbrev pub first_pass : RealmFacts → Pass
-first_pass facts = one_pass facts [] no_places
+-- the same for want of memory
+pub record WantsHouse (s : Pass) (clock : ℕ) (t : Pass) : Type 0 where
+  pub met : Pass
+  pub seen : Learns s met
+  pub left : LeavesAtMost met clock t
+
+-- a pass that has seen, made and used nothing
+abbrev pub fresh_pass : RealmFacts → ℕ → Pass
+fresh_pass facts number = record { facts = facts; number = number; history = []; own = []; places = record { number = number; words = 0; ivs = 0 }; missed = 0 }
+
+-- the passes 1 to n, in order
+abbrev pub fresh_passes : RealmFacts → ℕ → List Pass
+fresh_passes facts zero = []
+fresh_passes facts (suc n) = fresh_passes facts n ++ fresh_pass facts (suc n) ∷ []
+
+-- a service that isn't open yet: the name and the parts of its ledger, and what is published
+pub record Opening : Type 0 where
+  pub name : ℕ
+  pub parts : ℕ
+  pub shown : Shown

@@ -1,8 +1,30 @@
-//! A service and its passes: each pass answers requests at the history that it has seen.
+//! A service and its passes: one published history, which passes read without a lock, and a desk at which
+//! they change it.
+//!
+//! Contracts see a pass as what it has seen and made, a desk as the published history, and each entry
+//! with the number of the pass that made it.
 #![tactic(auto)]
 
+mod answered;
+mod desk;
+mod entrance;
+mod laws;
+mod line;
+mod opening;
 mod pass;
+mod published;
+mod realm;
+mod rule;
 mod service;
+mod show;
+mod told;
+mod whole;
 
-pub use pass::{Answered, Pass, Unread, answer_with};
-pub use service::{Opening, Realm, Service, open_service};
+pub use answered::{Answered, Unread, answer_with};
+pub use desk::Desk;
+pub use laws::machine_law;
+pub use opening::{Opening, open_service};
+pub use pass::Pass;
+pub use realm::Realm;
+pub use service::Service;
+pub use told::Told;

@@ -1,180 +1,141 @@
-// A pass: one connection's hold on the service.
-ghost use Rattle.std.specs.Prelude.{◌≡◌, IfOk};
-ghost use Rattle.publish_pass.specs.Answers.{answer_of, answer_in};
+// A pass.
+ghost use Rattle.std.specs.Prelude.{◌≡◌, ◌<◌, ◌≤◌, [], length, false, IfOk, IfErr};
+ghost use Rattle.kms_json.specs.Asks.{changes_account};
+ghost use Rattle.account_core.specs.Decide.{IsProper};
+ghost use Rattle.account_core.specs.Places.{first_line};
+ghost use Rattle.publish_pass.specs.Growing.{IsLongerOf};
+ghost use Rattle.publish_pass.specs.Pairs.{IsHistory};
+ghost use Rattle.publish_pass.specs.Pass.{fresh_pass, Learns, AnswersRead, LacksRead};
 
-use crate::service::{Realm, Service};
-use account_core::{Account, Decision, draw_line};
+use crate::answered::{Answered, Unread};
+use crate::entrance::{Entrance, Found};
+use crate::line::Line;
+use crate::realm::Realm;
+use crate::told::Told;
 use draw_lines::DrawLine;
-use kms_io::{Gate, Point};
-use kms_json::{Ask, Reply, write_reply};
-use kms_names::{Bytes, NoMemory};
+use kms_json::Ask;
 use std::alloc::Global;
-use std::marker::{Model, PhantomData};
-use std::sync::Wait;
+use std::marker::Model;
+use std::sync::ledger::Share;
 
-// The number of the one pass.
-const NUMBER: u16 = 1;
-
-/// A reply's status and body, and the number of entries that it stands on.
-#[derive(Debug, Drop)]
-pub struct Answered {
-    /// The number of entries, that of the request itself included.
-    pub front: u64,
-    /// The HTTP status.
-    pub status: u16,
-    /// The body, a JSON text.
-    pub body: Bytes,
-}
-
-/// Why a read has no answer.
-#[derive(Clone, Copy, Debug, PartialEq, Eq)]
-pub enum Unread {
-    /// The published account could not be entered; the pass is as it was, and the caller asks again.
-    NotEntered,
-    /// A growth of memory was refused.
-    NoMemory,
-}
-
-impl From<NoMemory> for Unread {
-    ghost use Rattle.std.specs.Prelude.{◌≡◌};
-    ghost use Rattle.publish_pass.specs.declared.pass.Unread.TheVariants.{NoMemory as OutOfMemory};
-
-    ghost from_gives = { λ _ e. e ≡ OutOfMemory };
-
-    fn from(_e: NoMemory) -> Unread {
-        Unread::NoMemory
-    }
-}
-
-/// One connection's hold on the service. Contracts see the facts, its number, the history that it
-/// has seen with the maker of each entry, the places of its own entries, and what it has used of
-/// its random stream.
+/// One connection's hold on the service. Contracts see the facts, its number, the history that it has
+/// seen with the maker of each entry, the places of its own entries, what it has used of its random
+/// stream and of its initialization vectors, and how often it missed the published account.
 #[derive(Drop)]
 pub struct Pass<R: Realm> {
-    account: Account,
-    line: DrawLine,
-    realm: PhantomData<R>,
+    pub(crate) number: u16,
+    entrance: Entrance<R>,
+    pub(crate) line: Line<R>,
+    pub(crate) own: Vec<u64>,
+    draws: DrawLine,
+    pub(crate) share: Share<R>,
 }
 
 impl<R: Realm> Model for Pass<R> {
-    ghost use Rattle.std.specs.Prelude.{◌≡◌, length};
+    ghost use Rattle.std.specs.Prelude.{◌≡◌, ◌<◌, ◌≤◌, length};
     ghost use Rattle.account_core.specs.Places.{places_of, IsLineOf};
     ghost use Rattle.publish_pass.specs.Pass as passes;
 
     ghost Value = { passes.Pass };
 
-    ghost view = { λ p. passes.one_pass p.account.facts p.account.entries (places_of p.line) };
+    ghost view = { λ p. record { facts = R.facts; number = p.number; history = p.line; own = p.own.items; places = places_of p.draws; missed = p.entrance } };
 
-    ghost invariant = { λ p. IsLineOf p.account.facts p.line };
-}
-
-/// A reply as it is handed on, at so many entries.
-pub fn answer_with(alloc: Global, front: u64, reply: &Reply) -> Result<Answered, NoMemory>
-    ensures { IfOk result (λ a. (a.front ≡ front) × (answer_in a ≡ answer_of reply.now)) }
-{
-    Ok(Answered {
-        front,
-        status: reply.status(),
-        body: write_reply(alloc, reply)?,
-    })
+    ghost invariant = { λ p. record {
+      parts : p.share.parts ≡ 1;
+      amount : p.share.amount ≡ length p.own.items;
+      first : 0 < p.number;
+      last : p.number ≤ R.passes;
+      draws : IsLineOf R.facts p.draws;
+      same : p.draws.pass_number ≡ p.number;
+    } };
 }
 
 impl<R: Realm> Pass<R> {
-    ghost use Rattle.std.specs.Prelude.{◌≡◌, ◌<◌, [], true, false, length, IfOk, IfErr, OnOk, OnErr};
-    ghost use Rattle.publish_pass.specs.declared.pass.Unread.TheVariants.{NoMemory as OutOfMemory};
-    ghost use Rattle.kms_json.specs.declared.replies.Reply.{Reply};
-    ghost use Rattle.kms_json.specs.Asks.{changes_account};
-    ghost use Rattle.account_core.specs.Places.{no_places};
-    ghost use Rattle.account_core.specs.Decide.{IsProper, IsLawful};
-    ghost use Rattle.publish_pass.specs.Answers.{answer_of, answer_in};
-    ghost use Rattle.publish_pass.specs.Pass.{one_pass, entries_of, keeping_house, Reads, Wants, Decides, Changes, WantsChange};
-
-    pub(crate) fn new(account: Account) -> Pass<R>
-        ensures { result ≡ one_pass account.facts account.entries no_places }
+    // A pass that has seen, made and used nothing.
+    pub(crate) fn new(
+        number: u16,
+        entrance: Entrance<R>,
+        line: Line<R>,
+        own: Vec<u64>,
+        draws: DrawLine,
+        share: Share<R>,
+    ) -> Pass<R>
+        requires number { (0 < number) × (number ≤ R.passes) }
+        requires empty { (entrance ≡ 0) × (line ≡ []) × (own.items ≡ []) }
+        requires draws { draws ≡ first_line R.facts number }
+        requires share { (share.parts ≡ 1) × (share.amount ≡ 0) }
+        ensures { result ≡ fresh_pass R.facts number }
     {
-        let line = draw_line(account.facts(), NUMBER);
         Pass {
-            account,
+            number,
+            entrance,
             line,
-            realm: PhantomData,
+            own,
+            draws,
+            share,
         }
     }
 
-    /// The number of entries that the pass has seen. Each of them is one that a proper request
-    /// appended to those before it.
+    /// The number of entries that the pass has seen. Each of them is one that may come next after those
+    /// before it, and was made by one of the passes. The facts are those of the service. It takes no memory.
     pub fn seen(&self) -> u64
         ensures number { result ≡ length self.now.history }
-        ensures lawful { IsLawful self.now.facts (entries_of self.now.history) }
+        ensures facts { self.now.facts ≡ R.facts }
+        ensures history { IsHistory R.facts R.passes self.now.history }
     {
-        self.account.entries()
+        self.line.len()
     }
 
-    /// Answers a request that doesn't change the account. The pass stays as it is, but for what a request
-    /// that is served uses of the random stream and of the initialization vectors; without memory at most
-    /// so much is used.
+    /// Answers a request that doesn't change the account, at a history that holds all that this pass has
+    /// seen. It enters the published account once, takes no lock and waits for nobody.
+    ///
+    /// The pass then holds the history that the answer stands on, and has used what a request that is served
+    /// uses of the random stream and of the initialization vectors; without memory at most so much. At
+    /// `NotEntered` it is as it was, but for the count of misses, and the caller asks again.
     pub fn read(&mut self, alloc: Global, ask: &Ask) -> Result<Answered, Unread>
         requires proper { IsProper self.old.facts ask.now }
         requires reads { changes_account ask.now.body ≡ false }
-        ensures answer { IfOk result (λ a. (reply : Reply) × Reads self.old ask.now reply self.new × (answer_in a ≡ answer_of reply) × (a.front ≡ length self.new.history)) }
-        ensures wants { OnErr result (Wants self.old ask.now self.new) }
-        ensures err { IfErr result (λ why. why ≡ OutOfMemory) }
+        ensures answer { IfOk result (λ a. AnswersRead self.old ask.now a self.new) }
+        ensures lacks { IfErr result (λ why. LacksRead self.old ask.now why self.new) }
     {
-        let reply = self.account.decide_read(alloc, ask, &mut self.line)?;
-        let answered = answer_with(alloc, self.account.entries(), &reply)?;
+        let Some(found) = self.entrance.enter(alloc, &self.line, ask, &mut self.draws) else {
+            return Err(Unread::NotEntered);
+        };
+        let Found { answered, line } = found;
+        self.line = line;
+        let answered = answered?;
         Ok(answered)
     }
 
-    /// Answers a request that changes the account, and appends its entry, if it has one. Housekeeping comes
-    /// first. Without memory at most its entry was appended.
-    pub fn change<W: Wait, G: Gate>(
-        &mut self,
-        _rt: &W,
-        alloc: Global,
-        _service: &Service<R>,
-        ask: &Ask,
-        gate: &G,
-    ) -> Result<Answered, NoMemory>
-        requires proper { IsProper self.old.facts ask.now }
-        requires changes { changes_account ask.now.body ≡ true }
-        ensures answer { IfOk result (λ a. (reply : Reply) × Changes self.old ask.now reply self.new × (answer_in a ≡ answer_of reply) × (a.front ≡ length self.new.history)) }
-        ensures wants { OnErr result (WantsChange self.old ask.now self.new) }
+    /// What this pass tells others: all that it has seen. It takes no memory and waits for nobody.
+    pub fn tell(&self) -> Told<R>
+        ensures { result ≡ self.now.history }
     {
-        self.keep_house(alloc, ask.moment)?;
-        self.decide(alloc, ask, gate)
+        Told::new(self.line.again())
     }
 
-    // Appends the entry of housekeeping, if one is due.
-    fn keep_house(&mut self, alloc: Global, clock: u64) -> Result<(), NoMemory>
-        requires { clock < 253402300800 }
-        ensures ok { OnOk result (self.new ≡ keeping_house self.old clock) }
-        ensures err { OnErr result (self.new ≡ self.old) }
-        ensures facts { self.new.facts ≡ self.old.facts }
+    /// Learns what another pass of the service told: the pass then holds the longer of both histories,
+    /// which the other begins. It takes no memory and waits for nobody.
+    pub fn learn(&mut self, told: &Told<R>)
+        ensures longer { IsLongerOf self.old.history told.now self.new.history }
+        ensures learns { Learns self.old self.new }
     {
-        if let Some(entry) = self.account.housekeeping(clock) {
-            self.account = self.account.apply(alloc, &entry)?;
-        }
-        Ok(())
+        self.learn_line(told.line());
     }
 
-    // Answers a request that changes the account, after housekeeping. Without memory the pass stays as it is.
-    fn decide<G: Gate>(&mut self, alloc: Global, ask: &Ask, gate: &G) -> Result<Answered, NoMemory>
-        requires proper { IsProper self.old.facts ask.now }
-        requires changes { changes_account ask.now.body ≡ true }
-        ensures answer { IfOk result (λ a. (reply : Reply) × Decides self.old ask.now reply self.new × (answer_in a ≡ answer_of reply) × (a.front ≡ length self.new.history)) }
-        ensures err { OnErr result (self.new ≡ self.old) }
+    // Its number, one of those of the passes.
+    pub(crate) fn number(&self) -> u16
+        ensures number { result ≡ self.now.number }
+        ensures pass { (0 < result) × (result ≤ R.passes) }
     {
-        match self.account.decide_change(alloc, ask)? {
-            Decision::Refused(reply) | Decision::Served(reply) => {
-                let answered = answer_with(alloc, self.account.entries(), &reply)?;
-                Ok(answered)
-            }
-            Decision::Change(entry, reply) => {
-                let next = self.account.apply(alloc, &entry)?;
-                let answered = answer_with(alloc, next.entries(), &reply)?;
-                gate.at(Point::AtDesk);
-                self.account = next;
-                Ok(answered)
-            }
-        }
+        self.number
+    }
+
+    // Learns a beginning of the history.
+    pub(crate) fn learn_line(&mut self, line: &Line<R>)
+        ensures longer { IsLongerOf self.old.history line.now self.new.history }
+        ensures learns { Learns self.old self.new }
+    {
+        self.line.learn(line);
     }
 }

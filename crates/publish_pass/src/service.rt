@@ -1,72 +1,193 @@
-// A service and its passes.
-ghost use Rattle.std.specs.Prelude.{◌≡◌, ◌∷◌, [], IfOk};
-ghost use Rattle.publish_pass.specs.Pass.{first_pass};
+// The service: the desk and the board, each behind its lock.
+ghost use Rattle.std.specs.Prelude.{◌≡◌, ◌<◌, true, IfOk, OnOk, OnErr, IfSome, IfNone};
+ghost use Rattle.kms_json.specs.Asks.{changes_account};
+ghost use Rattle.account_core.specs.Decide.{IsProper};
+ghost use Rattle.publish_pass.specs.Pass.{Learns, AnswersChange, WantsChange, KeepsHouse, WantsHouse};
 
+use crate::answered::Answered;
+use crate::desk::Desk;
 use crate::pass::Pass;
-use account_core::{Account, RealmFacts};
-use kms_names::NoMemory;
+use crate::realm::Realm;
+use crate::told::Told;
+use kms_io::Gate;
+use kms_json::Ask;
+use kms_names::{NoMemory, Text};
 use std::alloc::Global;
-use std::marker::{Brand, Model, PhantomData};
-use std::sync::Wait;
-use std::sync::ledger::Ledger;
+use std::sync::{Mutex, MutexGuard, Wait};
 
-/// Names the service that a pass is of.
-pub trait Realm: Ledger {}
-
-impl Realm for Brand {}
-
-/// A service that isn't open yet. Contracts see the facts of its account, which has no entries.
-#[derive(Drop)]
-pub struct Opening {
-    account: Account,
-}
-
-impl Model for Opening {
-    ghost use Rattle.std.specs.Prelude.{◌≡◌, []};
-    ghost use Rattle.account_core.specs.declared.facts.RealmFacts.{RealmFacts};
-
-    ghost Value = { RealmFacts };
-
-    ghost view = { λ o. o.account.facts };
-
-    ghost invariant = { λ o. o.account.entries ≡ [] };
-}
-
-/// A service. It holds nothing yet, as its one pass owns the account.
-#[derive(Drop)]
+/// What the passes share: the desk and the board, each behind a lock of its own. It isn't dropped: whoever
+/// opened it shuts it.
 pub struct Service<R: Realm> {
-    realm: PhantomData<R>,
+    desk: Mutex<Desk<R>>,
+    board: Mutex<Told<R>>,
+    region: Text,
+    ghost region_is: { region ≡ R.facts.region },
 }
 
-impl Opening {
-    ghost use Rattle.std.specs.Prelude.{◌≡◌, IfOk};
-
-    /// A service of an account with these facts and no entries, and of one pass.
-    pub fn new<W: Wait>(
-        _rt: &W,
-        alloc: Global,
-        facts: RealmFacts,
-        n: u16,
-    ) -> Result<Opening, NoMemory>
-        requires { n ≡ 1 }
-        ensures { IfOk result (λ opening. opening ≡ facts) }
+impl<R: Realm> Service<R> {
+    pub(crate) fn new(desk: Desk<R>, board: Told<R>, region: Text) -> Service<R>
+        requires { region ≡ R.facts.region }
     {
-        let _ = n;
-        let account = Account::empty(alloc, facts)?;
-        Ok(Opening { account })
+        Service {
+            desk: Mutex::new(desk),
+            board: Mutex::new(board),
+            region,
+        }
+    }
+
+    /// Ends the writer of the published account. It takes no memory.
+    pub fn shut<W: Wait>(self, rt: &W) {
+        let Service {
+            desk,
+            board: _,
+            region: _,
+        } = self;
+        desk.into_inner().close(rt);
+    }
+
+    /// The region of the service. It takes no memory.
+    pub fn region(&self) -> &str
+        ensures { result.now ≡ R.facts.region }
+    {
+        self.region.as_str()
     }
 }
 
-/// Opens a service. Its pass has the number 1 and has seen no entries.
-pub fn open_service<W: Wait, R: Realm>(
-    _rt: &W,
+// Locks the desk, and changes the account where the desk's history is then the pass's. It is None where the pass
+// has seen more than the desk.
+#[tactic(auto, using(crate::proofs::Meeting::changed_on, crate::proofs::Meeting::wanted_on))]
+fn try_change<R: Realm, W: Wait, G: Gate>(
+    rt: &W,
     alloc: Global,
-    opening: Opening,
-) -> Result<(Service<R>, Vec<Pass<R>>), NoMemory>
-    ensures { IfOk result (λ opened. opened.1.items ≡ first_pass opening ∷ []) }
+    service: &Service<R>,
+    pass: &mut Pass<R>,
+    ask: &Ask,
+    gate: &G,
+) -> Option<Result<Answered, NoMemory>>
+    requires proper { IsProper pass.old.facts ask.now }
+    requires changes { changes_account ask.now.body ≡ true }
+    ensures none { IfNone result (Learns pass.old pass.new) }
+    ensures answer { IfSome result (λ r. IfOk r (λ a. AnswersChange pass.old ask.now a pass.new)) }
+    ensures wants { IfSome result (λ r. OnErr r (WantsChange pass.old ask.now pass.new)) }
 {
-    let Opening { account } = opening;
-    let mut passes = Vec::new(alloc);
-    passes.push(Pass::new(account))?;
-    Ok((Service { realm: PhantomData }, passes))
+    let mut desk = service.desk.lock(rt);
+    if desk.meet(pass) {
+        let answered = desk.change(rt, alloc, pass, ask, gate);
+        let _ = MutexGuard::unlock(desk);
+        return Some(answered);
+    }
+    let _ = MutexGuard::unlock(desk);
+    None
+}
+
+// The same for housekeeping.
+#[tactic(auto, using(crate::proofs::Meeting::kept_on, crate::proofs::Meeting::left_on))]
+fn try_keep_house<R: Realm, W: Wait>(
+    rt: &W,
+    alloc: Global,
+    service: &Service<R>,
+    pass: &mut Pass<R>,
+    moment: u64,
+) -> Option<Result<(), NoMemory>>
+    requires { moment < 253402300800 }
+    ensures none { IfNone result (Learns pass.old pass.new) }
+    ensures kept { IfSome result (λ r. OnOk r (KeepsHouse pass.old moment pass.new)) }
+    ensures wants { IfSome result (λ r. OnErr r (WantsHouse pass.old moment pass.new)) }
+{
+    let mut desk = service.desk.lock(rt);
+    if desk.meet(pass) {
+        let kept = desk.keep_house(rt, alloc, pass, moment);
+        let _ = MutexGuard::unlock(desk);
+        return Some(kept);
+    }
+    let _ = MutexGuard::unlock(desk);
+    None
+}
+
+fn try_settle<R: Realm, W: Wait>(rt: &W, service: &Service<R>, pass: &mut Pass<R>) -> bool
+    ensures { Learns pass.old pass.new }
+{
+    let mut desk = service.desk.lock(rt);
+    let met = desk.meet(pass);
+    let _ = MutexGuard::unlock(desk);
+    met
+}
+
+impl<R: Realm> Pass<R> {
+    ghost use Rattle.std.specs.Prelude.{◌<◌, ◌≡◌, true, IfOk, OnOk, OnErr};
+
+    /// Answers a request that changes the account, at a history that holds all that this pass has seen, and
+    /// appends its entry, if it has one. Housekeeping comes first. The pass then holds the whole published
+    /// history. For want of memory at most the entry of housekeeping was appended.
+    ///
+    /// It locks the desk. The next account and the reply's body are made before the entry is published.
+    #[tactic(auto, using(crate::proofs::Meeting::learns_self, crate::proofs::Meeting::learns_trans, crate::proofs::Meeting::changed_after, crate::proofs::Meeting::wanted_after, crate::proofs::Meeting::proper_after))]
+    pub fn change<W: Wait, G: Gate>(
+        &mut self,
+        rt: &W,
+        alloc: Global,
+        service: &Service<R>,
+        ask: &Ask,
+        gate: &G,
+    ) -> Result<Answered, NoMemory>
+        requires proper { IsProper self.old.facts ask.now }
+        requires changes { changes_account ask.now.body ≡ true }
+        ensures answer { IfOk result (λ a. AnswersChange self.old ask.now a self.new) }
+        ensures wants { OnErr result (WantsChange self.old ask.now self.new) }
+    {
+        for _ in rt.forever() {
+            if let Some(answered) = try_change(rt, alloc, service, self, ask, gate) {
+                return answered;
+            }
+        }
+        unreachable!()
+    }
+
+    /// Appends the entry of housekeeping at the clock's answer, if one is due at the whole published history,
+    /// which the pass then holds. For want of memory at most that entry was appended.
+    #[tactic(auto, using(crate::proofs::Meeting::learns_self, crate::proofs::Meeting::learns_trans, crate::proofs::Meeting::kept_after, crate::proofs::Meeting::left_after))]
+    pub fn keep_house<W: Wait>(
+        &mut self,
+        rt: &W,
+        alloc: Global,
+        service: &Service<R>,
+        moment: u64,
+    ) -> Result<(), NoMemory>
+        requires { moment < 253402300800 }
+        ensures kept { OnOk result (KeepsHouse self.old moment self.new) }
+        ensures wants { OnErr result (WantsHouse self.old moment self.new) }
+    {
+        for _ in rt.forever() {
+            if let Some(kept) = try_keep_house(rt, alloc, service, self, moment) {
+                return kept;
+            }
+        }
+        unreachable!()
+    }
+
+    /// Learns the desk's whole history. It takes no memory.
+    #[tactic(auto, using(crate::proofs::Meeting::learns_self, crate::proofs::Meeting::learns_trans))]
+    pub fn settle<W: Wait>(&mut self, rt: &W, service: &Service<R>)
+        ensures { Learns self.old self.new }
+    {
+        for _ in rt.forever() {
+            if try_settle(rt, service, self) {
+                return;
+            }
+        }
+        unreachable!()
+    }
+
+    /// Leaves what this pass knows on the board. It takes no memory.
+    pub fn post<W: Wait>(&self, rt: &W, service: &Service<R>) {
+        service.board.lock(rt).add(&self.tell());
+    }
+
+    /// Learns what the board holds. It takes no memory.
+    pub fn catch_up<W: Wait>(&mut self, rt: &W, service: &Service<R>)
+        ensures { Learns self.old self.new }
+    {
+        let board = service.board.lock(rt);
+        self.learn(&*board);
+    }
 }

@@ -1,6 +1,6 @@
 use Rattle.std.proofs.Common.{refl}
-use Rattle.publish_pass.specs.Pass.{first_pass}
+use Rattle.publish_pass.specs.Pass.{fresh_pass}
 use Rattle.kms_local.proofs.program.serve_once.Goals as goal
 
 pub returns-in_default : goal.returns-in_default
-returns-in_default g c = record { pass = first_pass c.args.opening; ends = refl }
+returns-in_default g c = record { pass = fresh_pass c.args.opening.shown.whole.facts 1; ends = refl }

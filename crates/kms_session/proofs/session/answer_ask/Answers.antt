@@ -1,15 +1,9 @@
 use Rattle.publish_pass.proofs.PassLemmas.{on_err}
-use Rattle.kms_session.proofs.ReplyLemmas.{gives_changed, gives_read, wants_changed, wants_reading}
+use Rattle.kms_session.proofs.ReplyLemmas.{gives_changed, wants_changed}
 use Rattle.kms_session.proofs.session.answer_ask.Goals as goal
 
 pub returns-then-changes-clause-answer : goal.returns-then-changes-clause-answer
 returns-then-changes-clause-answer g c = gives_changed c.args.pass.now c.change.new.self c.args.ask.now c.in_ok-answered.answered c.if-changes.ensures c.in_ok-answered.ensures.answer
 
-pub returns-in-Ok-clause-answer : goal.returns-in-Ok-clause-answer
-returns-in-Ok-clause-answer g c = gives_read c.args.pass.now c.read.new.self c.args.ask.now c.in-Ok.answered c.if-changes.ensures c.in-Ok.ensures.answer
-
 pub returns-in_err-answered-clause-wants : goal.returns-in_err-answered-clause-wants
 returns-in_err-answered-clause-wants g c = on_err c.from_residual.result (wants_changed c.args.pass.now c.change.new.self c.args.ask.now c.if-changes.ensures c.in_err-answered.ensures.wants)
-
-pub returns-in-Err-clause-wants : goal.returns-in-Err-clause-wants
-returns-in-Err-clause-wants g c = wants_reading c.args.pass.now c.read.new.self c.args.ask.now c.if-changes.ensures c.in-Err.ensures.wants

@@ -1,0 +1,108 @@
+-- What a look at the published account answers.
+use Rattle.std.proofs.Common.{◌≡◌, ℕ, List, length, sym, subst, refl, ap, ◌∙◌, arith, le_refl, Result, Ok, Err}
+use Rattle.std.specs.Result.{IfErr, IsErr, IsErrAnd}
+use Rattle.std.proofs.lemmas.Bool.{false≢true}
+use Rattle.kms_names.specs.declared.faults.NoMemory.{NoMemory as Starved}
+use Rattle.std.proofs.lemmas.List.{length-map}
+use mathlib.Core.List.{IsPrefix}
+use Rattle.draw_lines.specs.Line.{Line}
+use Rattle.kms_json.specs.declared.asks.Ask.{Ask}
+use Rattle.account_core.specs.declared.facts.RealmFacts.{RealmFacts}
+use Rattle.account_core.specs.declared.entries.Entry.{Entry}
+use Rattle.account_core.specs.declared.places.Places.{Places}
+use Rattle.account_core.specs.Places.{IsWithin, places_of, line_at}
+use Rattle.account_core.specs.Decide.{decide}
+use Rattle.account_core.proofs.GoingOn.{decide_goes_on, within_places, places_at}
+use Rattle.publish_pass.specs.declared.answered.Answered.{Answered}
+use Rattle.publish_pass.specs.Pairs.{IsHistory, entries_of}
+use Rattle.publish_pass.specs.Reading.{AnswersAt, Settles}
+use Rattle.publish_pass.specs.declared.answered.Unread.{Unread}
+use Rattle.publish_pass.specs.declared.answered.Unread.TheVariants.{NoMemory}
+use Rattle.publish_pass.specs.Pass.{Pass, Meets, AnswersRead, LacksRead}
+
+-- a line that has gone where a decision leaves it has gone on at most so far
+pub went_on : (facts : RealmFacts) (entries : List Entry) (x : Ask) (old new : Line) → new ≡ line_at old (decide facts entries x (places_of old)).places
+    → IsWithin old new (decide facts entries x (places_of old)).places
+went_on facts entries x old new is =
+    let after : Places = (decide facts entries x (places_of old)).places in
+    let on = decide_goes_on facts entries x (places_of old) in
+    subst (λ (l : Line). IsWithin old l after) (sym is)
+    (record {
+      seed = refl;
+      boot = refl;
+      number = refl;
+      words_from = on.words_from;
+      words_to = omega arith;
+      ivs_from = on.ivs_from;
+      ivs_to = omega arith;
+    })
+
+-- an error leaves the line so far at most
+pub settles_err : (facts : RealmFacts) (entries : List Entry) (x : Ask) (old new : Line) (r : Result Answered Starved) → IsErr r
+    → IsWithin old new (decide facts entries x (places_of old)).places → Settles facts entries x old r new
+settles_err facts entries x old new (Ok a) is within = absurd (false≢true is)
+settles_err facts entries x old new (Err why) is within = within
+
+-- a pass that has looked once at a history of its service in which its own comes first
+module _
+    (facts : RealmFacts)
+    (number : ℕ)
+    (own : List ℕ)
+    (missed : ℕ)
+    (before after : List (Entry × ℕ))
+    (old new : Line)
+    (x : Ask)
+    (n : ℕ)
+    (begins : IsPrefix before after)
+    (is : IsHistory facts n after)
+  where
+    abbrev at_first : Pass
+    at_first = record { facts = facts; number = number; history = before; own = own; places = places_of old; missed = missed }
+
+    abbrev met_there : Pass
+    met_there = record { facts = facts; number = number; history = after; own = own; places = places_of old; missed = missed }
+
+    meets_there : Meets at_first met_there
+    meets_there = record { history = begins; others = refl; missed = le_refl missed; lawful = λ lawful. is.lawful }
+
+    abbrev at_end : ℕ → Pass
+    at_end m = record { facts = facts; number = number; history = after; own = own; places = places_of new; missed = m }
+
+    same_end : (m : ℕ) → m ≡ missed → at_end missed ≡ at_end m
+    same_end m same = ap at_end (sym same)
+
+    pub answers_read : (s : Pass) (m : ℕ) (a : Answered) → at_first ≡ s → m ≡ missed → AnswersAt facts (entries_of after) x old a new → AnswersRead s x a (at_end m)
+    answers_read s m a is_first same here =
+        let places : Places = (decide facts (entries_of after) x (places_of old)).places in
+        let there : places_of new ≡ places = places_at old new places (decide_goes_on facts (entries_of after) x (places_of old)).number here.used in
+        let read : AnswersRead at_first x a (at_end missed) = record {
+          reply = (decide facts (entries_of after) x (places_of old)).reply;
+          reads = record {
+            met = met_there;
+            seen = meets_there;
+            answer = refl;
+            used = ap (λ (p : Places). let t : Pass = record { facts = facts; number = number; history = after; own = own; places = p; missed = missed } in t) there;
+          };
+          answer = here.answer;
+          front = here.front ∙ length-map after (λ (made : Entry × ℕ). made.0);
+          missed = refl;
+        } in
+        subst (λ (p : Pass). AnswersRead p x a (at_end m)) is_first (subst (AnswersRead at_first x a) (same_end m same) read)
+
+    pub wants_read : (s : Pass) (m : ℕ) → at_first ≡ s → m ≡ missed → IsWithin old new (decide facts (entries_of after) x (places_of old)).places → LacksRead s x NoMemory (at_end m)
+    wants_read s m is_first same here =
+        let wants : LacksRead at_first x NoMemory (at_end missed) = (
+          record {
+            met = met_there;
+            seen = meets_there;
+            places = places_of new;
+            used = refl;
+            at_most = within_places old new (decide facts (entries_of after) x (places_of old)).places here;
+          },
+          refl,
+        ) in
+        subst (λ (p : Pass). LacksRead p x NoMemory (at_end m)) is_first (subst (LacksRead at_first x NoMemory) (same_end m same) wants)
+
+pub lacks_where : {A : Type 0} (r : Result A Unread) (s : Pass) (x : Ask) (t : Pass) → IsErrAnd r (λ why. why ≡ NoMemory) → LacksRead s x NoMemory t → IfErr r (λ why. LacksRead s x why t)
+lacks_where (Ok a) s x t is lacks = tt
+lacks_where (Err why) s x t is lacks = subst (λ (w : Unread). LacksRead s x w t) (sym is) lacks

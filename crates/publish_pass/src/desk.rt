@@ -1,0 +1,250 @@
+// The desk.
+ghost use Rattle.std.specs.Prelude.{◌≡◌, ◌<◌, ◌≤◌, ◌++◌, ◌∷◌, [], length, true, IfOk, OnOk, OnErr, IsTrue, ◌↔◌};
+ghost use Rattle.std.specs.Arc.{arc_value};
+ghost use Rattle.kms_json.specs.Asks.{changes_account};
+ghost use Rattle.account_core.specs.Decide.{IsProper, IsNext};
+ghost use Rattle.publish_pass.specs.Answers.{answer_of, answer_in};
+ghost use Rattle.publish_pass.specs.Pairs.{entries_of};
+ghost use Rattle.publish_pass.specs.Growing.{IsLongerOf};
+ghost use Rattle.publish_pass.specs.Pass.{Learns, making, keeping_house, AnswersHere, AnswersAtDesk, LeavesAtMost};
+ghost use Rattle.publish_pass.specs.Rules.{Names};
+
+use crate::answered::{Answered, answer_with};
+use crate::line::{Head, Line};
+use crate::pass::Pass;
+use crate::published::Published;
+use crate::realm::Realm;
+use crate::rule::Copies;
+use crate::show::show;
+use crate::whole::Whole;
+use account_core::{Account, Decision, Entry};
+use kms_io::{Gate, Point};
+use kms_json::{Ask, Reply};
+use kms_names::NoMemory;
+use std::alloc::Global;
+use std::marker::{Model, PhantomData};
+use std::sync::ledger::Book;
+use std::sync::{Arc, Wait};
+
+/// What lies under the service's lock: the writer of the published account. Contracts see it as the published
+/// history, each entry with the number of the pass that made it.
+pub struct Desk<R: Realm> {
+    writer: Copies,
+    head: Head<R>,
+    book: Book<R>,
+    of: PhantomData<R>,
+}
+
+impl<R: Realm> Model for Desk<R> {
+    ghost use Rattle.std.specs.Prelude.{◌≡◌, ℕ, List, length};
+    ghost use Rattle.publish_pass.specs.Rules.{Names};
+    ghost use Rattle.account_core.specs.declared.entries.Entry.{Entry};
+
+    ghost Value = { List (Entry × ℕ) };
+
+    ghost view = { λ d. d.writer.desk.shown.value.whole.pairs };
+
+    ghost invariant = { λ d. (d.book.total ≡ length d.writer.desk.shown.value.whole.pairs) × Names R.book R.facts R.passes d.writer.desk.shown.value };
+}
+
+impl<R: Realm> Desk<R> {
+    pub(crate) fn new(writer: Copies, head: Head<R>, book: Book<R>) -> Desk<R>
+        requires names { Names R.book R.facts R.passes writer.desk.shown.value }
+        requires empty { writer.desk.shown.value.whole.pairs ≡ [] }
+        requires total { book.total ≡ 0 }
+        ensures { result ≡ [] }
+    {
+        Desk {
+            writer,
+            head,
+            book,
+            of: PhantomData,
+        }
+    }
+
+    // Ends the writer.
+    pub(crate) fn close<W: Wait>(self, rt: &W) {
+        let Desk {
+            writer,
+            head: _,
+            book: _,
+            of: _,
+        } = self;
+        drop(writer.take(rt));
+    }
+
+    // The published account with its makers.
+    fn whole(&self) -> &Whole
+        ensures { result.now ≡ record { facts = R.facts; passes = R.passes; pairs = self.now } }
+    {
+        self.writer.published().whole()
+    }
+
+    // The published account.
+    fn account(&self) -> &Account
+        ensures { result.now ≡ record { facts = R.facts; entries = entries_of self.now } }
+    {
+        self.whole().account()
+    }
+
+    // The published history.
+    fn line(&self) -> Line<R>
+        ensures { result ≡ self.now }
+    {
+        let shown = self.writer.published();
+        Line::of(shown.glimpse(), shown.whole().len())
+    }
+
+    /// The pass learns the desk's whole history. It is true exactly where the pass has then seen as many
+    /// entries as the desk has, and then the two histories are one. The passes have made no more entries than
+    /// there are, and where there is one pass, it made them all. It takes no memory.
+    pub fn meet(&mut self, pass: &mut Pass<R>) -> bool
+        ensures desk { self.new ≡ self.old }
+        ensures longer { IsLongerOf pass.old.history self.old pass.new.history }
+        ensures learns { Learns pass.old pass.new }
+        ensures met { IsTrue result ↔ (length pass.new.history ≡ length self.old) }
+        ensures same { IsTrue result → pass.new.history ≡ self.old }
+        ensures bound { length pass.new.own ≤ length self.new }
+        ensures alone { R.parts ≡ 1 → length pass.new.own ≡ length self.new }
+    {
+        self.book.audit(&mut pass.share);
+        let line = self.line();
+        pass.learn_line(&line);
+        pass.seen() == line.len()
+    }
+
+    // All that takes memory before an entry is published: the next account, and room for its place.
+    fn prepare(
+        &self,
+        alloc: Global,
+        pass: &mut Pass<R>,
+        entry: &Entry,
+    ) -> Result<Arc<Whole>, NoMemory>
+        requires { IsNext R.facts (entries_of self.now) entry.now }
+        ensures pass { pass.new ≡ pass.old }
+        ensures whole { IfOk result (λ w. arc_value w ≡ record { facts = R.facts; passes = R.passes; pairs = self.now ++ (entry.now, pass.old.number) ∷ [] }) }
+    {
+        pass.own.reserve(1)?;
+        self.whole().next(alloc, entry, pass.number())
+    }
+
+    // Publishes the next account, whose last entry the pass makes. Where it answers want of memory nothing is
+    // published; that doesn't come, since the desk alone makes the history longer.
+    fn publish<W: Wait>(
+        &mut self,
+        rt: &W,
+        pass: &mut Pass<R>,
+        whole: Arc<Whole>,
+        entry: Entry,
+    ) -> Result<(), NoMemory>
+        requires next { IsNext R.facts (entries_of self.old) entry }
+        requires whole { arc_value whole ≡ record { facts = R.facts; passes = R.passes; pairs = self.old ++ (entry, pass.old.number) ∷ [] } }
+        requires met { pass.old.history ≡ self.old }
+        ensures ok { OnOk result ((self.new ≡ pass.new.history) × (pass.new ≡ making pass.old entry)) }
+        ensures err { OnErr result ((self.new ≡ self.old) × (pass.new ≡ pass.old)) }
+    {
+        pass.own.reserve(1)?;
+        let mut line = self.line();
+        let place = line.len();
+        if place >= 1 << 62 || !line.push(&self.head, &(entry, pass.number())) {
+            return Err(NoMemory);
+        }
+        let published = Published::new(whole, line.glimpse());
+        show(rt, &mut self.writer, published);
+        self.book.add(&mut pass.share, 1);
+        pass.own.push_reserved(place);
+        pass.line = line;
+        Ok(())
+    }
+
+    /// Publishes the entry of housekeeping at the clock's answer, if one is due. The pass's history is the
+    /// desk's. For want of memory nothing is published.
+    pub fn keep_house<W: Wait>(
+        &mut self,
+        rt: &W,
+        alloc: Global,
+        pass: &mut Pass<R>,
+        moment: u64,
+    ) -> Result<(), NoMemory>
+        requires met { pass.old.history ≡ self.old }
+        requires moment { moment < 253402300800 }
+        ensures ok { OnOk result ((pass.new ≡ keeping_house pass.old moment) × (self.new ≡ pass.new.history)) }
+        ensures err { OnErr result ((pass.new ≡ pass.old) × (self.new ≡ self.old)) }
+    {
+        match self.account().housekeeping(moment) {
+            None => Ok(()),
+            Some(entry) => {
+                let whole = self.prepare(alloc, pass, &entry)?;
+                self.publish(rt, pass, whole, entry)
+            }
+        }
+    }
+
+    // Publishes the entry of a request. The answer is made before.
+    fn enact<W: Wait, G: Gate>(
+        &mut self,
+        rt: &W,
+        alloc: Global,
+        pass: &mut Pass<R>,
+        entry: Entry,
+        reply: &Reply,
+        gate: &G,
+    ) -> Result<Answered, NoMemory>
+        requires met { pass.old.history ≡ self.old }
+        requires next { IsNext R.facts (entries_of self.old) entry }
+        ensures made { OnOk result ((self.new ≡ pass.new.history) × (pass.new ≡ making pass.old entry)) }
+        ensures answer { IfOk result (λ a. (a.front ≡ length pass.new.history) × (answer_in a ≡ answer_of reply.now)) }
+        ensures err { OnErr result ((self.new ≡ self.old) × (pass.new ≡ pass.old)) }
+    {
+        let whole = self.prepare(alloc, pass, &entry)?;
+        let answered = answer_with(alloc, whole.len(), reply)?;
+        gate.at(Point::AtDesk);
+        self.publish(rt, pass, whole, entry)?;
+        Ok(answered)
+    }
+
+    // Answers a request that changes the account, and publishes its entry, if it has one.
+    fn decide<W: Wait, G: Gate>(
+        &mut self,
+        rt: &W,
+        alloc: Global,
+        pass: &mut Pass<R>,
+        ask: &Ask,
+        gate: &G,
+    ) -> Result<Answered, NoMemory>
+        requires met { pass.old.history ≡ self.old }
+        requires proper { IsProper pass.old.facts ask.now }
+        requires changes { changes_account ask.now.body ≡ true }
+        ensures ok { IfOk result (λ a. AnswersHere pass.old ask.now a pass.new × (self.new ≡ pass.new.history)) }
+        ensures err { OnErr result ((pass.new ≡ pass.old) × (self.new ≡ self.old)) }
+    {
+        let front = pass.seen();
+        match self.account().decide_change(alloc, ask)? {
+            Decision::Refused(reply) | Decision::Served(reply) => {
+                answer_with(alloc, front, &reply)
+            }
+            Decision::Change(entry, reply) => self.enact(rt, alloc, pass, entry, &reply, gate),
+        }
+    }
+
+    /// Answers a request that changes the account, after housekeeping, and publishes the entries of both. The
+    /// pass's history is the desk's. For want of memory at most the entry of housekeeping is published.
+    #[tactic(auto, using(crate::proofs::PassLemmas::proper_kept))]
+    pub fn change<W: Wait, G: Gate>(
+        &mut self,
+        rt: &W,
+        alloc: Global,
+        pass: &mut Pass<R>,
+        ask: &Ask,
+        gate: &G,
+    ) -> Result<Answered, NoMemory>
+        requires met { pass.old.history ≡ self.old }
+        requires proper { IsProper pass.old.facts ask.now }
+        requires changes { changes_account ask.now.body ≡ true }
+        ensures ok { IfOk result (λ a. AnswersAtDesk pass.old ask.now a pass.new × (self.new ≡ pass.new.history)) }
+        ensures err { OnErr result (LeavesAtMost pass.old ask.now.moment pass.new × (self.new ≡ pass.new.history)) }
+    {
+        self.keep_house(rt, alloc, pass, ask.moment)?;
+        self.decide(rt, alloc, pass, ask, gate)
+    }
+}

@@ -1,0 +1,225 @@
+// What a service is opened from.
+ghost use Rattle.std.specs.Prelude.{◌≡◌, ◌+◌, ◌<◌, ◌≤◌, [], drop, IfOk};
+ghost use Rattle.left_right.specs.Sides.{view};
+ghost use Rattle.publish_pass.specs.Pass.{fresh_pass, fresh_passes};
+ghost use Rattle.publish_pass.specs.Rules.{Knows, Names};
+
+use crate::desk::Desk;
+use crate::entrance::Entrance;
+use crate::line::{Line, Unnamed};
+use crate::pass::Pass;
+use crate::published::Published;
+use crate::realm::Realm;
+use crate::rule::{Copies, Notes, Window};
+use crate::service::Service;
+use crate::show::warm;
+use crate::told::Told;
+use crate::whole::Whole;
+use account_core::{RealmFacts, draw_line};
+use kms_names::{NoMemory, Text};
+use std::alloc::Global;
+use std::marker::Model;
+use std::sync::Wait;
+use std::sync::ledger::{Blank, Share};
+
+/// A service that isn't open yet: the two copies of its account, which has no entries, and a ledger that no
+/// realm names. It isn't dropped: `open_service` takes it. Contracts see the ledger's name and parts and
+/// what is published.
+pub struct Opening {
+    writer: Copies,
+    unnamed: Unnamed,
+    blank: Blank,
+    passes: u16,
+}
+
+impl Model for Opening {
+    ghost use Rattle.std.specs.Prelude.{◌≡◌, ◌<◌, []};
+    ghost use Rattle.left_right.specs.Sides as sides;
+    ghost use Rattle.publish_pass.specs.Pass as openings;
+    ghost use Rattle.publish_pass.specs.Rules.{Knows};
+
+    ghost Value = { openings.Opening };
+
+    ghost view = { λ o. record { name = o.blank.name; parts = o.blank.parts; shown = o.writer.desk.shown.value } };
+
+    ghost invariant = { λ o. record {
+      book : o.writer.desk.shown.value.book ≡ o.unnamed.seen.book;
+      passes : o.writer.desk.shown.value.whole.passes ≡ o.passes;
+      empty : o.writer.desk.shown.value.whole.pairs ≡ [];
+      parts : o.blank.parts ≡ o.passes;
+      some : 0 < o.passes;
+      knows : Knows o.writer.desk.shown.value.book o.writer.desk.shown.value.whole.facts o.passes (sides.view o.writer.desk.place);
+    } };
+}
+
+// The two copies of an account without entries.
+fn empty_copies(
+    alloc: Global,
+    unnamed: &Unnamed,
+    facts: RealmFacts,
+    passes: u16,
+) -> Result<Copies, NoMemory>
+    requires { 0 < passes }
+    ensures pending { IfOk result (λ w. drop w.behind w.log.items ≡ []) }
+    ensures shown { IfOk result (λ w. w.desk.shown.value ≡ record { book = unnamed.now.seen.book; whole = record { facts = facts; passes = passes; pairs = [] } }) }
+{
+    let whole = Whole::empty(alloc, facts, passes)?;
+    let first = Published::new(whole, unnamed.seen.again());
+    let second = first.share()?;
+    match Copies::new(alloc, first, second, passes as usize) {
+        Ok(writer) => Ok(writer),
+        Err(_) => Err(NoMemory),
+    }
+}
+
+// A reader that has seen what the writer has.
+fn open_window(writer: &mut Copies) -> Result<Window, NoMemory>
+    ensures shown { writer.new.desk.shown.value ≡ writer.old.desk.shown.value }
+    ensures view { view writer.new.desk.place ≡ view writer.old.desk.place }
+    ensures window { IfOk result (λ w. view w.place ≡ view writer.old.desk.place) }
+{
+    let mut window = writer.factory().reader()?;
+    let note = writer.tell::<Notes>();
+    window.learn::<Notes>(note);
+    Ok(window)
+}
+
+// A pass that has seen, made and used nothing. It takes one part of the share.
+fn make_pass<R: Realm>(
+    alloc: Global,
+    writer: &mut Copies,
+    facts: &RealmFacts,
+    line: &Line<R>,
+    share: &mut Share<R>,
+    number: u16,
+) -> Result<Pass<R>, NoMemory>
+    requires knows { Knows R.book R.facts R.passes (view writer.old.desk.place) }
+    requires facts { facts.now ≡ R.facts }
+    requires line { line.now ≡ [] }
+    requires share { (1 ≤ share.old.parts) × (share.old.amount ≡ 0) }
+    requires number { (0 < number) × (number ≤ R.passes) }
+    ensures shown { writer.new.desk.shown.value ≡ writer.old.desk.shown.value }
+    ensures view { view writer.new.desk.place ≡ view writer.old.desk.place }
+    ensures pass { IfOk result (λ pass. pass ≡ fresh_pass R.facts number) }
+    ensures share { IfOk result (λ pass. (share.new.parts + 1 ≡ share.old.parts) × (share.new.amount ≡ 0)) }
+{
+    let window = open_window(writer)?;
+    let entrance = Entrance::new(window);
+    let mine = share.split_off(1, 0);
+    let own = Vec::new(alloc);
+    let draws = draw_line(facts, number);
+    Ok(Pass::new(number, entrance, line.again(), own, draws, mine))
+}
+
+// The passes, with the numbers 1 to n in order.
+fn make_passes<R: Realm>(
+    alloc: Global,
+    writer: &mut Copies,
+    facts: &RealmFacts,
+    line: &Line<R>,
+    share: Share<R>,
+    passes: u16,
+) -> Result<Vec<Pass<R>>, NoMemory>
+    requires knows { Knows R.book R.facts R.passes (view writer.old.desk.place) }
+    requires facts { facts.now ≡ R.facts }
+    requires line { line.now ≡ [] }
+    requires share { (share.parts ≡ passes) × (share.amount ≡ 0) }
+    requires passes { passes ≡ R.passes }
+    ensures shown { writer.new.desk.shown.value ≡ writer.old.desk.shown.value }
+    ensures passes { IfOk result (λ ps. ps.items ≡ fresh_passes R.facts passes) }
+{
+    let mut share = share;
+    let mut all = Vec::new(alloc);
+    for i in 0..passes {
+        let pass = make_pass(alloc, writer, facts, line, &mut share, i + 1)?;
+        all.push(pass)?;
+    }
+    Ok(all)
+}
+
+impl Opening {
+    ghost use Rattle.std.specs.Prelude.{◌≡◌, ◌<◌, ◌≤◌, [], IfOk};
+
+    /// A service of an account with these facts and no entries, and of n passes, 1 to 64.
+    ///
+    /// It makes the two copies of the account, and room for all that publishing takes later beside the
+    /// account itself.
+    pub fn new<W: Wait>(
+        rt: &W,
+        alloc: Global,
+        facts: RealmFacts,
+        n: u16,
+    ) -> Result<Opening, NoMemory>
+        requires { (0 < n) × (n ≤ 64) }
+        ensures { IfOk result (λ o. (o.shown.whole ≡ record { facts = facts; passes = n; pairs = [] }) × (o.parts ≡ n)) }
+    {
+        let unnamed = Unnamed::new();
+        let mut writer = empty_copies(alloc, &unnamed, facts, n)?;
+        if let Ok(like) = writer.published().share() {
+            if warm(rt, &mut writer, like).is_ok() {
+                return Ok(Opening {
+                    writer,
+                    unnamed,
+                    blank: Blank::new(n as u64),
+                    passes: n,
+                });
+            }
+        }
+        drop(writer.take(rt));
+        Err(NoMemory)
+    }
+}
+
+// The passes and the region of a service.
+fn equip<R: Realm>(
+    alloc: Global,
+    writer: &mut Copies,
+    line: &Line<R>,
+    share: Share<R>,
+    passes: u16,
+) -> Result<(Vec<Pass<R>>, Text), NoMemory>
+    requires knows { Knows R.book R.facts R.passes (view writer.old.desk.place) }
+    requires names { Names R.book R.facts R.passes writer.old.desk.shown.value }
+    requires line { line.now ≡ [] }
+    requires share { (share.parts ≡ passes) × (share.amount ≡ 0) }
+    requires passes { passes ≡ R.passes }
+    ensures shown { writer.new.desk.shown.value ≡ writer.old.desk.shown.value }
+    ensures passes { IfOk result (λ made. made.0.items ≡ fresh_passes R.facts R.passes) }
+    ensures region { IfOk result (λ made. made.1 ≡ R.facts.region) }
+{
+    let facts = writer.published().whole().account().facts().copy()?;
+    let passes = make_passes(alloc, writer, &facts, line, share, passes)?;
+    Ok((passes, facts.region))
+}
+
+/// Opens a service: what the passes share, and the passes, with the numbers 1 to n in order. They have seen
+/// no entries, made none, and used nothing. The realm's members are the opening's. Where it is refused, the
+/// opening is gone.
+pub fn open_service<W: Wait, R: Realm>(
+    rt: &W,
+    alloc: Global,
+    opening: Opening,
+) -> Result<(Service<R>, Vec<Pass<R>>), NoMemory>
+    requires ledger { (opening.name ≡ R.name) × (opening.parts ≡ R.parts) }
+    requires names { Names R.book R.facts R.passes opening.shown }
+    ensures { IfOk result (λ opened. opened.1.items ≡ fresh_passes R.facts R.passes) }
+{
+    let Opening {
+        mut writer,
+        unnamed,
+        blank,
+        passes,
+    } = opening;
+    let (book, share) = blank.open::<R>();
+    let (head, line) = unnamed.named::<R>();
+    match equip(alloc, &mut writer, &line, share, passes) {
+        Err(error) => {
+            drop(writer.take(rt));
+            Err(error)
+        }
+        Ok((passes, region)) => {
+            let desk = Desk::new(writer, head, book);
+            Ok((Service::new(desk, Told::new(line), region), passes))
+        }
+    }
+}

@@ -1,0 +1,53 @@
+// What a pass tells.
+ghost use Rattle.std.specs.Prelude.{◌≡◌, length};
+ghost use Rattle.publish_pass.specs.Growing.{IsLongerOf};
+ghost use Rattle.publish_pass.specs.Pairs.{IsHistory};
+
+use crate::line::Line;
+use crate::realm::Realm;
+use std::marker::Model;
+
+/// What a pass tells others: the history that it has seen. It takes no memory. Contracts see that history,
+/// each entry with the number of the pass that made it.
+#[derive(Drop)]
+pub struct Told<R: Realm> {
+    line: Line<R>,
+}
+
+impl<R: Realm> Model for Told<R> {
+    ghost use Rattle.std.specs.Prelude.{ℕ, List};
+    ghost use Rattle.account_core.specs.declared.entries.Entry.{Entry};
+
+    ghost Value = { List (Entry × ℕ) };
+
+    ghost view = { λ t. t.line };
+}
+
+impl<R: Realm> Told<R> {
+    pub(crate) fn new(line: Line<R>) -> Told<R>
+        ensures { result ≡ line }
+    {
+        Told { line }
+    }
+
+    pub(crate) fn line(&self) -> &Line<R>
+        ensures { result.now ≡ self.now }
+    {
+        &self.line
+    }
+
+    // Becomes the longer of both, which the other begins.
+    pub(crate) fn add(&mut self, other: &Told<R>)
+        ensures { IsLongerOf self.old other.now self.new }
+    {
+        self.line.learn(&other.line);
+    }
+
+    /// The number of entries that are told. Each of them is one that may come next after those before it.
+    pub fn front(&self) -> u64
+        ensures count { result ≡ length self.now }
+        ensures history { IsHistory R.facts R.passes self.now }
+    {
+        self.line.len()
+    }
+}
