@@ -1,7 +1,7 @@
 -- Along a run the pass's history only grows.
 use Rattle.std.proofs.Common.{◌≡◌, ◌⊎◌, inl, inr, ℕ, List, Bool, Option, Some, None, sym, ap, subst}
 use mathlib.Core.List.{IsPrefix}
-use Rattle.account_core.specs.declared.entries.Entry.{Entry}
+use Rattle.account_core.specs.History.{Entry}
 use Rattle.account_core.specs.History.{housekeeping_of}
 use Rattle.account_core.specs.Decide.{decide}
 use Rattle.publish_pass.specs.Answers.{Answer}

@@ -7,7 +7,7 @@ use Rattle.kms_json.specs.declared.refusals.Refusal.{Refusal}
 use Rattle.kms_json.specs.declared.replies.Reply.{Reply}
 use Rattle.kms_json.specs.Asks.{changes_account}
 use Rattle.account_core.specs.declared.facts.RealmFacts.{RealmFacts}
-use Rattle.account_core.specs.declared.entries.Entry.{Entry}
+use Rattle.account_core.specs.History.{Entry}
 use Rattle.account_core.specs.declared.places.Places.{Places}
 use Rattle.account_core.specs.Places.{IsUpTo, no_places}
 use Rattle.account_core.specs.History.{housekeeping_of}

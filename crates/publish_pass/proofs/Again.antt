@@ -7,7 +7,7 @@ use mathlib.Core.List.{IsPrefix}
 use mathlib.Core.Logic.{dite}
 use native.Mathlib.Decide.{dec_le}
 use Rattle.account_core.specs.declared.facts.RealmFacts.{RealmFacts}
-use Rattle.account_core.specs.declared.entries.Entry.{Entry}
+use Rattle.account_core.specs.History.{Entry}
 use Rattle.account_core.specs.declared.places.Places.{Places}
 use Rattle.account_core.specs.Decide.{IsLawful, empty, longer}
 use Rattle.account_core.specs.Laws.{PassGoesOn, TimesNeverFall, SealedIsDecryptedAgain, OnePassRepeatsNoIv, AsksToOpen, reply_to}

@@ -4,7 +4,7 @@ use Rattle.std.specs.List.{zip}
 use mathlib.Core.List.{IsPrefix}
 use Rattle.std.proofs.lemmas.List.{map-append}
 use Rattle.std.proofs.lemmas.List.Elements.{All-nil, All-push}
-use Rattle.account_core.specs.declared.entries.Entry.{Entry}
+use Rattle.account_core.specs.History.{Entry}
 use Rattle.account_core.specs.Decide.{IsNext, IsLawful, empty, longer}
 use Rattle.publish_pass.specs.Pairs.{entries_of, IsHistory, Whole}
 use Rattle.publish_pass.specs.Pass.{fresh_pass, fresh_passes}

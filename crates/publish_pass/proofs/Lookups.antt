@@ -8,7 +8,7 @@ use mathlib.Core.List.{IsPrefix}
 use Rattle.draw_lines.specs.Line.{Line}
 use Rattle.kms_json.specs.declared.asks.Ask.{Ask}
 use Rattle.account_core.specs.declared.facts.RealmFacts.{RealmFacts}
-use Rattle.account_core.specs.declared.entries.Entry.{Entry}
+use Rattle.account_core.specs.History.{Entry}
 use Rattle.account_core.specs.declared.places.Places.{Places}
 use Rattle.account_core.specs.Places.{IsWithin, places_of, line_at}
 use Rattle.account_core.specs.Decide.{decide}

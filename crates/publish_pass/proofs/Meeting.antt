@@ -3,7 +3,7 @@ use Rattle.std.proofs.Common.{◌≡◌, ℕ, List, refl, sym, ap, subst, ◌∙
 use mathlib.Core.List.{IsPrefix}
 use Rattle.kms_json.specs.declared.asks.Ask.{Ask}
 use Rattle.account_core.specs.declared.facts.RealmFacts.{RealmFacts}
-use Rattle.account_core.specs.declared.entries.Entry.{Entry}
+use Rattle.account_core.specs.History.{Entry}
 use Rattle.account_core.specs.Decide.{IsProper, IsLawful}
 use Rattle.publish_pass.specs.declared.answered.Answered.{Answered}
 use Rattle.publish_pass.specs.Pairs.{IsHistory, entries_of}

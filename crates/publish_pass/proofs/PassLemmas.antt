@@ -9,7 +9,7 @@ use Rattle.kms_json.specs.declared.replies.Reply.{Reply}
 use Rattle.kms_json.specs.Replies.{status_of}
 use Rattle.kms_json.specs.Asks.{changes_account}
 use Rattle.account_core.specs.declared.facts.RealmFacts.{RealmFacts}
-use Rattle.account_core.specs.declared.entries.Entry.{Entry}
+use Rattle.account_core.specs.History.{Entry}
 use Rattle.account_core.specs.declared.decide.Decision.{Decision}
 use Rattle.account_core.specs.declared.decide.Decision.TheVariants.{Refused, Served, Change}
 use Rattle.account_core.specs.History.{housekeeping_of}

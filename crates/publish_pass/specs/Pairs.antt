@@ -2,7 +2,7 @@
 use Rattle.std.specs.Prelude.{ℕ, ◌<◌, ◌≤◌, List, map, All}
 use Rattle.logbook.specs.Pages.{Book}
 use Rattle.account_core.specs.declared.facts.RealmFacts.{RealmFacts}
-use Rattle.account_core.specs.declared.entries.Entry.{Entry}
+use Rattle.account_core.specs.History.{Entry}
 use Rattle.account_core.specs.Decide.{IsLawful}
 
 -- an account with the makers of its entries: the facts, the number of passes, and the entries, each with its maker

@@ -5,7 +5,7 @@ use Rattle.draw_lines.specs.Line.{Line}
 use Rattle.kms_names.specs.declared.faults.NoMemory.{NoMemory}
 use Rattle.kms_json.specs.declared.asks.Ask.{Ask}
 use Rattle.account_core.specs.declared.facts.RealmFacts.{RealmFacts}
-use Rattle.account_core.specs.declared.entries.Entry.{Entry}
+use Rattle.account_core.specs.History.{Entry}
 use Rattle.account_core.specs.Places.{IsWithin, places_of, line_at}
 use Rattle.account_core.specs.Decide.{decide}
 use Rattle.publish_pass.specs.declared.answered.Answered.{Answered}

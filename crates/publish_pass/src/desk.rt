@@ -38,7 +38,7 @@ pub struct Desk<R: Realm> {
 impl<R: Realm> Model for Desk<R> {
     ghost use Rattle.std.specs.Prelude.{◌≡◌, ℕ, List, length};
     ghost use Rattle.publish_pass.specs.Rules.{Names};
-    ghost use Rattle.account_core.specs.declared.entries.Entry.{Entry};
+    ghost use Rattle.account_core.specs.History.{Entry};
 
     ghost Value = { List (Entry × ℕ) };
 

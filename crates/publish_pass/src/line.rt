@@ -116,7 +116,7 @@ pub(crate) struct Line<R: Realm> {
 
 impl<R: Realm> Model for Line<R> {
     ghost use Rattle.std.specs.Prelude.{◌≡◌, ℕ, List, length};
-    ghost use Rattle.account_core.specs.declared.entries.Entry.{Entry};
+    ghost use Rattle.account_core.specs.History.{Entry};
     ghost use Rattle.publish_pass.specs.Pairs.{IsHistory};
 
     ghost Value = { List (Entry × ℕ) };

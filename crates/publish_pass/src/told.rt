@@ -16,7 +16,7 @@ pub struct Told<R: Realm> {
 
 impl<R: Realm> Model for Told<R> {
     ghost use Rattle.std.specs.Prelude.{ℕ, List};
-    ghost use Rattle.account_core.specs.declared.entries.Entry.{Entry};
+    ghost use Rattle.account_core.specs.History.{Entry};
 
     ghost Value = { List (Entry × ℕ) };
 

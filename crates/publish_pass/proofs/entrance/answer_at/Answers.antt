@@ -1,6 +1,6 @@
 use Rattle.std.proofs.Common.{◌≡◌, ap, sym, ◌∙◌, subst, ℕ, List, length}
 use Rattle.account_core.specs.declared.facts.RealmFacts.{RealmFacts}
-use Rattle.account_core.specs.declared.entries.Entry.{Entry}
+use Rattle.account_core.specs.History.{Entry}
 use Rattle.account_core.specs.Decide.{IsProper}
 use Rattle.account_core.specs.Places.{IsLineOf}
 use Rattle.publish_pass.specs.Pairs.{Shown, Whole, IsHistory, entries_of}

@@ -1,6 +1,6 @@
 use Rattle.std.proofs.Common.{◌≡◌, ◌<◌, ◌≤◌, refl, ap, sym, ◌∙◌, subst, arith, List, ℕ, length, length-append, ◌++◌, ◌∷◌, []}
 use Rattle.account_core.specs.Decide.{IsNext}
-use Rattle.account_core.specs.declared.entries.Entry.{Entry}
+use Rattle.account_core.specs.History.{Entry}
 use Rattle.publish_pass.specs.Pairs.{IsHistory, entries_of}
 use Rattle.publish_pass.specs.Growing.{Pairs}
 use Rattle.publish_pass.proofs.Lists.{history_push}

@@ -3,7 +3,7 @@ use Rattle.std.specs.List.{zip}
 use Rattle.account_core.specs.declared.facts.RealmFacts.{RealmFacts}
 use Rattle.publish_pass.specs.Pairs.{entries_of, IsHistory, Whole}
 use Rattle.account_core.specs.Decide.{IsNext}
-use Rattle.account_core.specs.declared.entries.Entry.{Entry}
+use Rattle.account_core.specs.History.{Entry}
 use Rattle.publish_pass.proofs.Lists.{entries_of-zip, history_push, zip_pushed, whole_is}
 use Rattle.publish_pass.proofs.whole.Whole.apply.Goals as goal
 
