@@ -22,7 +22,7 @@ use std::sync::Wait;
 use std::{fs, io, rt};
 
 // The scripts, each with the cases that show one thing.
-const SCRIPTS: [&str; 12] = [
+const SCRIPTS: [&str; 14] = [
     "first_path.txt",
     "pieces.txt",
     "faults.txt",
@@ -35,6 +35,8 @@ const SCRIPTS: [&str; 12] = [
     "limits.txt",
     "authority.txt",
     "key_policies.txt",
+    "key_states.txt",
+    "rotation.txt",
 ];
 
 // How many cases held, and how many didn't.
