@@ -22,7 +22,7 @@ use std::sync::Wait;
 use std::{fs, io, rt};
 
 // The scripts, each with the cases that show one thing.
-const SCRIPTS: [&str; 14] = [
+const SCRIPTS: [&str; 15] = [
     "first_path.txt",
     "pieces.txt",
     "faults.txt",
@@ -31,6 +31,7 @@ const SCRIPTS: [&str; 14] = [
     "sealing.txt",
     "draws.txt",
     "refusals_in_order.txt",
+    "bodies.txt",
     "sizes.txt",
     "limits.txt",
     "authority.txt",
