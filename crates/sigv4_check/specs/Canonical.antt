@@ -1,0 +1,35 @@
+-- The canonical request (AWS General Reference, "Create a signed AWS API request", step 1).
+use Rattle.std.specs.Prelude.{ℕ, Bool, true, false, ◌==◌, ◌&&◌, if◌then◌else◌, List, [], ◌∷◌, ◌++◌, map, codes}
+use Rattle.std.specs.List.{join_with_byte}
+use Rattle.hex.specs.Hex.{encode_lower}
+use Rattle.sha2.specs.Sha256.{sha256}
+use Rattle.http_front.specs.Heading.{Field, values_in}
+use Rattle.sigv4_check.specs.Parts.{parts_at}
+
+abbrev pub begins_with_space : List ℕ → Bool
+begins_with_space [] = false
+begins_with_space (c ∷ text) = c == 32
+
+-- each run of spaces as one space
+abbrev pub squeezed : List ℕ → List ℕ
+squeezed [] = []
+squeezed (c ∷ text) = if (c == 32) && begins_with_space text then squeezed text else c ∷ squeezed text
+
+-- the values of a name, in order. A field's value has no white space at its ends.
+abbrev pub canonical_values : List Field → List ℕ → List ℕ
+canonical_values fields name = join_with_byte 44 (map squeezed (values_in name fields))
+
+-- name:value
+abbrev pub header_line : List Field → List ℕ → List ℕ
+header_line fields name = name ++ 58 ∷ canonical_values fields name
+
+abbrev pub body_hash : List ℕ → List ℕ
+body_hash body = encode_lower (sha256 body)
+
+-- The lines: the method, the path, the query, a line for each signed header, an empty line, the signed names, and the hash of the body.
+abbrev pub canonical_lines : List Field → List ℕ → List ℕ → List (List ℕ)
+canonical_lines fields names body =
+    codes "POST" ∷ codes "/" ∷ [] ∷ (map (header_line fields) (parts_at 59 names) ++ [] ∷ names ∷ body_hash body ∷ [])
+
+unfoldable pub canonical_request : List Field → List ℕ → List ℕ → List ℕ
+canonical_request fields names body = join_with_byte 10 (canonical_lines fields names body)

@@ -1,0 +1,18 @@
+//! Requests signed by AWS Signature Version 4: who signed a message, or why nobody did.
+#![tactic(auto)]
+
+mod authorization;
+mod canonical;
+mod check;
+mod credentials;
+mod dates;
+mod faults;
+mod fields;
+mod parts;
+mod signed_names;
+mod signing;
+
+
+pub use credentials::{Credential, CredentialList};
+pub use faults::AuthFault;
+
