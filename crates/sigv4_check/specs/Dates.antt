@@ -35,6 +35,10 @@ abbrev pub is_day : ℕ → ℕ → ℕ → Bool
 is_day year month day =
     (nat_le 1970 year && nat_le year 9999) && ((nat_le 1 month && nat_le month 12) && (nat_le 1 day && nat_le day (days_in_month (pos year) month)))
 
+-- a day of that month and number may be there in some year
+abbrev pub could_be_day : ℕ → ℕ → ℕ → Bool
+could_be_day year month day = nat_le 1970 year && (nat_le year 9999 && (nat_le month 12 && nat_le day 31))
+
 -- how many days lie between the beginning of 1970 and this day
 unfoldable pub days_to : ℕ → ℕ → ℕ → Option ℕ
 days_to year month day = some_if (is_day year month day) (day_count (pos year) month day - day_count (pos 1970) 1 1)

@@ -1,6 +1,6 @@
 // The date of a request.
 ghost use Rattle.std.specs.Prelude.{◌≡◌, ◌≤◌, ◌+◌, length, IfSome};
-ghost use Rattle.sigv4_check.specs.Dates.{digits_from, has_marks, is_time, days_to, written_in, second_at, second_of};
+ghost use Rattle.sigv4_check.specs.Dates.{could_be_day, digits_from, has_marks, is_time, days_to, written_in, second_at, second_of};
 
 use http_front::decimal;
 use jiff_core::civil::Date;
@@ -37,6 +37,7 @@ fn digits_from(text: &[u8], from: usize, to: usize) -> Option<u64>
 }
 
 // The numbers of a text of 16 bytes.
+#[tactic(auto, unfolding(crate::specs::Dates::written_in))]
 fn written_in(text: &[u8]) -> Option<Written>
     requires { length text.now ≡ 16 }
     ensures { result ≡ written_in text.now }
@@ -57,12 +58,19 @@ fn written_in(text: &[u8]) -> Option<Written>
     })
 }
 
+// The year is one to be counted in, and some year has the month and the day.
+fn could_be_day(year: u64, month: u64, day: u64) -> bool
+    ensures { result ≡ could_be_day year month day }
+{
+    FIRST_YEAR <= year && year <= LAST_YEAR && month <= 12 && day <= 31
+}
+
 // How many days lie between the beginning of 1970 and a day of the calendar that isn't before.
 fn days_to(year: u64, month: u64, day: u64) -> Option<u64>
     ensures value { result ≡ days_to year month day }
     ensures few { IfSome result (λ days. days ≤ 2932896) }
 {
-    if year < FIRST_YEAR || LAST_YEAR < year || 12 < month || 31 < day {
+    if !could_be_day(year, month, day) {
         return None;
     }
     let date = Date::new(year as i16, month as i8, day as i8).ok()?;
