@@ -1,3 +1,4 @@
 pub mod Cuts
 pub mod Claims
+pub mod FieldFacts
 pub mod DateFacts

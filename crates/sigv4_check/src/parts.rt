@@ -1,5 +1,5 @@
 // Texts in parts.
-ghost use Rattle.std.specs.Prelude.{◌≡◌, ◌<◌, ◌∷◌, [], length, MatchOption, option_map};
+ghost use Rattle.std.specs.Prelude.{◌≡◌, ◌<◌, ◌∷◌, [], ℕ, List, length, take, MatchOption, option_map};
 ghost use Rattle.kms_names.specs.Reading.{after_front};
 ghost use Rattle.std.specs.List.{position};
 ghost use Rattle.sigv4_check.specs.Parts.{is_byte, parts_at, skip_spaces as spaces_skipped};
@@ -34,4 +34,21 @@ pub fn skip_spaces(text: &[u8]) -> &[u8]
         rest = others;
     }
     rest
+}
+
+/// What stands before the first of a mark, or the whole text.
+pub fn first_part(text: &[u8], mark: u8) -> &[u8]
+    ensures { (more : List (List ℕ)) × (parts_at mark text.now ≡ result.now ∷ more) }
+{
+    match cut_at(text, mark) {
+        Some((first, _)) => first,
+        None => text,
+    }
+}
+
+/// The first bytes of a text, at most so many.
+pub fn front(text: &[u8], most: usize) -> &[u8]
+    ensures { result.now ≡ take most text.now }
+{
+    &text[..text.len().min(most)]
 }
