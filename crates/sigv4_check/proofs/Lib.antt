@@ -1,4 +1,5 @@
 pub mod Cuts
 pub mod Claims
 pub mod FieldFacts
+pub mod ValueFacts
 pub mod DateFacts

@@ -1,8 +1,8 @@
-// The headers of a message.
+// The headers and the body of a message.
 ghost use Rattle.std.specs.Prelude.{◌≡◌, ◌<◌, OnSome, option_map, slice_get};
 ghost use Rattle.http_front.specs.Heading.{values_in};
 ghost use Rattle.http_front.specs.Message.{Message, CutsOff};
-ghost use Rattle.sigv4_check.specs.Fields.{fields_in};
+ghost use Rattle.sigv4_check.specs.Fields.{fields_in, body_in};
 
 use http_front::Cut;
 
@@ -21,4 +21,12 @@ pub fn value_at<'a>(cut: &Cut, buffer: &'a [u8], name: &str, k: usize) -> Option
     ensures { option_map (λ value. value.now) result ≡ slice_get (values_in name.now (fields_in buffer.now cut.now)) k }
 {
     cut.header(buffer, name, k)
+}
+
+/// The body.
+pub fn body_of<'a>(cut: &Cut, buffer: &'a [u8]) -> &'a [u8]
+    requires { (m : Message) × CutsOff buffer.now cut.now m }
+    ensures { result.now ≡ body_in buffer.now cut.now }
+{
+    cut.body(buffer)
 }

@@ -1,5 +1,5 @@
 // Texts in parts.
-ghost use Rattle.std.specs.Prelude.{◌≡◌, ◌<◌, ◌∷◌, [], ℕ, List, length, take, MatchOption, option_map};
+ghost use Rattle.std.specs.Prelude.{◌≡◌, ◌<◌, ◌≤◌, ◌∷◌, [], ℕ, List, length, take, drop, MatchOption, option_map};
 ghost use Rattle.kms_names.specs.Reading.{after_front};
 ghost use Rattle.std.specs.List.{position};
 ghost use Rattle.sigv4_check.specs.Parts.{is_byte, parts_at, skip_spaces as spaces_skipped};
@@ -10,12 +10,20 @@ fn place_of(text: &[u8], mark: u8) -> Option<usize>
     text.iter().position(|byte| *byte == mark)
 }
 
+/// What stands from a place on.
+pub fn behind(text: &[u8], place: usize) -> &[u8]
+    requires { place ≤ length text.now }
+    ensures { result.now ≡ drop place text.now }
+{
+    &text[place..]
+}
+
 /// What stands before and behind the first of a mark.
 pub fn cut_at(text: &[u8], mark: u8) -> Option<(&[u8], &[u8])>
     ensures { MatchOption result (parts_at mark text.now ≡ text.now ∷ []) (λ cut. (parts_at mark text.now ≡ cut.0.now ∷ parts_at mark cut.1.now) × (length cut.1.now < length text.now)) }
 {
     let place = place_of(text, mark)?;
-    Some((&text[..place], &text[place + 1..]))
+    Some((&text[..place], behind(text, place + 1)))
 }
 
 /// What follows a front.
