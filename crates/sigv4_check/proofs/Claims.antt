@@ -20,9 +20,9 @@ module _ (text a b c d : List ℕ) (id date region service : List ℕ)
   -- no scope, where it isn't of this service
   pub no_scope : false ≡ (bytes_eq service (codes "kms") && bytes_eq d (codes "aws4_request")) → None ≡ scope_of text
   no_scope is = elim (one_or_more 47 d) [
-      | inl one ↦ sym (ap scope_in (all ∙ ap behind one) ∙ ap (λ (t : Bool). some_if t (record { id = id; date = date; region = region })) (sym is))
-      | inr more ↦ sym (ap scope_in (all ∙ ap behind more.3))
-    ]
+    | inl one ↦ sym (ap scope_in (all ∙ ap behind one) ∙ ap (λ (t : Bool). some_if t (record { id = id; date = date; region = region })) (sym is))
+    | inr more ↦ sym (ap scope_in (all ∙ ap behind more.3))
+  ]
 
 -- more than three parts
 pub not_three : (text a b c : List ℕ) (first second third : List ℕ) → parts_at 44 text ≡ first ∷ parts_at 44 a → parts_at 44 a ≡ second ∷ parts_at 44 b

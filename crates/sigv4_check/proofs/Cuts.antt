@@ -85,9 +85,9 @@ OneOrMore mark text = (parts_at mark text ≡ text ∷ []) ⊎ ((one other : Lis
 
 nonempty : (mark : ℕ) (text : List ℕ) → (one : List ℕ) × (more : List (List ℕ)) × (parts_at mark text ≡ one ∷ more)
 nonempty mark text = elim (parts_at mark text) as (λ ps. parts_at mark text ≡ ps → (one : List ℕ) × (more : List (List ℕ)) × (parts_at mark text ≡ one ∷ more)) [
-    | [] ↦ λ e. absurd (omega (arith, length-slice_split (is_byte mark) text, ap length e))
-    | one ∷ more ↦ λ e. (one, more, e)
-  ] refl
+  | [] ↦ λ e. absurd (omega (arith, length-slice_split (is_byte mark) text, ap length e))
+  | one ∷ more ↦ λ e. (one, more, e)
+] refl
 
 more_first : (mark byte : ℕ) (text : List ℕ) (b : Bool) → is_byte mark byte ≡ b → OneOrMore mark text → OneOrMore mark (byte ∷ text)
 more_first mark byte text true is h =

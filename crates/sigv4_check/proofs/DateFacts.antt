@@ -81,9 +81,6 @@ unfolding days_to
 none_by year month day true is never = absurd (never is)
 none_by year month day false is never = rw is refl
 
-
-
-
 pub no_day : (year month day : ℕ) → false ≡ could_be_day year month day → None ≡ days_to year month day
 no_day year month day e = none_by year month day (is_day year month day) refl (λ h.
     let d = day_of_test year month day (days_in_month (pos year) month) h in
@@ -131,9 +128,6 @@ module _ (year month day : ℕ) (can : Could year month day) where
       never (is_date ((omega (arith, ints), omega (arith, ints)), (omega (arith, ints), omega (arith, ints)), (omega (arith, ints), omega (arith, ints)))))
 
 -- ---- the count of days
-
-
-
 
 -- no day from 1970 on stands before its first
 from_first : (year month day : ℕ) → 1970 ≤ year → 1 ≤ day → 4371953 ≤ day_count (pos year) month day

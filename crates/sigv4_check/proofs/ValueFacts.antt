@@ -68,9 +68,9 @@ module _ (from to next : Sha256) (value : List ℕ) (start i : ℕ) (within : i 
         reaches.0 ++ slice_range value start i,
         both_added from to next reaches.0 (slice_range value start i) reaches.1 adds,
         reaches.2
-        ∙ sym (append_assoc reaches.0 (slice_range value start i) (squeezed (drop i value)))
-        ∙ ap (λ (rest : List ℕ). reaches.0 ++ slice_range value start i ++ rest) (spaces_here value i within is)
-        ∙ ap (λ (n : ℕ). reaches.0 ++ slice_range value start i ++ (take n (drop (i + 1) value) ++ squeezed (drop (i + 1) value))) (sym none),
+            ∙ sym (append_assoc reaches.0 (slice_range value start i) (squeezed (drop i value)))
+            ∙ ap (λ (rest : List ℕ). reaches.0 ++ slice_range value start i ++ rest) (spaces_here value i within is)
+            ∙ ap (λ (n : ℕ). reaches.0 ++ slice_range value start i ++ (take n (drop (i + 1) value) ++ squeezed (drop (i + 1) value))) (sym none),
       )
 
   pub past_other : false ≡ begins_with_spaces (drop i value) → Reaches from to value start (i + 1)
@@ -112,11 +112,11 @@ next_from false value values = refl
 pub value_added : (from to next : Sha256) (whole : List ℕ) (is_first : Bool) (value : List ℕ) (values others : List (List ℕ)) → values ≡ value ∷ others
     → ValuesReach from to whole is_first values → Adds to next (next_value is_first value) → ValuesReach from next whole false others
 value_added from to next whole is_first value values others e reach adds = (
-    reach.0 ++ next_value is_first value,
-    both_added from to next reach.0 (next_value is_first value) reach.1 adds,
-    reach.2 ∙ ap (λ vs. reach.0 ++ values_from is_first vs) e ∙ ap (λ (rest : List ℕ). reach.0 ++ rest) (next_from is_first value others)
-    ∙ sym (append_assoc reach.0 (next_value is_first value) (values_from false others)),
-  )
+  reach.0 ++ next_value is_first value,
+  both_added from to next reach.0 (next_value is_first value) reach.1 adds,
+  reach.2 ∙ ap (λ vs. reach.0 ++ values_from is_first vs) e ∙ ap (λ (rest : List ℕ). reach.0 ++ rest) (next_from is_first value others)
+      ∙ sym (append_assoc reach.0 (next_value is_first value) (values_from false others)),
+)
 
 none_left : (is_first : Bool) → values_from is_first [] ≡ []
 none_left true = refl
@@ -128,7 +128,6 @@ values_added from to whole is_first reach =
 
 -- ---- the lines
 
-
 -- the lines of names, each ended
 abbrev pub lines_of : List Field → List (List ℕ) → List ℕ
 lines_of fields names = flat_map (ended_line fields) names
@@ -139,10 +138,10 @@ LinesReach from to fields names left = (done : List ℕ) × Adds from to done ×
 pub line_added : (from to next : Sha256) (fields : List Field) (names left : List (List ℕ)) (name : List ℕ) (others : List (List ℕ)) → left ≡ name ∷ others
     → LinesReach from to fields names left → Adds to next (ended_line fields name) → LinesReach from next fields names others
 line_added from to next fields names left name others e reach adds = (
-    reach.0 ++ ended_line fields name,
-    both_added from to next reach.0 (ended_line fields name) reach.1 adds,
-    reach.2 ∙ ap (λ ns. reach.0 ++ lines_of fields ns) e ∙ sym (append_assoc reach.0 (ended_line fields name) (lines_of fields others)),
-  )
+  reach.0 ++ ended_line fields name,
+  both_added from to next reach.0 (ended_line fields name) reach.1 adds,
+  reach.2 ∙ ap (λ ns. reach.0 ++ lines_of fields ns) e ∙ sym (append_assoc reach.0 (ended_line fields name) (lines_of fields others)),
+)
 
 pub lines_added : (from to : Sha256) (fields : List Field) (names : List (List ℕ)) → LinesReach from to fields names [] → Adds from to (lines_of fields names)
 lines_added from to fields names reach = added_as from to reach.0 (lines_of fields names) (sym (reach.2 ∙ nil_right reach.0)) reach.1

@@ -60,7 +60,7 @@ abbrev pub claims_in : List (List ℕ) → Option Claims
 claims_in parts =
     if length parts == 3
     then claims_from (option_and_then scope_of (part_of (codes "Credential=") parts)) (part_of (codes "SignedHeaders=") parts)
-        (option_and_then signature_in (part_of (codes "Signature=") parts))
+    (option_and_then signature_in (part_of (codes "Signature=") parts))
     else None
 
 -- behind the algorithm and a space the parts, with a comma between two of them and any spaces before each

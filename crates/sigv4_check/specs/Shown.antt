@@ -3,7 +3,9 @@ use Rattle.std.specs.Prelude.{◌≡◌, ◌≢◌, ℕ, List, [], ◌∷◌, Op
 use Rattle.sigv4_check.specs.declared.authorization.Claims.{Claims as BorrowedClaims}
 use Rattle.sigv4_check.specs.declared.authorization.Scope.{Scope as BorrowedScope}
 use Rattle.sigv4_check.specs.declared.authorization.Parts.{Parts as BorrowedParts}
+use Rattle.sigv4_check.specs.declared.signers.Claim.{Claim as BorrowedClaim}
 use Rattle.sigv4_check.specs.Authorization.{Claims, Scope}
+use Rattle.sigv4_check.specs.Signer.{Claim}
 use Rattle.sigv4_check.specs.Parts.{parts_at, skip_spaces}
 
 abbrev pub shown_claims : BorrowedClaims → Claims
@@ -16,3 +18,6 @@ shown_scope s = record { id = s.id.now; date = s.date.now; region = s.region.now
 abbrev pub IsThree : List ℕ → Option BorrowedParts → Type 0
 IsThree text None = length (map skip_spaces (parts_at 44 text)) ≢ 3
 IsThree text (Some p) = map skip_spaces (parts_at 44 text) ≡ p.first.now ∷ p.second.now ∷ p.third.now ∷ []
+
+abbrev pub shown_claim : BorrowedClaim → Claim
+shown_claim c = record { claims = shown_claims c.claims; stamp = c.stamp.now; second = c.second }

@@ -44,7 +44,11 @@ impl<'a> Parts<'a> {
     fn value_of(&self, key: &[u8]) -> Option<&'a [u8]>
         ensures { option_map (λ value. value.now) result ≡ part_of key.now (self.now.first.now ∷ self.now.second.now ∷ self.now.third.now ∷ []) }
     {
-        match (after(self.first, key), after(self.second, key), after(self.third, key)) {
+        match (
+            after(self.first, key),
+            after(self.second, key),
+            after(self.third, key),
+        ) {
             (Some(value), None, None) | (None, Some(value), None) | (None, None, Some(value)) =>
                 Some(value),
             _ => None,

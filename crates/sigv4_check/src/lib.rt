@@ -3,16 +3,16 @@
 
 mod authorization;
 mod canonical;
-mod check;
 mod credentials;
 mod dates;
 mod faults;
 mod fields;
 mod parts;
 mod signed_names;
+mod signers;
 mod signing;
-
 
 pub use credentials::{Credential, CredentialList};
 pub use faults::AuthFault;
-
+pub use signers::check;
+pub use signing::signing_key;

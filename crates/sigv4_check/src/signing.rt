@@ -1,5 +1,5 @@
 // The string to sign, the signing key and the signature.
-ghost use Rattle.std.specs.Prelude.{◌≡◌, ◌++◌, ℕ, List, length, codes, IfOk, string_bytes};
+ghost use Rattle.std.specs.Prelude.{◌≡◌, ◌++◌, ℕ, List, codes, IfOk, string_bytes};
 ghost use Rattle.std.specs.Str.{bytes_eq};
 ghost use Rattle.sha2.specs.Sha256.{sha256};
 ghost use Rattle.sigv4_check.specs.Signing.{signing_key_of, string_to_sign, signature_of};
@@ -34,7 +34,13 @@ pub fn signing_key(
 ) -> Result<[u8; 32], NoMemory>
     ensures { IfOk result (λ key. key ≡ signing_key_of secret.now date.now region.now service.now) }
 {
-    signing_key_of(alloc, secret, date.as_bytes(), region.as_bytes(), service.as_bytes())
+    signing_key_of(
+        alloc,
+        secret,
+        date.as_bytes(),
+        region.as_bytes(),
+        service.as_bytes(),
+    )
 }
 
 /// The same of a day, a region and a service as bytes.
@@ -80,9 +86,11 @@ pub fn signature(
 
 /// Whether a text is these digits. Each of 64 digits is compared, whatever stands before it.
 pub fn are_digits(digits: &[u8; 64], text: &[u8]) -> bool
-    requires { length text.now ≡ 64 }
     ensures { result ≡ bytes_eq digits.now text.now }
 {
+    if text.len() != 64 {
+        return false;
+    }
     let mut same = true;
     for i in 0..64 {
         same &= digits[i] == text[i];
