@@ -3,4 +3,5 @@ pub mod Claims
 pub mod FieldFacts
 pub mod ValueFacts
 pub mod SameFacts
+pub mod CredentialFacts
 pub mod DateFacts

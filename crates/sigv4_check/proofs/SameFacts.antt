@@ -1,5 +1,6 @@
 -- Equal bytes, one after another.
-use Rattle.std.proofs.Common.{◌≡◌, ◌≢◌, ℕ, zero, suc, ◌+◌, ◌<◌, ◌≤◌, List, [], ◌∷◌, length, take, get_or, Bool, true, false, ◌&&◌, eqb, nat_eq, refl, sym, ap, ◌∙◌, arith}
+use Rattle.std.proofs.Common.{◌≡◌, ◌≢◌, ℕ, zero, suc, ◌+◌, ◌<◌, ◌≤◌, List, [], ◌∷◌, length, take, get_or, Bool, true, false, ◌&&◌, eqb, nat_eq, refl, sym, ap, ap₂, ◌∙◌, arith}
+use Rattle.std.proofs.lemmas.Bool.{eqb-true}
 use Rattle.std.proofs.lemmas.List.{take_all}
 use Rattle.std.specs.Str.{bytes_eq}
 
@@ -46,3 +47,14 @@ not_same_by a b false e h = sym e
 
 pub not_same : (a b : List ℕ) → length a ≢ length b → false ≡ bytes_eq a b
 not_same a b h = not_same_by a b (bytes_eq a b) refl h
+
+left : (a b : Bool) → (a && b) ≡ true → a ≡ true
+left true b h = refl
+left false b h = h
+
+-- texts whose bytes are equal
+pub same_bytes : (a b : List ℕ) → bytes_eq a b ≡ true → a ≡ b
+same_bytes [] [] e = refl
+same_bytes [] (y ∷ b) e = cc
+same_bytes (x ∷ a) [] e = cc
+same_bytes (x ∷ a) (y ∷ b) e = ap₂ (λ (h : ℕ) (t : List ℕ). h ∷ t) (eqb-true x y (left (eqb x y) (bytes_eq a b) e)) (same_bytes a b (right (eqb x y) (bytes_eq a b) e))

@@ -1,6 +1,6 @@
 // The credentials of callers.
-ghost use Rattle.std.specs.Prelude.{◌≡◌, option_copied};
-ghost use Rattle.sigv4_check.specs.Credentials.{credential_of, AreDistinct};
+ghost use Rattle.std.specs.Prelude.{◌≡◌, IfSome, option_copied};
+ghost use Rattle.sigv4_check.specs.Credentials.{credential_of, AreDistinct, IsAmong};
 
 use kms_names::{Principal, Text};
 use std::marker::Model;
@@ -52,8 +52,8 @@ impl CredentialList {
     }
 }
 
-/// The credential of an id.
-pub fn find<'a>(creds: &'a [Credential], id: &[u8]) -> Option<&'a Credential>
+// The first credential of an id.
+fn first_of<'a>(creds: &'a [Credential], id: &[u8]) -> Option<&'a Credential>
     ensures { option_copied result ≡ credential_of id.now creds.now }
 {
     for credential in creds {
@@ -62,4 +62,31 @@ pub fn find<'a>(creds: &'a [Credential], id: &[u8]) -> Option<&'a Credential>
         }
     }
     None
+}
+
+// A credential of an id, which halving finds in a list that is in the order of ids.
+fn found_by_halving<'a>(creds: &'a [Credential], id: &[u8]) -> Option<&'a Credential>
+    ensures { IfSome result (λ c. IsAmong creds.now id.now c.now) }
+{
+    let place = creds
+        .binary_search_by(|credential| credential.id.as_str().as_bytes().cmp(id))
+        .ok()?;
+    let credential = &creds[place];
+    if credential.id.as_str().as_bytes() == id {
+        Some(credential)
+    } else {
+        None
+    }
+}
+
+/// The credential of an id. Where the list is in the order of the ids' bytes it is found by halving;
+/// else, and where no credential has the id, each one's id is compared.
+pub fn find<'a>(creds: &'a [Credential], id: &[u8]) -> Option<&'a Credential>
+    requires { AreDistinct creds.now }
+    ensures { option_copied result ≡ credential_of id.now creds.now }
+{
+    match found_by_halving(creds, id) {
+        Some(credential) => Some(credential),
+        None => first_of(creds, id),
+    }
 }

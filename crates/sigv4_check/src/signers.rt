@@ -124,7 +124,8 @@ fn signer(
     region: &str,
     clock: u64,
 ) -> Result<Principal, AuthFault>
-    requires { (m : Message) × CutsOff buffer.now cut.now m }
+    requires found { (m : Message) × CutsOff buffer.now cut.now m }
+    requires distinct { AreDistinct creds.now }
     ensures { IsOrNoMemory (signer_in (fields_in buffer.now cut.now) (body_in buffer.now cut.now) creds.now region.now clock) result }
 {
     let claim = match claim_in(cut, buffer, region) {
