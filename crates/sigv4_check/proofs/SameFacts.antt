@@ -1,6 +1,7 @@
 -- Equal bytes, one after another.
 use Rattle.std.proofs.Common.{◌≡◌, ◌≢◌, ℕ, zero, suc, ◌+◌, ◌<◌, ◌≤◌, List, [], ◌∷◌, length, take, get_or, Bool, true, false, ◌&&◌, eqb, nat_eq, refl, sym, ap, ap₂, ◌∙◌, arith}
 use Rattle.std.proofs.lemmas.Bool.{eqb-true}
+use Rattle.std.proofs.lemmas.Bool.Decides.{nat_tests}
 use Rattle.std.proofs.lemmas.List.{take_all}
 use Rattle.std.specs.Str.{bytes_eq}
 
@@ -58,3 +59,12 @@ same_bytes [] [] e = refl
 same_bytes [] (y ∷ b) e = cc
 same_bytes (x ∷ a) [] e = cc
 same_bytes (x ∷ a) (y ∷ b) e = ap₂ (λ (h : ℕ) (t : List ℕ). h ∷ t) (eqb-true x y (left (eqb x y) (bytes_eq a b) e)) (same_bytes a b (right (eqb x y) (bytes_eq a b) e))
+
+eqb_comm : (a b : ℕ) → eqb a b ≡ eqb b a
+eqb_comm a b = grind (arith, nat_tests)
+
+pub bytes_eq_comm : (a b : List ℕ) → bytes_eq a b ≡ bytes_eq b a
+bytes_eq_comm [] [] = refl
+bytes_eq_comm [] (y ∷ b) = refl
+bytes_eq_comm (x ∷ a) [] = refl
+bytes_eq_comm (x ∷ a) (y ∷ b) = ap₂ (λ (h t : Bool). h && t) (eqb_comm x y) (bytes_eq_comm a b)

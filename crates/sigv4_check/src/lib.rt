@@ -12,7 +12,7 @@ mod signed_names;
 mod signers;
 mod signing;
 
-pub use credentials::{Credential, CredentialList};
+pub use credentials::{Credential, CredentialList, are_distinct};
 pub use faults::AuthFault;
 pub use signers::check;
 pub use signing::signing_key;

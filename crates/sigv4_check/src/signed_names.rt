@@ -24,7 +24,8 @@ pub fn has_name(field: &[u8], name: &[u8]) -> bool
     field.eq_ignore_ascii_case(name)
 }
 
-fn is_before(one: &[u8], other: &[u8]) -> bool
+/// Whether one text stands before the other in the order of bytes.
+pub fn is_before(one: &[u8], other: &[u8]) -> bool
     ensures { result ≡ is_before one.now other.now }
 {
     one.cmp(other).is_lt()
