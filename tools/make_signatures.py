@@ -1,7 +1,7 @@
 """Makes signatures.txt. Run: python3 -B tools/make_signatures.py.
 
 It needs the package `botocore` (1.43.11 was used), which signs what it can, and Python's `hmac`, which signs the rest by the
-rules of "Create a signed AWS API request" in the AWS General Reference.
+rules of "Create a signed AWS API request" in the IAM User Guide.
 """
 
 import calendar
@@ -138,7 +138,7 @@ def at(stamp):
 
 
 def keys():
-    file.note('The key of "Deriving the signing key" in the AWS General Reference.')
+    file.note('The key of "Deriving the signing key" in the IAM User Guide.')
     published = "c4afb1cc5771d871763a393e44b703571b55cc28424d1a5e86da6ed3c154a4b9"
     assert key_of(SECRET, "20150830", "us-east-1", "iam").hex() == published
     file.case("signing_key", SECRET, "20150830", "us-east-1", "iam", published)

@@ -1,10 +1,10 @@
 -- What an Authorization header's parts come to.
-use Rattle.std.proofs.Common.{◌≡◌, ◌≢◌, ◌⊎◌, inl, inr, ◌<◌, ◌≤◌, ◌+◌, ℕ, List, [], ◌∷◌, length, map, Bool, true, false, ◌&&◌, Some, None, Option, refl, sym, ap, ap₂, ◌∙◌, arith, codes}
+use Rattle.std.proofs.Common.{◌≡◌, ◌≢◌, inl, inr, ℕ, List, ◌∷◌, length, map, Bool, false, ◌&&◌, None, sym, ap, ◌∙◌, arith, codes}
 use Rattle.std.proofs.lemmas.List.{length-map}
 use Rattle.std.specs.Str.{bytes_eq}
 use Rattle.kms_names.specs.Reading.{some_if}
 use Rattle.sigv4_check.specs.Parts.{parts_at, skip_spaces}
-use Rattle.sigv4_check.specs.Authorization.{Scope, scope_in, scope_of}
+use Rattle.sigv4_check.specs.Authorization.{scope_in, scope_of}
 use Rattle.sigv4_check.proofs.Cuts.{one_or_more, parts_some}
 
 -- four parts, and what stands behind them

@@ -1,8 +1,8 @@
 -- Texts cut at a mark, and fronts of texts.
-use Rattle.std.proofs.Common.{◌≡◌, ◌⊎◌, inl, inr, ◌<◌, ◌≤◌, ◌+◌, ◌-◌, ℕ, zero, suc, List, [], ◌∷◌, length, take, drop, Bool, true, false, ◌&&◌, Some, None, Option, refl, sym, ap, ap₂, ◌∙◌, arith, cond, nat_lt, nat_eq, eqb, length-drop}
+use Rattle.std.proofs.Common.{◌≡◌, ◌⊎◌, inl, inr, ◌<◌, ◌≤◌, ◌+◌, ℕ, List, [], ◌∷◌, length, take, drop, Bool, true, false, Some, None, refl, sym, ap, ◌∙◌, arith, cond, nat_lt, nat_eq, eqb}
 use Rattle.std.proofs.lemmas.Bool.Decides.{nat_tests}
 use Rattle.std.proofs.lemmas.List.Splits.{slice_split_first, slice_split-cons_no, slice_split-cons_yes, length-slice_split}
-use Rattle.std.specs.List.{position, position_or_len, slice_split, onto_first}
+use Rattle.std.specs.List.{position, position_or_len, onto_first}
 use Rattle.std.specs.Cmp.Lexicographic.{pointwise}
 use Rattle.kms_names.specs.Reading.{after_front}
 use Rattle.sigv4_check.specs.Parts.{is_byte, parts_at}

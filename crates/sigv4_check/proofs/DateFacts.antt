@@ -1,14 +1,12 @@
 -- Days of the calendar from 1970 on.
-use Rattle.std.proofs.Common.{◌≡◌, ℕ, zero, suc, ◌+◌, ◌-◌, ◌<◌, ◌≤◌, ◌^◌, nat_le, Bool, true, false, ◌&&◌, if◌then◌else◌, Option, Some, None, refl, sym, ap, ap₂, ◌∙◌, subst, arith, rules, inl, inr, ℤ, pos, negsuc, ◌-ℤ◌, w8, w16, to_z}
+use Rattle.std.proofs.Common.{◌≡◌, ℕ, ◌-◌, ◌<◌, ◌≤◌, ◌^◌, nat_le, Bool, true, false, ◌&&◌, Some, None, refl, sym, ap, ◌∙◌, subst, arith, inl, inr, ℤ, pos, ◌-ℤ◌, w8, w16, to_z}
 use Rattle.std.proofs.lemmas.Bool.{cases_lt}
 use Rattle.std.proofs.lemmas.Bool.Decides.{nat_tests}
 use Rattle.std.proofs.lemmas.Int.{to_z_pos, ints}
-use Rattle.kms_names.specs.Reading.{some_if}
-use Rattle.jiff_core.specs.Calendar.{IsCivilDate, IsDate, IsEpochDay, days_in_month, days_in_year, day_count, day_of_year, days_from_civil}
+use Rattle.jiff_core.specs.Calendar.{IsDate, IsEpochDay, days_in_month, day_count, days_from_civil}
 use Rattle.jiff_core.specs.Date.{IsYmd, epoch_day}
 use Rattle.jiff_core.specs.declared.civil.date.Date.{Date}
-use Rattle.jiff_core.proofs.CalendarLemmas.{days_from_civil-day_count, days_in_month_bounds, day_count-later_year, day_count-day_of_year, day_count-epoch}
-use Rattle.jiff_core.proofs.SignedLemmas.{signed_arith}
+use Rattle.jiff_core.proofs.CalendarLemmas.{days_in_month_bounds, day_count-later_year, day_count-day_of_year, day_count-epoch}
 use Rattle.sigv4_check.specs.Dates.{is_day, days_to, could_be_day}
 
 and_left : (a b : Bool) → (a && b) ≡ true → a ≡ true

@@ -1,10 +1,7 @@
 -- The headers, one after another.
-use Rattle.std.proofs.Common.{◌≡◌, ℕ, zero, suc, ◌+◌, ◌-◌, ◌<◌, ◌≤◌, List, [], ◌∷◌, length, drop, map, Bool, true, false, not, ◌&&◌, ◌||◌, Option, Some, None, refl, sym, ap, ◌∙◌, arith}
-use Rattle.std.specs.List.{slice_get, list_all, list_any, filter}
-use Rattle.std.specs.Str.{str_eq_ignore_ascii_case}
-use Rattle.http_front.specs.Heading.{Field, values_in, is_named, value_in}
-use Rattle.http_front.specs.Judge.{is_some_value}
-use Rattle.sigv4_check.specs.SignedNames.{has_header, is_before, is_signed, is_amz, is_signed_if_amz, is_signable, are_signable, ascend}
+use Rattle.std.proofs.Common.{◌≡◌, ℕ, zero, suc, ◌+◌, ◌<◌, List, [], ◌∷◌, length, drop, Bool, true, false, Some, None, refl, sym, ap, ◌∙◌, arith}
+use Rattle.std.specs.List.{slice_get, list_all}
+use Rattle.http_front.specs.Heading.{Field, values_in, is_named}
 
 abbrev From : List Field → ℕ → Field → Type 0
 From fields i field = (i < length fields) × (drop i fields ≡ field ∷ drop (i + 1) fields)

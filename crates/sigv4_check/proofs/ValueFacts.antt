@@ -1,12 +1,12 @@
 -- Values and lines, as they are added.
-use Rattle.std.proofs.Common.{◌≡◌, subst, length-drop, ℕ, zero, suc, ◌+◌, ◌-◌, ◌<◌, ◌≤◌, List, [], ◌∷◌, ◌++◌, length, take, drop, get_or, map, Bool, true, false, ◌&&◌, refl, sym, ap, ap₂, ◌∙◌, arith, codes, append_assoc, if◌then◌else◌}
+use Rattle.std.proofs.Common.{◌≡◌, subst, length-drop, ℕ, suc, ◌+◌, ◌-◌, ◌<◌, ◌≤◌, List, [], ◌∷◌, ◌++◌, length, take, drop, get_or, map, Bool, true, false, refl, sym, ap, ap₂, ◌∙◌, arith, append_assoc}
 use Rattle.std.proofs.Math.Seq.{drop-cons}
 use Rattle.std.proofs.lemmas.List.{take_more, get_or-drop, take_all, drop_all}
 use Rattle.http_front.specs.Heading.{Field}
 use Rattle.sha2.specs.Hashers.{Holds256}
 use Rattle.sha2.specs.declared.Sha256.{Sha256}
 use Rattle.std.specs.List.{slice_range, join_with_byte, flat_map}
-use Rattle.sigv4_check.specs.Canonical.{begins_with_spaces, squeezed, next_value, header_line, ended_line, canonical_lines}
+use Rattle.sigv4_check.specs.Canonical.{begins_with_spaces, squeezed, next_value, header_line, ended_line}
 
 -- ---- what is added to a hash
 

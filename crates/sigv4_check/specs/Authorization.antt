@@ -1,4 +1,4 @@
--- The header Authorization of a signed request (AWS General Reference, "Create a signed AWS API request", step 5).
+-- The header Authorization of a signed request (IAM User Guide, "Create a signed AWS API request", step 5).
 use Rattle.std.specs.Prelude.{ℕ, Bool, ◌==◌, ◌&&◌, ◌||◌, if◌then◌else◌, List, [], ◌∷◌, Option, Some, None, option_and_then, length, map, codes, nat_le}
 use Rattle.std.specs.Char.{is_ascii_digit}
 use Rattle.std.specs.List.{list_all}

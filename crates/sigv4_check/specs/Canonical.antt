@@ -1,4 +1,4 @@
--- The canonical request (AWS General Reference, "Create a signed AWS API request", step 1).
+-- The canonical request (IAM User Guide, "Create a signed AWS API request", step 1).
 use Rattle.std.specs.Prelude.{ℕ, Bool, true, false, ◌==◌, ◌&&◌, if◌then◌else◌, List, [], ◌∷◌, ◌++◌, map, codes}
 use Rattle.std.specs.List.{join_with_byte}
 use Rattle.hex.specs.Hex.{encode_lower}

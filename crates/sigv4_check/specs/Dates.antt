@@ -1,4 +1,4 @@
--- The date of a request in the basic form of ISO 8601, YYYYMMDDTHHMMSSZ (AWS General Reference, "Elements of an AWS API request signature").
+-- The date of a request in the basic form of ISO 8601, YYYYMMDDTHHMMSSZ (IAM User Guide, "Elements of an AWS API request signature").
 use Rattle.std.specs.Prelude.{ℕ, Bool, ◌==◌, ◌&&◌, ◌+◌, ◌-◌, ◌*◌, if◌then◌else◌, List, Option, Some, None, option_and_then, option_map, length, slice_range, slice_index, nat_le, pos}
 use Rattle.jiff_core.specs.Calendar.{days_in_month, day_count}
 use Rattle.http_front.specs.Digits.{number_in}

@@ -1,5 +1,5 @@
--- Which headers a request must sign (AWS General Reference, "Create a signed AWS API request", step 1, "SignedHeaders").
-use Rattle.std.specs.Prelude.{ℕ, Bool, true, false, not, ◌&&◌, ◌||◌, List, [], ◌∷◌, codes, length, take}
+-- Which headers a request must sign (IAM User Guide, "Create a signed AWS API request", step 1, "SignedHeaders").
+use Rattle.std.specs.Prelude.{ℕ, Bool, true, not, ◌&&◌, ◌||◌, List, [], ◌∷◌, codes, take}
 use Rattle.std.specs.Char.{is_ascii_uppercase}
 use Rattle.std.specs.List.{list_all, list_any}
 use Rattle.std.specs.Ordering.{nat_cmp, is_lt}

@@ -1,5 +1,5 @@
 -- Who signed a message, or the first reason why nobody did.
-use Rattle.std.specs.Prelude.{◌≡◌, ⊤, ℕ, Bool, ◌==◌, ◌&&◌, ◌||◌, ◌-◌, if◌then◌else◌, List, [], ◌∷◌, Option, Some, None, option_and_then, Result, Ok, Err, codes, take, nat_lt}
+use Rattle.std.specs.Prelude.{◌≡◌, ⊤, ℕ, Bool, ◌&&◌, ◌||◌, ◌-◌, if◌then◌else◌, List, [], ◌∷◌, Option, Some, None, Result, Ok, Err, codes, take, nat_lt}
 use Rattle.std.specs.Str.{bytes_eq}
 use Rattle.kms_names.specs.Reading.{some_if}
 use Rattle.kms_names.specs.declared.principals.Principal.{Principal}

@@ -1,4 +1,4 @@
--- The string to sign, the signing key and the signature (AWS General Reference, "Create a signed AWS API request", steps 2 to 4).
+-- The string to sign, the signing key and the signature (IAM User Guide, "Create a signed AWS API request", steps 2 to 4).
 use Rattle.std.specs.Prelude.{ℕ, List, [], ◌∷◌, ◌++◌, codes}
 use Rattle.std.specs.List.{join_with_byte}
 use Rattle.hex.specs.Hex.{encode_lower}

@@ -23,7 +23,7 @@ fn first_key(alloc: Global, secret: &str) -> Result<String, NoMemory>
 }
 
 /// The key that signs what is asked of a service in a region on a day (YYYYMMDD), with a secret
-/// access key: AWS General Reference, "Create a signed AWS API request", step 3. It is four HMACs.
+/// access key: IAM User Guide, "Create a signed AWS API request", step 3. It is four HMACs.
 #[tactic(auto, unfolding(crate::specs::Signing::signing_key_of))]
 pub fn signing_key(
     alloc: Global,

@@ -1,7 +1,7 @@
-use Rattle.std.proofs.Common.{◌≡◌, ◌≤◌, ◌+◌, ◌∙◌, sym, ap, subst, arith, ℕ, drop}
+use Rattle.std.proofs.Common.{◌+◌, ◌∙◌, sym, ap, subst, arith, ℕ}
 use Rattle.sha2.specs.declared.Sha256.{Sha256}
 use Rattle.sigv4_check.specs.Canonical.{begins_with_spaces}
-use Rattle.sigv4_check.proofs.ValueFacts.{Reaches, past_space, past_other, all_reached}
+use Rattle.sigv4_check.proofs.ValueFacts.{Reaches, past_space, past_other}
 use Rattle.sigv4_check.proofs.canonical.add_value.Goals.{then-begins_with_spaces, else-begins_with_spaces}
 use Rattle.sigv4_check.proofs.canonical.add_value.Goals as goal
 

@@ -1,4 +1,4 @@
-use Rattle.std.proofs.Common.{◌≡◌, ◌+◌, ◌∙◌, sym, ap, subst, arith, ℕ, List, Bool, false, drop}
+use Rattle.std.proofs.Common.{◌+◌, ◌∙◌, sym, ap, subst, arith, Bool, drop}
 use Rattle.sha2.specs.declared.Sha256.{Sha256}
 use Rattle.http_front.specs.Heading.{Field, values_in}
 use Rattle.sigv4_check.specs.Fields.{fields_in}

@@ -1,7 +1,7 @@
-use Rattle.std.proofs.Common.{◌≡◌, ◌∙◌, ◌<◌, ◌≤◌, ◌^◌, ℕ, Bool, true, false, Some, None, Option, Result, Ok, Err, sym, ap, subst, arith, rules, FitsSigned, w32, to_z, of_z, ℤ, pos}
-use Rattle.std.specs.Prelude.{IfOk, is_ok, unsigned_abs}
+use Rattle.std.proofs.Common.{◌≡◌, ◌∙◌, true, false, Some, Result, Ok, Err, sym, ap, subst, rules, FitsSigned, w32, to_z, of_z, pos}
+use Rattle.std.specs.Prelude.{IfOk, unsigned_abs}
 use Rattle.std.specs.Result.{result_ok}
-use Rattle.std.proofs.lemmas.Int.{to_z-of_z, ints}
+use Rattle.std.proofs.lemmas.Int.{to_z-of_z}
 use Rattle.sigv4_check.proofs.DateFacts.{no_day, could, no_date, counted, IsCount}
 use Rattle.sigv4_check.proofs.dates.days_to.Goals as goal
 

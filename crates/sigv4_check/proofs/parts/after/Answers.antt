@@ -1,4 +1,4 @@
-use Rattle.std.proofs.Common.{◌≡◌, ◌∙◌, ◌+◌, ℕ, List, length, take, drop, Bool, true, false, cond, Option, Some, None, sym, ap, nat_eq, rules}
+use Rattle.std.proofs.Common.{◌≡◌, ◌∙◌, ◌+◌, length, take, drop, Bool, true, false, cond, Some, None, sym, ap, nat_eq}
 use Rattle.std.specs.Prelude.{option_map, MatchOption}
 use Rattle.std.specs.Cmp.Lexicographic.{pointwise}
 use Rattle.kms_names.specs.Reading.{after_front}

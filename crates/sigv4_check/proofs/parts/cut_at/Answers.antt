@@ -1,4 +1,4 @@
-use Rattle.std.proofs.Common.{◌≡◌, ◌<◌, ◌+◌, arith, length, drop, length-drop}
+use Rattle.std.proofs.Common.{◌+◌, arith, length-drop}
 use Rattle.sigv4_check.proofs.Cuts.{some_mark, no_mark}
 use Rattle.sigv4_check.proofs.parts.cut_at.Goals as goal
 

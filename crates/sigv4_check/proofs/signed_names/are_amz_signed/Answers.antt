@@ -1,4 +1,4 @@
-use Rattle.std.proofs.Common.{◌≡◌, ◌+◌, ◌∙◌, sym, ap, arith, List, ℕ, drop, true, false, Bool}
+use Rattle.std.proofs.Common.{◌+◌, ◌∙◌, sym, ap, arith, drop}
 use Rattle.std.specs.List.{list_all}
 use Rattle.http_front.specs.Heading.{Field}
 use Rattle.sigv4_check.specs.Parts.{parts_at}

@@ -1,5 +1,5 @@
-use Rattle.std.proofs.Common.{◌≡◌, ◌+◌, ◌∙◌, sym, ap, arith, List, ℕ, drop}
-use Rattle.http_front.specs.Heading.{Field, values_in}
+use Rattle.std.proofs.Common.{◌+◌, ◌∙◌, sym, ap, arith, drop}
+use Rattle.http_front.specs.Heading.{Field}
 use Rattle.http_front.specs.Judge.{is_some_value}
 use Rattle.sigv4_check.specs.Fields.{fields_in}
 use Rattle.sigv4_check.specs.SignedNames.{has_header}

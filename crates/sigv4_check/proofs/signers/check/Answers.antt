@@ -1,6 +1,5 @@
-use Rattle.std.proofs.Common.{◌≡◌, ◌∙◌, sym, ap, subst, List, ℕ, ap₂}
-use Rattle.http_front.specs.Heading.{Field}
-use Rattle.sigv4_check.specs.Fields.{fields_in, body_in}
+use Rattle.std.proofs.Common.{subst, List, ℕ}
+use Rattle.sigv4_check.specs.Fields.{fields_in}
 use Rattle.sigv4_check.specs.Signer.{signer_in, IsOrNoMemory}
 use Rattle.sigv4_check.proofs.signers.check.Goals as goal
 

@@ -1,4 +1,4 @@
-use Rattle.std.proofs.Common.{◌≡◌, ◌∙◌, sym, ap, arith, length, ◌&&◌, eqb, get_or, Bool}
+use Rattle.std.proofs.Common.{◌∙◌, sym, ap, arith, ◌&&◌, eqb, get_or, Bool}
 use Rattle.sigv4_check.proofs.SameFacts.{same_more, same_all, not_same}
 use Rattle.sigv4_check.proofs.signing.are_digits.Goals as goal
 

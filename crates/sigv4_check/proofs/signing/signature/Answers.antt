@@ -1,6 +1,5 @@
-use Rattle.std.proofs.Common.{◌≡◌, ◌∙◌, ◌∷◌, ◌++◌, [], ℕ, List, sym, ap, codes, append_assoc, refl}
+use Rattle.std.proofs.Common.{◌≡◌, ◌∙◌, ◌∷◌, ◌++◌, [], ℕ, List, ap, codes, append_assoc}
 use Rattle.hex.specs.Hex.{encode_lower}
-use Rattle.sha2.specs.Sha256.{sha256}
 use Rattle.mac_sha.specs.Hmac.{hmac_sha256}
 use Rattle.sigv4_check.specs.Signing.{signature_of, string_to_sign, scope_text}
 use Rattle.sigv4_check.proofs.signing.signature.Goals as goal

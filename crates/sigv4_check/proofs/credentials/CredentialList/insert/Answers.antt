@@ -1,4 +1,4 @@
-use Rattle.std.proofs.Common.{◌≡◌, ◌∙◌, ◌≤◌, sym, ap, ap₂, subst, arith, ℕ, List, length}
+use Rattle.std.proofs.Common.{◌≡◌, ◌∙◌, sym, ap, ap₂, subst, arith, ℕ, List, length}
 use Rattle.std.specs.List.{insert, position_or_len}
 use Rattle.sigv4_check.specs.declared.credentials.Credential.{Credential}
 use Rattle.sigv4_check.specs.Credentials.{AreDistinct, placed, stands_behind, has_id}
