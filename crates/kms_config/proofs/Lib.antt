@@ -1,0 +1,6 @@
+mod PlaceFacts
+mod NameFacts
+mod CredentialFacts
+mod ItemFacts
+mod DocumentFacts
+mod IdentityFacts

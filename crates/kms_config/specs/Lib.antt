@@ -1,0 +1,7 @@
+pub mod Answers
+pub mod Places
+pub mod Members
+pub mod Lists
+pub mod Forms
+pub mod Credentials
+pub mod Identities

@@ -1,0 +1,11 @@
+//! The configuration of a service: its account, its secrets, its callers and their policies, as a JSON file.
+#![tactic(auto)]
+
+mod credentials;
+mod faults;
+mod forms;
+mod identities;
+mod members;
+mod places;
+
+pub use faults::ConfigFault;
