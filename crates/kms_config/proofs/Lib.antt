@@ -4,3 +4,4 @@ mod CredentialFacts
 mod ItemFacts
 mod DocumentFacts
 mod IdentityFacts
+mod ConfigFacts
