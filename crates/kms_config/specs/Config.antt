@@ -7,7 +7,7 @@ use Rattle.policy_doc.specs.Paths.{member_path}
 use Rattle.policy_doc.specs.Reading.{Reads, ReadsNothing}
 use Rattle.authority.specs.declared.identities.Identity.{Identity}
 use Rattle.sigv4_check.specs.declared.credentials.Credential.{Credential}
-use Rattle.kms_config.specs.declared.temporary.RealmFacts.{RealmFacts}
+use Rattle.account_core.specs.declared.facts.RealmFacts.{RealmFacts}
 use Rattle.kms_config.specs.declared.faults.ConfigFault.{ConfigFault}
 use Rattle.kms_config.specs.declared.faults.ConfigFault.TheVariants.{At, NoMemory}
 use Rattle.kms_config.specs.declared.config.Basics.{Basics}

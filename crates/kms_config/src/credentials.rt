@@ -83,9 +83,7 @@ fn credential_in(
     ensures new { IfOk result (λ credential. has_id credential.id before.now ≡ false) }
 {
     match value {
-        Value::Object(members) => {
-            credential_of(alloc, account, before, place, value, members)
-        }
+        Value::Object(members) => { credential_of(alloc, account, before, place, value, members) }
         _ => refused(alloc, place),
     }
 }

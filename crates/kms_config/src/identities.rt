@@ -114,11 +114,7 @@ fn new_principal(
 }
 
 #[tactic(auto, unfolding(crate::specs::Identities::policies_in))]
-fn policies_in(
-    alloc: Global,
-    place: &Place<'_>,
-    value: &Value,
-) -> Result<PolicyList, ConfigFault>
+fn policies_in(alloc: Global, place: &Place<'_>, value: &Value) -> Result<PolicyList, ConfigFault>
     ensures { Answers (policies_in (place_text place.now) (view value.now)) result }
 {
     documents_in(

@@ -8,7 +8,6 @@ mod forms;
 mod identities;
 mod members;
 mod places;
-mod temporary;
 
 pub use config::{Config, read_config};
 pub use faults::ConfigFault;

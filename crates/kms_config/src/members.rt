@@ -72,4 +72,3 @@ pub fn first_unknown<'a>(names: &[&str], members: &'a Map<String, Value>) -> Opt
     }
     None
 }
-
