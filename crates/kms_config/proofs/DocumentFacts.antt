@@ -1,7 +1,7 @@
 -- What reading a document comes to.
-use Rattle.std.proofs.Common.{◌≡◌, ◌≢◌, subst, ℕ, List, ◌++◌, Some, None, Option, Result, Ok, Err, refl, sym, ap, ◌∙◌}
+use Rattle.std.proofs.Common.{◌≡◌, ◌≢◌, subst, ℕ, List, ◌++◌, Some, Result, Ok, Err, sym, ap, ◌∙◌}
 use Rattle.serde_json.specs.Data.{Data}
-use Rattle.policy_doc.specs.Documents.{first_fault, statements_of}
+use Rattle.policy_doc.specs.Documents.{first_fault}
 use Rattle.policy_doc.specs.Grammar.{IsPolicyOf}
 use Rattle.policy_doc.specs.declared.faults.PolicyFault.{PolicyFault}
 use Rattle.policy_doc.specs.declared.policies.Policy.{Policy}

@@ -1,5 +1,5 @@
 -- What a configuration is, and its first fault.
-use Rattle.std.specs.Prelude.{◌≡◌, ⊤, ℕ, ◌<◌, ◌≤◌, List, [], ◌∷◌, length, codes, Option, Some, None, Result, Ok, Err}
+use Rattle.std.specs.Prelude.{◌≡◌, ⊤, ℕ, ◌<◌, ◌≤◌, List, [], ◌∷◌, length, codes, Option, Result, Ok, Err}
 use Rattle.serde_json.specs.Data.{Data, Members}
 use Rattle.serde_json.specs.Find.{get}
 use Rattle.policy_doc.specs.Names.{first_unknown}
@@ -7,7 +7,6 @@ use Rattle.policy_doc.specs.Paths.{member_path}
 use Rattle.policy_doc.specs.Reading.{Reads, ReadsNothing}
 use Rattle.authority.specs.declared.identities.Identity.{Identity}
 use Rattle.sigv4_check.specs.declared.credentials.Credential.{Credential}
-use Rattle.account_core.specs.declared.facts.RealmFacts.{RealmFacts}
 use Rattle.kms_config.specs.declared.faults.ConfigFault.{ConfigFault}
 use Rattle.kms_config.specs.declared.faults.ConfigFault.TheVariants.{At, NoMemory}
 use Rattle.kms_config.specs.declared.config.Basics.{Basics}

@@ -1,5 +1,5 @@
 -- The forms of a configuration's values.
-use Rattle.std.specs.Prelude.{ℕ, Bool, true, false, ◌&&◌, List, length, codes, nat_le, Option, Some, None, option_and_then}
+use Rattle.std.specs.Prelude.{ℕ, Bool, ◌&&◌, List, length, codes, nat_le, Option, Some, None, option_and_then}
 use Rattle.std.specs.Char.{is_ascii_alphanumeric}
 use Rattle.std.specs.List.{list_all}
 use Rattle.std.specs.Result.{result_ok}

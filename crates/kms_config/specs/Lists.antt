@@ -1,5 +1,5 @@
 -- Lists in a configuration.
-use Rattle.std.specs.Prelude.{ℕ, ◌+◌, List, nat_le, Option, Some, None, option_and_then, Result, Ok, Err}
+use Rattle.std.specs.Prelude.{ℕ, ◌+◌, List, nat_le, Option, option_and_then, Result, Ok}
 use Rattle.serde_json.specs.Data.{Data, Items, no_items, item}
 use Rattle.serde_json.specs.Find.{as_array}
 use Rattle.kms_names.specs.Reading.{some_if}

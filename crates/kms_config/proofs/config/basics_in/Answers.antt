@@ -1,4 +1,4 @@
-use Rattle.std.proofs.Common.{◌≡◌, ◌∙◌, sym, ap, codes}
+use Rattle.std.proofs.Common.{◌∙◌, sym, ap, codes}
 use Rattle.serde_json.specs.Find.{get}
 use Rattle.serde_json.specs.View.{view}
 use Rattle.kms_config.specs.Forms.{account_in, region_in, root_in, boot_in}

@@ -1,4 +1,4 @@
-use Rattle.std.proofs.Common.{◌≡◌, ◌∙◌, sym, ap, codes, List, ℕ, Some}
+use Rattle.std.proofs.Common.{◌∙◌, sym}
 use Rattle.serde_json.specs.View.{view, members_view}
 use Rattle.policy_doc.specs.Names.{first_unknown}
 use Rattle.kms_config.specs.Forms.{principal_at}

@@ -1,5 +1,5 @@
-use Rattle.std.proofs.Common.{◌≡◌, ◌∙◌, ◌+◌, [], Err, Ok, sym, ap, subst, List}
-use Rattle.serde_json.specs.View.{view, items_view}
+use Rattle.std.proofs.Common.{◌∙◌, [], Err, Ok, sym, ap, subst, List}
+use Rattle.serde_json.specs.View.{view}
 use Rattle.policy_doc.specs.Paths.{item_path}
 use Rattle.sigv4_check.specs.Credentials.{placed}
 use Rattle.sigv4_check.specs.declared.credentials.Credential.{Credential}

@@ -1,4 +1,4 @@
-use Rattle.std.proofs.Common.{refl, [], ◌≡◌}
+use Rattle.std.proofs.Common.{refl, []}
 use Rattle.serde_json.specs.View.{view}
 use Rattle.policy_doc.specs.declared.faults.PolicyFault.TheVariants.{BadShape, Unsupported, TooLong, NotJson}
 use Rattle.kms_config.specs.Places.{place_text}

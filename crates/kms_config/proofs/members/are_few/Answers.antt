@@ -1,4 +1,4 @@
-use Rattle.std.proofs.Common.{◌≡◌, ℕ, sym, ap, nat_le}
+use Rattle.std.proofs.Common.{ℕ, sym, ap, nat_le}
 use Rattle.kms_config.proofs.ItemFacts.{items_len-view}
 use Rattle.kms_config.proofs.members.are_few.Goals as goal
 
