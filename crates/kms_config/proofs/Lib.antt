@@ -1,0 +1,7 @@
+mod PlaceFacts
+mod NameFacts
+mod CredentialFacts
+mod ItemFacts
+mod DocumentFacts
+mod IdentityFacts
+mod ConfigFacts

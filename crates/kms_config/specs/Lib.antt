@@ -1,0 +1,8 @@
+pub mod Answers
+pub mod Places
+pub mod Members
+pub mod Lists
+pub mod Forms
+pub mod Credentials
+pub mod Identities
+pub mod Config

@@ -1,0 +1,192 @@
+// The configuration.
+ghost use Rattle.std.specs.Prelude.{◌≡◌, IfOk, IfErr, MatchOption, codes};
+ghost use Rattle.serde_json.specs.View.{view, members_view};
+ghost use Rattle.policy_doc.specs.Reading.{Reads, ReadsNothing};
+ghost use Rattle.kms_config.specs.Answers.{Answers};
+ghost use Rattle.kms_config.specs.Config.{basics_in, credentials_at, identities_at, lists_in, config_in, IsConfigOf, IsFaultOf};
+
+use crate::credentials::credentials_in;
+use crate::faults::ConfigFault;
+use crate::forms::{account_in, boot_in, region_in, root_in};
+use crate::identities::identities_in;
+use crate::members::{first_unknown, member};
+use crate::places::{Place, refused, refused_behind};
+use account_core::{IdentityList, RealmFacts};
+use kms_names::{AccountNumber, NoMemory, Text};
+use serde_json::{Map, Value};
+use sigv4_check::CredentialList;
+use std::alloc::Global;
+
+// The longest file, in bytes.
+const LONGEST: usize = 4_194_304;
+
+// The names of a configuration's members.
+const NAMES: [&str; 6] = [
+    "account",
+    "region",
+    "root",
+    "boot",
+    "credentials",
+    "policies",
+];
+
+/// What a service is configured with.
+#[derive(Drop)]
+pub struct Config {
+    /// What is constant for a run of the service.
+    pub facts: RealmFacts,
+    /// The credentials of its callers, in the order of their ids.
+    pub credentials: CredentialList,
+}
+
+/// The account, the region, the root secret and the boot number of a configuration.
+#[derive(Drop)]
+pub struct Basics {
+    pub account: AccountNumber,
+    pub region: Text,
+    pub root: [u8; 32],
+    pub boot: u32,
+}
+
+// The members of one value each.
+fn basics_in(alloc: Global, value: &Value) -> Result<Basics, ConfigFault>
+    ensures { Answers (basics_in (view value.now)) result }
+{
+    let top = Place::Root;
+    let Some(account) = account_in(member(value, "account")) else {
+        return refused(alloc, &Place::Member(&top, "account"));
+    };
+    let Some(region) = region_in(alloc, member(value, "region"))? else {
+        return refused(alloc, &Place::Member(&top, "region"));
+    };
+    let Some(root) = root_in(member(value, "root")) else {
+        return refused(alloc, &Place::Member(&top, "root"));
+    };
+    let Some(boot) = boot_in(member(value, "boot")) else {
+        return refused(alloc, &Place::Member(&top, "boot"));
+    };
+    Ok(Basics {
+        account,
+        region,
+        root,
+        boot,
+    })
+}
+
+fn credentials_at(
+    alloc: Global,
+    account: &AccountNumber,
+    value: &Value,
+) -> Result<CredentialList, ConfigFault>
+    ensures { Answers (credentials_at account.now (view value.now)) result }
+{
+    let top = Place::Root;
+    let place = Place::Member(&top, "credentials");
+    credentials_in(alloc, account, &place, member(value, "credentials"))
+}
+
+fn identities_at(
+    alloc: Global,
+    account: &AccountNumber,
+    value: &Value,
+) -> Result<IdentityList, ConfigFault>
+    ensures { Answers (identities_at account.now (view value.now)) result }
+{
+    let top = Place::Root;
+    let place = Place::Member(&top, "policies");
+    identities_in(alloc, account, &place, member(value, "policies"))
+}
+
+// The lists of an object with these members.
+fn lists_in(
+    alloc: Global,
+    value: &Value,
+    members: &Map<String, Value>,
+    basics: Basics,
+) -> Result<Config, ConfigFault>
+    ensures { Answers (lists_in (view value.now) (members_view members.now.entries) basics) result }
+{
+    let top = Place::Root;
+    let Basics {
+        account,
+        region,
+        root,
+        boot,
+    } = basics;
+    let credentials = match credentials_at(alloc, &account, value) {
+        Ok(credentials) => credentials,
+        Err(why) => return Err(why),
+    };
+    let identities = match identities_at(alloc, &account, value) {
+        Ok(identities) => identities,
+        Err(why) => return Err(why),
+    };
+    if let Some(name) = first_unknown(&NAMES, members) {
+        return refused(alloc, &Place::Member(&top, name));
+    }
+    Ok(Config {
+        facts: RealmFacts {
+            account,
+            region,
+            root,
+            boot,
+            identities,
+        },
+        credentials,
+    })
+}
+
+// What a value configures.
+fn config_in(alloc: Global, value: &Value) -> Result<Config, ConfigFault>
+    ensures { Answers (config_in (view value.now)) result }
+{
+    let Value::Object(members) = value else {
+        return refused_behind(alloc, &Place::Root, "/");
+    };
+    match basics_in(alloc, value) {
+        Ok(basics) => lists_in(alloc, value, members, basics),
+        Err(why) => Err(why),
+    }
+}
+
+// The JSON value of some bytes.
+fn read_json(alloc: Global, bytes: &[u8]) -> Result<Option<Value>, NoMemory>
+    ensures { IfOk result (λ value. MatchOption value (ReadsNothing bytes.now) (λ v. Reads bytes.now (view v))) }
+{
+    match Value::from_slice(alloc, bytes) {
+        Ok(value) => Ok(Some(value)),
+        Err(fault) if fault.is_memory() => Err(NoMemory),
+        Err(_) => Ok(None),
+    }
+}
+
+/// The configuration that the bytes of a file are: a JSON object (RFC 8259) of at most 4,194,304 bytes
+/// with exactly these members.
+///
+/// | Member | Value |
+/// |---|---|
+/// | `account` | 12 decimal digits |
+/// | `region` | 1 to 32 lower-case letters, digits and `-` |
+/// | `root` | 64 hexadecimal digits of either case |
+/// | `boot` | a whole number from 1 to 4294967295 |
+/// | `credentials` | a list of at most 1,000 objects of `accessKeyId` (1 to 128 letters and digits, distinct), `secret` (1 to 128 visible ASCII characters) and `principal` |
+/// | `policies` | a list of at most 1,000 objects of `principal` (distinct, and not the root) and `documents` (a list of at most 10 identity policies) |
+///
+/// A principal is the ARN of the account's root, of a user or of a role of the account.
+///
+/// Else the answer is the JSON pointer of the first fault: of the members in this order, of a list's
+/// length before its items, of the items in theirs, and of an object's members of other names last, in
+/// byte order. A file that is no JSON object or too long is refused at `/`. Of equal names in an object
+/// the last one counts. Want of memory may replace each answer.
+pub fn read_config(alloc: Global, bytes: &[u8]) -> Result<Config, ConfigFault>
+    ensures ok { IfOk result (IsConfigOf bytes.now) }
+    ensures fault { IfErr result (IsFaultOf bytes.now) }
+{
+    if bytes.len() > LONGEST {
+        return refused_behind(alloc, &Place::Root, "/");
+    }
+    match read_json(alloc, bytes)? {
+        Some(value) => config_in(alloc, &value),
+        None => refused_behind(alloc, &Place::Root, "/"),
+    }
+}

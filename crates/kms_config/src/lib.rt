@@ -1,0 +1,13 @@
+//! The configuration of a service: its account, its secrets, its callers and their policies, as a JSON file.
+#![tactic(auto)]
+
+mod config;
+mod credentials;
+mod faults;
+mod forms;
+mod identities;
+mod members;
+mod places;
+
+pub use config::{Config, read_config};
+pub use faults::ConfigFault;

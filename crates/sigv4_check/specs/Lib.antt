@@ -1,0 +1,10 @@
+pub mod Parts
+pub mod Fields
+pub mod Authorization
+pub mod Shown
+pub mod Dates
+pub mod SignedNames
+pub mod Canonical
+pub mod Signing
+pub mod Credentials
+pub mod Signer

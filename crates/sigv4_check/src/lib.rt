@@ -1,0 +1,18 @@
+//! Requests signed by AWS Signature Version 4: who signed a message, or why nobody did.
+#![tactic(auto)]
+
+mod authorization;
+mod canonical;
+mod credentials;
+mod dates;
+mod faults;
+mod fields;
+mod parts;
+mod signed_names;
+mod signers;
+mod signing;
+
+pub use credentials::{Credential, CredentialList, are_distinct};
+pub use faults::AuthFault;
+pub use signers::check;
+pub use signing::signing_key;
