@@ -7,7 +7,7 @@ use Rattle.std.proofs.lemmas.List.Sorted.{IsNonDecreasingBy-push}
 use Rattle.std.proofs.lemmas.List.{take_at, drop_at, get_or_push}
 use Rattle.std.proofs.lemmas.Slice.Eq.{bytes_eq-Decides}
 use Rattle.draw_lines.specs.Iv.{iv_at}
-use Rattle.draw_lines.proofs.IvFacts.{count_told}
+use Rattle.draw_lines.proofs.IvFacts.{count_told, pass_told}
 use Rattle.mac_sha.specs.Hmac.{hmac_sha256}
 use Rattle.mac_sha.proofs.HmacFacts.{hmac_length}
 use Rattle.blob_format.specs.Blob.{blob_text}
@@ -51,7 +51,7 @@ use Rattle.account_core.specs.Authority.{of_context, denied, MayAsk}
 use Rattle.account_core.specs.Parts.{Outcome, takes, outcome, decided_by, only_asked, refused_state, unfit_one, told_state}
 use Rattle.account_core.specs.Crypto.{decrypts}
 use Rattle.account_core.specs.Decide.{lacking, body_outcome, decide, IsNext, appended, kept, IsLawful, empty, longer}
-use Rattle.account_core.specs.Laws.{reply_to, NoneOrNames, PassGoesOn, no_request, one_more, wants_memory, iv_in, exception_of, unless_excepted, SealedIsDecryptedAgain, OnePassRepeatsNoIv, TimesNeverFall, HouseIsKeptOnce, KeysDiffer}
+use Rattle.account_core.specs.Laws.{reply_to, NoneOrNames, PassGoesOn, no_request, one_more, wants_memory, iv_in, exception_of, unless_excepted, SealedIsDecryptedAgain, OnePassRepeatsNoIv, PassesShareNoIv, TimesNeverFall, HouseIsKeptOnce, KeysDiffer}
 use Rattle.account_core.proofs.BlobNames.{named_blob}
 use Rattle.account_core.proofs.GoingOn.{decide_goes_on}
 use Rattle.account_rows.specs.Changes.{HasVersions, is_gone, is_state_gone}
@@ -106,6 +106,14 @@ no_iv_again facts history later x y places later_places one other lawful lawful_
     let iv' = ap iv_in b.blob ∙ sealed_iv facts b.row other.context other.plaintext later_places (key_size facts later b.row lawful_later b.there) in
     let count : places.ivs ≡ later_places.ivs = count_told facts.boot facts.boot places.number later_places.number places.ivs later_places.ivs a.few b.few (sym iv ∙ same ∙ iv') in
     omega (arith, up.ivs_from, a.ivs, count)
+
+pub no_iv_shared : PassesShareNoIv
+no_iv_shared facts history later x y places others one other lawful lawful_later first second fits fits_too apart same =
+    let a = is_sealed facts history x places one first in
+    let b = is_sealed facts later y others other second in
+    let iv = ap iv_in a.blob ∙ sealed_iv facts a.row one.context one.plaintext places (key_size facts history a.row lawful a.there) in
+    let iv' = ap iv_in b.blob ∙ sealed_iv facts b.row other.context other.plaintext others (key_size facts later b.row lawful_later b.there) in
+    apart (pass_told facts.boot facts.boot places.number others.number places.ivs others.ivs fits fits_too (sym iv ∙ same ∙ iv'))
 
 -- ---- what was sealed is decrypted again
 

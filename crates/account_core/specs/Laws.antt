@@ -121,6 +121,15 @@ OnePassRepeatsNoIv =
     → PassGoesOn facts (decide facts history x places).places later_places
     → iv_in one.blob ≢ iv_in other.blob
 
+-- the blobs of requests of passes of different numbers, which are below 2^16, have different initialization vectors
+abbrev pub PassesShareNoIv : Type 0
+PassesShareNoIv =
+    (facts : RealmFacts) (history later : List Entry) (x y : Ask) (places others : Places) (one other : Sealing)
+    → IsLawful facts history → IsLawful facts later
+    → HasSealed facts history x places one → HasSealed facts later y others other
+    → places.number < 2 ^ 16 → others.number < 2 ^ 16 → places.number ≢ others.number
+    → iv_in one.blob ≢ iv_in other.blob
+
 -- a blob names the key and the version that it says
 abbrev pub BlobsAreNamed : Type 0
 BlobsAreNamed =

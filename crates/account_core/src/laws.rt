@@ -1,6 +1,6 @@
 //! Laws of what the account answers. Each stands as the contract of a function that does nothing.
 
-ghost use Rattle.account_core.specs.Laws.{SealedIsDecryptedAgain, OnePassRepeatsNoIv, BlobsAreNamed, NamedAreBlobs, TimesNeverFall, HouseIsKeptOnce, KeysDiffer, PassesWhereStatementsAllow, NamesTheFirstDenied};
+ghost use Rattle.account_core.specs.Laws.{SealedIsDecryptedAgain, OnePassRepeatsNoIv, PassesShareNoIv, BlobsAreNamed, NamedAreBlobs, TimesNeverFall, HouseIsKeptOnce, KeysDiffer, PassesWhereStatementsAllow, NamesTheFirstDenied};
 
 /// What Encrypt, ReEncrypt or a data key call answered as sealed under a context, Decrypt opens to the
 /// text that was sealed, at that history and at every lawful one that goes on from it, where the key is
@@ -17,6 +17,11 @@ pub fn sealed_is_decrypted_again()
 /// of all that the pass seals later, at whatever lawful histories, keys and contexts.
 pub fn one_pass_repeats_no_iv()
     ensures { OnePassRepeatsNoIv }
+{}
+
+/// The blobs that passes of different numbers seal, each below 2^16, have initialization vectors of their own.
+pub fn passes_share_no_iv()
+    ensures { PassesShareNoIv }
 {}
 
 /// The key and the version that a decision takes from a sealed text are those that its blob says, and

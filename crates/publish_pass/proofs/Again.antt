@@ -1,5 +1,5 @@
 -- What was sealed in a run of the machine.
-use Rattle.std.proofs.Common.{◌≡◌, ℕ, zero, suc, ◌+◌, ◌<◌, ◌≤◌, ◌==◌, Bool, true, false, cond, List, [], ◌∷◌, ◌++◌, length, take, drop, refl, ap, sym, ◌∙◌, subst, arith, append_assoc, length-append, le_refl, lt_of_not-le}
+use Rattle.std.proofs.Common.{◌≡◌, ℕ, zero, suc, ◌+◌, ◌^◌, ◌<◌, ◌≤◌, ◌==◌, Bool, true, false, cond, List, [], ◌∷◌, ◌++◌, length, take, drop, refl, ap, sym, ◌∙◌, subst, arith, append_assoc, length-append, le_refl, lt_of_not-le}
 use Rattle.std.proofs.lemmas.List.{take-append-le, take-append-drop, map-append, length-take-le}
 use Rattle.std.proofs.lemmas.Bool.{false≢true}
 use Rattle.std.proofs.lemmas.Bool.Decides.{nat_tests}
@@ -10,10 +10,10 @@ use Rattle.account_core.specs.declared.facts.RealmFacts.{RealmFacts}
 use Rattle.account_core.specs.History.{Entry}
 use Rattle.account_core.specs.declared.places.Places.{Places}
 use Rattle.account_core.specs.Decide.{IsLawful, empty, longer}
-use Rattle.account_core.specs.Laws.{PassGoesOn, TimesNeverFall, SealedIsDecryptedAgain, OnePassRepeatsNoIv, AsksToOpen, reply_to}
+use Rattle.account_core.specs.Laws.{PassGoesOn, TimesNeverFall, SealedIsDecryptedAgain, OnePassRepeatsNoIv, PassesShareNoIv, AsksToOpen, reply_to, exception_of, unless_excepted}
 use Rattle.kms_json.specs.declared.replies.Reply.TheVariants.{Decrypted}
 use Rattle.publish_pass.specs.Pairs.{entries_of}
-use Rattle.publish_pass.specs.Machine.{State, read, places_after, SealedStaysReadable, NoVectorTwice}
+use Rattle.publish_pass.specs.Machine.{State, read, places_after, SealedStaysReadable, NoVectorTwice, NoVectorShared}
 use Rattle.publish_pass.proofs.Lists.{prefix_trans, prefix_shorter}
 use Rattle.publish_pass.proofs.Kept.{reached, goes, ran}
 
@@ -61,10 +61,9 @@ readable times law facts p before after s t k j x y places others sealing run mo
     let begins = prefix_entries (take k s.history) (take j t.history) (begins_later s.history t.history k j grown.1.history within le there) in
     let lawful : IsLawful facts last = subst (IsLawful facts) (sym (entries_of-take j t.history)) (lawful_take facts j (entries_of t.history) grown.0.history.lawful) in
     let same : first ++ begins.0 ≡ last = begins.1 in
-    let P : List Entry → Type 0 = λ h. reply_to facts h y others ≡ Decrypted sealing.plaintext sealing.arn in
-    subst P same
-    (law facts first begins.0 x y places others sealing (subst (IsLawful facts) (sym same) lawful) proper sealed policies
-    (subst (λ (h : List Entry). AsksToOpen facts h y others sealing.blob sealing.context) (sym same) asks))
+    let P : List Entry → Type 0 = λ h. (a : AsksToOpen facts h y others sealing.blob sealing.context)
+        → reply_to facts h y others ≡ unless_excepted (exception_of sealing.arn a.held.stored) (Decrypted sealing.plaintext sealing.arn) in
+    subst P same (λ a. law facts first begins.0 x y places others sealing (subst (IsLawful facts) (sym same) lawful) proper sealed policies a) asks
 
 lawful_first : (facts : RealmFacts) (k : ℕ) (pairs : List (Entry × ℕ)) → IsLawful facts (entries_of pairs) → IsLawful facts (entries_of (take k pairs))
 lawful_first facts k pairs lawful = subst (IsLawful facts) (sym (entries_of-take k pairs)) (lawful_take facts k (entries_of pairs) lawful)
@@ -82,3 +81,13 @@ no_vector_twice times law facts p n k j before between s t u v x y one other run
     law facts (entries_of (take k s.history)) (entries_of (take j u.history)) x y (s.places n) (u.places n) one other
     (lawful_first facts k s.history here.history.lawful) (lawful_first facts j u.history on.0.history.lawful) sealed again
     (subst (λ (q : Places). PassGoesOn facts q (u.places n)) left (on.1.places n))
+
+pub no_vector_shared : TimesNeverFall → PassesShareNoIv → NoVectorShared
+no_vector_shared times law facts p n m k j before between s u x y one other run more fits fits_too apart sealed again =
+    let here = reached facts p times before s run in
+    let on = goes facts p times before between s u run more in
+    let first : (s.places n).number ≡ n = here.number n in
+    let second : (u.places m).number ≡ m = on.0.number m in
+    law facts (entries_of (take k s.history)) (entries_of (take j u.history)) x y (s.places n) (u.places m) one other
+    (lawful_first facts k s.history here.history.lawful) (lawful_first facts j u.history on.0.history.lawful) sealed again
+    (subst (λ (i : ℕ). i < 2 ^ 16) (sym first) fits) (subst (λ (i : ℕ). i < 2 ^ 16) (sym second) fits_too) (λ same. apart (sym first ∙ same ∙ second))

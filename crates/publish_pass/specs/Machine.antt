@@ -1,5 +1,5 @@
 -- The machine of events: one history that all passes make, and what each pass has seen, made and used.
-use Rattle.std.specs.Prelude.{◌≡◌, ◌≢◌, ℕ, ◌+◌, ◌==◌, ◌<◌, ◌≤◌, Bool, true, false, cond, max, List, [], ◌∷◌, ◌++◌, length, take, Option, Some, None}
+use Rattle.std.specs.Prelude.{◌≡◌, ◌≢◌, ℕ, ◌+◌, ◌^◌, ◌==◌, ◌<◌, ◌≤◌, Bool, true, false, cond, max, List, [], ◌∷◌, ◌++◌, length, take, Option, Some, None}
 use Rattle.std.specs.List.Sorted.{IsNonDecreasingBy}
 use mathlib.Core.List.{IsPrefix}
 use Rattle.kms_json.specs.declared.asks.Ask.{Ask}
@@ -13,7 +13,7 @@ use Rattle.account_core.specs.declared.places.Places.{Places}
 use Rattle.account_core.specs.Places.{IsUpTo}
 use Rattle.account_core.specs.History.{housekeeping_of}
 use Rattle.account_core.specs.Decide.{decide, IsProper}
-use Rattle.account_core.specs.Laws.{Sealing, HasSealed, AsksToOpen, reply_to, iv_in, PassGoesOn}
+use Rattle.account_core.specs.Laws.{Sealing, HasSealed, AsksToOpen, reply_to, iv_in, PassGoesOn, exception_of, unless_excepted}
 use Rattle.publish_pass.specs.Pairs.{IsHistory, entries_of}
 
 -- the published history, each entry with the number of the pass that made it; and of the pass of each number how many entries it has
@@ -120,8 +120,8 @@ SealedStaysReadable =
     (facts : RealmFacts) (p : ℕ) (before after : List Event) (s t : State) (k j : ℕ) (x y : Ask) (places others : Places) (sealing : Sealing)
     → Runs facts p start before s → Runs facts p s after t → k ≤ length s.history → k ≤ j → j ≤ length t.history
     → IsProper facts x → HasSealed facts (entries_of (take k s.history)) x places sealing
-    → AreIdentityPolicies (callers_policies facts.identities y.caller) → AsksToOpen facts (entries_of (take j t.history)) y others sealing.blob sealing.context
-    → reply_to facts (entries_of (take j t.history)) y others ≡ Decrypted sealing.plaintext sealing.arn
+    → AreIdentityPolicies (callers_policies facts.identities y.caller) → (asks : AsksToOpen facts (entries_of (take j t.history)) y others sealing.blob sealing.context)
+    → reply_to facts (entries_of (take j t.history)) y others ≡ unless_excepted (exception_of sealing.arn asks.held.stored) (Decrypted sealing.plaintext sealing.arn)
 
 -- two requests of one pass that each sealed a text have given them different initialization vectors
 abbrev pub NoVectorTwice : Type 0
@@ -129,4 +129,12 @@ NoVectorTwice =
     (facts : RealmFacts) (p n k j : ℕ) (before between : List Event) (s t u v : State) (x y : Ask) (one other : Sealing)
     → Runs facts p start before s → Step facts p s (read n x k) t → Runs facts p t between u → Step facts p u (read n y j) v
     → HasSealed facts (entries_of (take k s.history)) x (s.places n) one → HasSealed facts (entries_of (take j u.history)) y (u.places n) other
+    → iv_in one.blob ≢ iv_in other.blob
+
+-- two requests of two passes that each sealed a text, at any moments of a run, have given them different initialization vectors
+abbrev pub NoVectorShared : Type 0
+NoVectorShared =
+    (facts : RealmFacts) (p n m k j : ℕ) (before between : List Event) (s u : State) (x y : Ask) (one other : Sealing)
+    → Runs facts p start before s → Runs facts p s between u → n < 2 ^ 16 → m < 2 ^ 16 → n ≢ m
+    → HasSealed facts (entries_of (take k s.history)) x (s.places n) one → HasSealed facts (entries_of (take j u.history)) y (u.places m) other
     → iv_in one.blob ≢ iv_in other.blob

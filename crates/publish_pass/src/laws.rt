@@ -1,22 +1,26 @@
 //! What holds of every run of events, of which each call of a pass is one or more.
 
-ghost use Rattle.publish_pass.specs.Machine.{HoldsAlways, SealedStaysReadable, NoVectorTwice};
+ghost use Rattle.publish_pass.specs.Machine.{HoldsAlways, SealedStaysReadable, NoVectorTwice, NoVectorShared};
 
-use account_core::{one_pass_repeats_no_iv, sealed_is_decrypted_again, times_never_fall};
+use account_core::{
+    one_pass_repeats_no_iv, passes_share_no_iv, sealed_is_decrypted_again, times_never_fall,
+};
 
 /// For every number of passes and every list of events: housekeeping, changes, reads, reads for which
 /// memory lacks, and learning.
 ///
 /// The history only grows. It is lawful, its makers are the passes, and its times never fall. What a pass
 /// has seen never falls, the places of its own entries are exactly those of its number, and what it has used
-/// only goes on. What a request sealed, Decrypt answers at every history that goes on from there. Two texts
-/// that one pass sealed have different initialization vectors.
+/// only goes on. What a request sealed, Decrypt answers at every history that goes on from there, while its
+/// key is enabled. Two texts that passes sealed, one pass or two, have different initialization vectors.
 pub fn machine_law()
     ensures holds { HoldsAlways }
     ensures readable { SealedStaysReadable }
     ensures vectors { NoVectorTwice }
+    ensures shared { NoVectorShared }
 {
     times_never_fall();
     sealed_is_decrypted_again();
     one_pass_repeats_no_iv();
+    passes_share_no_iv();
 }

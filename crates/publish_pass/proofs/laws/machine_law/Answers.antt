@@ -1,5 +1,5 @@
 use Rattle.publish_pass.proofs.Kept.{always}
-use Rattle.publish_pass.proofs.Again.{readable, no_vector_twice}
+use Rattle.publish_pass.proofs.Again.{readable, no_vector_twice, no_vector_shared}
 use Rattle.publish_pass.proofs.laws.machine_law.Goals as goal
 
 pub returns-clause-holds : goal.returns-clause-holds
@@ -10,3 +10,6 @@ returns-clause-readable c = readable c.times_never_fall.ensures c.sealed_is_decr
 
 pub returns-clause-vectors : goal.returns-clause-vectors
 returns-clause-vectors c = no_vector_twice c.times_never_fall.ensures c.one_pass_repeats_no_iv.ensures
+
+pub returns-clause-shared : goal.returns-clause-shared
+returns-clause-shared c = no_vector_shared c.times_never_fall.ensures c.passes_share_no_iv.ensures
