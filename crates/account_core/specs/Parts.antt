@@ -92,7 +92,7 @@ spent places uses = or_else (no_more_draws places uses.words) (no_more_ivs place
 abbrev pub keys_full : ℕ → Option Refusal
 keys_full keys = if nat_le 10000 keys then Some (refusal.LimitExceeded limit.Keys) else None
 
--- a key is rotated on demand 10 times at most
+-- a key has 10 rotations on demand at most
 abbrev pub rotations_full : Option KeyRow → Option Refusal
 rotations_full None = None
 rotations_full (Some row) = if nat_le 10 row.on_demand then Some (refusal.LimitExceeded limit.Rotations) else None

@@ -147,6 +147,22 @@ fn answer_ask<W: Wait, R: Realm, G: Gate>(
     answer_read(host.rt, host.alloc, pass, ask)
 }
 
+// The same of a request that is let go then.
+fn answer_owned<W: Wait, R: Realm, G: Gate>(
+    host: &Host<'_, W, R, G>,
+    pass: &mut Pass<R>,
+    ask: Ask,
+) -> Result<Answered, NoMemory>
+    requires { IsProper pass.old.facts ask }
+    ensures answer { IfOk result (λ a. Gives pass.old (asks ask) a pass.new) }
+    ensures wants { OnErr result (Wanting pass.old (asks ask) pass.new) }
+{
+    answer_ask(host, pass, &ask)
+}
+
+// Lets the body of a request go.
+fn let_go(_body: AskBody) {}
+
 // Answers a request that asks nothing of the account.
 fn answer_refusal<R: Realm>(
     alloc: Global,
@@ -181,16 +197,25 @@ fn answer_body<W: Wait, R: Realm, G: Gate>(
     ensures wants { OnErr result (Wanting pass.old (planned host.now.trust.now now (Ok body) after) pass.new) }
 {
     match after {
-        After::Entries(after) => {
-            let ask = Ask {
-                body,
-                caller: caller(host.trust)?,
-                moment: now,
-                after,
-            };
-            answer_ask(host, pass, &ask)
+        After::Entries(after) => match caller(host.trust) {
+            Ok(caller) => {
+                let ask = Ask {
+                    body,
+                    caller,
+                    moment: now,
+                    after,
+                };
+                answer_owned(host, pass, ask)
+            }
+            Err(NoMemory) => {
+                let_go(body);
+                Err(NoMemory)
+            }
+        },
+        After::Malformed => {
+            let_go(body);
+            answer_malformed(host.alloc, pass)
         }
-        After::Malformed => answer_malformed(host.alloc, pass),
     }
 }
 
