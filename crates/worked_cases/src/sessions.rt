@@ -2,6 +2,8 @@
 ghost use Rattle.std.specs.Prelude.{◌≡◌, IfOk, IfSome};
 ghost use Rattle.kms_io.specs.Clock.{are_times};
 ghost use Rattle.account_core.specs.Decide.{account_of};
+ghost use Rattle.publish_pass.specs.Rules.{Names};
+ghost use Rattle.kms_session.specs.Run.{caller_of as session_caller};
 
 use crate::cases::{Case, Ending, Span};
 use crate::identities::{identities_of, principal_of};
@@ -10,7 +12,7 @@ use account_core::RealmFacts;
 use kms_io::{MemoryClock, MemoryLink, NoGate};
 use kms_names::{AccountNumber, NoMemory, Principal, Text};
 use kms_session::{SessionEnd, Trust, serve_session};
-use publish_pass::{Opening, open_service};
+use publish_pass::{Opening, Realm, open_service};
 use std::alloc::{AllocError, Global};
 use std::marker::Brand;
 use std::sync::Wait;
@@ -122,6 +124,27 @@ fn link_of(alloc: Global, case: &Case, manner: Manner) -> Result<MemoryLink, All
     ))
 }
 
+// Serves one session by the one pass of a service.
+fn serve_opening<W: Wait, R: Realm>(
+    rt: &W,
+    alloc: Global,
+    opening: Opening,
+    trust: &Trust,
+    clock: &mut MemoryClock,
+    link: &mut MemoryLink,
+) -> Result<SessionEnd, NoMemory>
+    requires ledger { (opening.name ≡ R.name) × (opening.parts ≡ R.parts) }
+    requires names { Names R.book R.facts R.passes opening.shown }
+    requires passes { opening.shown.whole.passes ≡ 1 }
+    requires caller { account_of (session_caller trust.now) ≡ opening.shown.whole.facts.account }
+{
+    let (service, mut passes) = open_service::<W, R>(rt, alloc, opening)?;
+    let pass = &mut passes[0];
+    let end = serve_session(rt, alloc, &service, pass, trust, clock, link, &NoGate);
+    service.shut(rt);
+    Ok(end)
+}
+
 fn serve<W: Wait>(
     rt: &W,
     alloc: Global,
@@ -136,18 +159,8 @@ fn serve<W: Wait>(
     };
     let mut link = link_of(alloc, case, manner)?;
     let opening = Opening::new(rt, alloc, facts, 1)?;
-    let (service, mut passes) = open_service::<W, Brand>(rt, alloc, opening)?;
     let trust = Trust::Word(caller);
-    let end = serve_session(
-        rt,
-        alloc,
-        &service,
-        &mut passes[0],
-        &trust,
-        &mut clock,
-        &mut link,
-        &NoGate,
-    );
+    let end = serve_opening::<W, Brand>(rt, alloc, opening, &trust, &mut clock, &mut link)?;
     Ok(Some(Served { end, link }))
 }
 
