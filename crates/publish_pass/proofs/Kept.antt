@@ -1,19 +1,15 @@
 -- Each event keeps what holds of a state.
-use Rattle.std.proofs.Common.{◌≡◌, ◌≢◌, ℕ, suc, ◌+◌, ◌<◌, ◌≤◌, ◌==◌, Bool, true, false, cond, max, List, [], ◌∷◌, ◌++◌, length, take, Option, Some, None, refl, ap, sym, ◌∙◌, subst, arith, append_assoc, length-append, le_refl, le_trans}
+use Rattle.std.proofs.Common.{◌≡◌, ℕ, ◌+◌, ◌≤◌, ◌==◌, Bool, true, false, cond, max, List, [], ◌∷◌, ◌++◌, length, take, Option, Some, None, refl, ap, sym, ◌∙◌, subst, arith, length-append, le_refl, le_trans}
 use Rattle.std.proofs.lemmas.Bool.Decides.{nat_tests}
-use mathlib.Core.List.{IsPrefix}
-use Rattle.kms_json.specs.declared.asks.Ask.{Ask}
-use Rattle.kms_json.specs.Asks.{changes_account}
 use Rattle.account_core.specs.declared.facts.RealmFacts.{RealmFacts}
 use Rattle.account_core.specs.History.{Entry}
 use Rattle.account_core.specs.declared.places.Places.{Places}
-use Rattle.account_core.specs.Places.{IsUpTo, no_places}
-use Rattle.account_core.specs.History.{housekeeping_of}
-use Rattle.account_core.specs.Decide.{decide, IsProper, IsNext, appended, kept, IsLawful, empty, longer}
+use Rattle.account_core.specs.Places.{no_places}
+use Rattle.account_core.specs.Decide.{decide, IsNext, appended, kept, empty}
 use Rattle.account_core.specs.Laws.{PassGoesOn, no_request, one_more, wants_memory, TimesNeverFall}
 use Rattle.account_core.proofs.GoingOn.{same_entry, decide_goes_on}
 use Rattle.publish_pass.specs.Pairs.{IsHistory, entries_of}
-use Rattle.publish_pass.specs.Machine.{State, Event, house, change, read, starved, learn, start, made, looked, looked_at, made_any, IsNumber, places_after, MayRead, Step, Runs, places_of_maker, Holds, Grows, HoldsAlways}
+use Rattle.publish_pass.specs.Machine.{State, Event, house, change, read, starved, learn, start, made, looked, looked_at, made_any, IsNumber, places_after, Step, Runs, places_of_maker, Holds, Grows, HoldsAlways}
 use Rattle.publish_pass.proofs.Lists.{history_nil, history_push, prefix_self, prefix_push, prefix_trans}
 
 -- ---- own places

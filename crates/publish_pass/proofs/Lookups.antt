@@ -1,5 +1,5 @@
 -- What a look at the published account answers.
-use Rattle.std.proofs.Common.{◌≡◌, ℕ, List, length, sym, subst, refl, ap, ◌∙◌, arith, le_refl, Result, Ok, Err}
+use Rattle.std.proofs.Common.{◌≡◌, ℕ, List, sym, subst, refl, ap, ◌∙◌, arith, le_refl, Result, Ok, Err}
 use Rattle.std.specs.Result.{IfErr, IsErr, IsErrAnd}
 use Rattle.std.proofs.lemmas.Bool.{false≢true}
 use Rattle.kms_names.specs.declared.faults.NoMemory.{NoMemory as Starved}

@@ -1,5 +1,5 @@
 -- Decisions of a pass.
-use Rattle.std.proofs.Common.{◌≡◌, ◌<◌, ◌==◌, ℕ, List, ◌++◌, ◌∷◌, [], length, Option, Some, None, Bool, true, false, refl, sym, ap, ap₂, ◌∙◌, subst, if◌then◌else◌, ◌⊎◌, inl, inr, Result, Ok, Err}
+use Rattle.std.proofs.Common.{◌≡◌, ◌<◌, ◌==◌, ℕ, List, length, Option, Some, None, Bool, true, false, refl, sym, ap, ap₂, ◌∙◌, subst, if◌then◌else◌, ◌⊎◌, inl, inr, Result, Ok, Err}
 use Rattle.std.specs.Result.{IfOk, OnOk, OnErr}
 use Rattle.kms_names.specs.declared.faults.NoMemory.{NoMemory}
 use Rattle.publish_pass.specs.declared.answered.Answered.{Answered}
@@ -14,7 +14,7 @@ use Rattle.account_core.specs.declared.decide.Decision.{Decision}
 use Rattle.account_core.specs.declared.decide.Decision.TheVariants.{Refused, Served, Change}
 use Rattle.account_core.specs.History.{housekeeping_of}
 use Rattle.account_core.specs.Account.{Account}
-use Rattle.account_core.specs.Decide.{decide, decision_by, decision_of, IsNext, appended, kept, IsProper}
+use Rattle.account_core.specs.Decide.{decision_by, decision_of, IsNext, appended, kept, IsProper}
 use Rattle.account_core.specs.Places.{no_places}
 use Rattle.account_core.proofs.GoingOn.{same_reply, same_entry}
 use Rattle.publish_pass.specs.Pairs.{entries_of}

@@ -1,14 +1,13 @@
 -- The steps keep the rule.
-use Rattle.std.proofs.Common.{◌≡◌, ◌≢◌, ℕ, List, [], ◌∷◌, ◌++◌, set, refl, sym, ap, ◌∙◌, subst, length, ◌+◌, length-append, ⊎_elim, Option, Some, None, IfSome, MatchOption}
+use Rattle.std.proofs.Common.{◌≡◌, ◌≢◌, ℕ, List, set, refl, ◌∙◌, subst, ⊎_elim, Option, Some, None}
 use mathlib.Core.Option.{some}
-use mathlib.Core.List.{IsPrefix}
 use lib.ListN.{get_elem?}
 use Rattle.left_right.specs.Register.{Admits, TurnsAt, Forks, Merges}
 use Rattle.atomic_table.proofs.Lists.{at_set, at_snoc}
 use Rattle.logbook.specs.Pages.{Book}
 use Rattle.account_core.specs.declared.facts.RealmFacts.{RealmFacts}
-use Rattle.publish_pass.specs.Pairs.{Shown, Whole}
-use Rattle.publish_pass.specs.Rules.{Fits, Keeps, GoesOn, Looks, Knows, Names}
+use Rattle.publish_pass.specs.Pairs.{Shown}
+use Rattle.publish_pass.specs.Rules.{Fits, Keeps, GoesOn, Looks, Knows}
 use Rattle.publish_pass.proofs.Lists.{prefix_self, prefix_trans}
 
 pub goes_self : (x : Shown) → GoesOn x x

@@ -1,6 +1,5 @@
 -- One look at the published account.
 use Rattle.std.specs.Prelude.{◌≡◌, List, length, Result, Ok, Err}
-use mathlib.Core.List.{IsPrefix}
 use Rattle.draw_lines.specs.Line.{Line}
 use Rattle.kms_names.specs.declared.faults.NoMemory.{NoMemory}
 use Rattle.kms_json.specs.declared.asks.Ask.{Ask}

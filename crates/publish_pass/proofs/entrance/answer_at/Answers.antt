@@ -4,7 +4,6 @@ use Rattle.account_core.specs.History.{Entry}
 use Rattle.account_core.specs.Decide.{IsProper}
 use Rattle.account_core.specs.Places.{IsLineOf}
 use Rattle.publish_pass.specs.Pairs.{Shown, Whole, IsHistory, entries_of}
-use Rattle.publish_pass.specs.Growing.{Pairs}
 use Rattle.publish_pass.specs.Reading.{Settles}
 use Rattle.publish_pass.proofs.entrance.answer_at.Goals as goal
 

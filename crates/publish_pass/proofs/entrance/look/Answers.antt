@@ -1,4 +1,4 @@
-use Rattle.std.proofs.Common.{◌≡◌, sym, subst}
+use Rattle.std.proofs.Common.{sym, subst}
 use Rattle.left_right.specs.Sides.{view}
 use Rattle.publish_pass.specs.Pairs.{Shown}
 use Rattle.publish_pass.specs.Rules.{Fits}

@@ -1,5 +1,5 @@
-use Rattle.std.proofs.Common.{◌≡◌, ◌+◌, ℕ, List, ◌++◌, ◌∷◌, [], ap, ap₂, sym, ◌∙◌, arith}
-use Rattle.publish_pass.specs.Pass.{Pass, fresh_pass, fresh_passes}
+use Rattle.std.proofs.Common.{List, ◌++◌, ◌∷◌, [], ap₂, sym, ◌∙◌, arith}
+use Rattle.publish_pass.specs.Pass.{Pass}
 use Rattle.publish_pass.proofs.Lists.{fresh_passes-push}
 use Rattle.publish_pass.proofs.opening.make_passes.Goals as goal
 

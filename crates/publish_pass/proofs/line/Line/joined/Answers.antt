@@ -1,4 +1,4 @@
-use Rattle.std.proofs.Common.{subst, ◌≡◌}
+use Rattle.std.proofs.Common.{subst}
 use Rattle.publish_pass.specs.Growing.{Pairs, IsLongerOf}
 use Rattle.publish_pass.proofs.Adding.{longer_whole}
 use Rattle.publish_pass.proofs.line.Line.joined.Goals as goal

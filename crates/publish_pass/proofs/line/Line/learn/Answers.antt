@@ -1,6 +1,6 @@
-use Rattle.std.proofs.Common.{◌<◌, ◌≤◌, ap, subst, sym, arith, length}
+use Rattle.std.proofs.Common.{◌<◌, ◌≤◌, ap, subst, arith, length}
 use mathlib.Core.List.{IsPrefix}
-use Rattle.publish_pass.specs.Growing.{Pairs, IsLongerOf}
+use Rattle.publish_pass.specs.Growing.{Pairs}
 use Rattle.publish_pass.proofs.Adding.{longer_first, longer_second}
 use Rattle.publish_pass.proofs.line.Line.learn.Goals as goal
 

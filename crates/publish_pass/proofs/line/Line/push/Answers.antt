@@ -1,4 +1,4 @@
-use Rattle.std.proofs.Common.{◌≡◌, ◌<◌, ◌≤◌, refl, ap, sym, ◌∙◌, subst, arith, List, ℕ, length, length-append, ◌++◌, ◌∷◌, []}
+use Rattle.std.proofs.Common.{◌≡◌, ◌<◌, ◌≤◌, refl, ap, sym, ◌∙◌, subst, arith, ℕ, length, length-append, ◌++◌, ◌∷◌, []}
 use Rattle.account_core.specs.Decide.{IsNext}
 use Rattle.account_core.specs.History.{Entry}
 use Rattle.publish_pass.specs.Pairs.{IsHistory, entries_of}

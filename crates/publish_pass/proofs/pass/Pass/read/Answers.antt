@@ -1,4 +1,4 @@
-use Rattle.std.proofs.Common.{◌≡◌, sym, subst, Result, Ok, Err}
+use Rattle.std.proofs.Common.{subst, Result}
 use Rattle.kms_names.specs.declared.faults.NoMemory.{NoMemory}
 use Rattle.publish_pass.specs.declared.answered.Answered.{Answered}
 use Rattle.publish_pass.specs.Pairs.{entries_of}

@@ -1,4 +1,4 @@
-use Rattle.std.proofs.Common.{ap, sym, ◌∙◌, ◌≡◌, ◌<◌, List, ℕ, length, subst, arith, length-append, ◌++◌, ◌∷◌, []}
+use Rattle.std.proofs.Common.{ap, sym, ◌∙◌, ◌≡◌, List, ℕ, length, subst, arith, length-append, ◌++◌, ◌∷◌, []}
 use Rattle.std.specs.List.{zip}
 use Rattle.account_core.specs.declared.facts.RealmFacts.{RealmFacts}
 use Rattle.publish_pass.specs.Pairs.{entries_of, IsHistory, Whole}

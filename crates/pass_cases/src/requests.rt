@@ -1,0 +1,121 @@
+// What the root of the account asks.
+ghost use Rattle.std.specs.Prelude.{◌≡◌, false, IfOk};
+ghost use Rattle.kms_json.specs.Asks.{changes_account};
+ghost use Rattle.account_core.specs.Decide.{IsProper};
+
+use account_core::RealmFacts;
+use kms_io::Gate;
+use kms_json::{Ask, JsonFault, read_ask};
+use kms_names::{NoMemory, Principal};
+use publish_pass::{Answered, Pass, Realm, Service, Unread};
+use std::alloc::Global;
+use std::io;
+use std::sync::Wait;
+
+/// A request of the root: its operation, its body, and how many entries it wants.
+#[derive(Clone, Copy)]
+pub struct Request<'a> {
+    /// The operation, as `CreateKey`.
+    pub operation: &'a str,
+    /// The body, a JSON text.
+    pub body: &'a str,
+    /// How many entries the history is to have at least.
+    pub after: Option<u64>,
+}
+
+// The second at which all is asked.
+const NOW: u64 = 1_700_000_000;
+
+fn ask(alloc: Global, facts: &RealmFacts, request: &Request<'_>) -> Result<Ask, JsonFault>
+    ensures { IfOk result (λ ask. IsProper facts.now ask) }
+{
+    let operation = request.operation;
+    let Ok(target) = format!(in alloc; "TrentService.{operation}") else {
+        return Err(JsonFault::NoMemory);
+    };
+    Ok(Ask {
+        body: read_ask(alloc, target.as_bytes(), request.body.as_bytes())?,
+        caller: Principal::Root(facts.account),
+        moment: NOW,
+        after: request.after,
+    })
+}
+
+/// Why a scene can't be shown.
+#[derive(Debug, Drop)]
+pub enum Failure {
+    /// Memory lacked, or a line could not be written.
+    Host(io::Error),
+    /// A request asks nothing, or a reply has not its form.
+    Unlike,
+}
+
+impl From<NoMemory> for Failure {
+    fn from(_e: NoMemory) -> Failure {
+        Failure::Host(io::Error::from(io::ErrorKind::OutOfMemory))
+    }
+}
+
+impl From<io::Error> for Failure {
+    fn from(e: io::Error) -> Failure {
+        Failure::Host(e)
+    }
+}
+
+impl From<JsonFault> for Failure {
+    fn from(e: JsonFault) -> Failure {
+        match e {
+            JsonFault::NoMemory => Failure::from(NoMemory),
+            _ => Failure::Unlike,
+        }
+    }
+}
+
+/// What the passes of a scene have in common.
+#[derive(Drop)]
+pub struct Host<'a, W: Wait, R: Realm> {
+    pub rt: &'a W,
+    pub alloc: Global,
+    pub service: &'a Service<R>,
+    pub facts: &'a RealmFacts,
+}
+
+// Reads until the published account is entered.
+fn read<R: Realm, W: Wait>(
+    rt: &W,
+    alloc: Global,
+    pass: &mut Pass<R>,
+    ask: &Ask,
+) -> Result<Answered, NoMemory>
+    requires proper { IsProper R.facts ask.now }
+    requires reads { changes_account ask.now.body ≡ false }
+{
+    for _ in rt.forever() {
+        let _ = pass.seen();
+        match pass.read(alloc, ask) {
+            Ok(answered) => return Ok(answered),
+            Err(Unread::NoMemory) => return Err(NoMemory),
+            Err(Unread::NotEntered) => {}
+        }
+    }
+    unreachable!()
+}
+
+/// What a pass answers to a request.
+pub fn answer<R: Realm, W: Wait, G: Gate>(
+    host: &Host<'_, W, R>,
+    pass: &mut Pass<R>,
+    request: &Request<'_>,
+    gate: &G,
+) -> Result<Answered, Failure>
+    requires { host.now.facts.now ≡ R.facts }
+{
+    let ask = ask(host.alloc, host.facts, request)?;
+    let _ = pass.seen();
+    let answered = if ask.changes() {
+        pass.change(host.rt, host.alloc, host.service, &ask, gate)?
+    } else {
+        read(host.rt, host.alloc, pass, &ask)?
+    };
+    Ok(answered)
+}
