@@ -9,6 +9,7 @@ mod blobs;
 mod ciphers;
 mod columns;
 mod conditions;
+mod configs;
 mod contexts;
 mod draws;
 mod globs;
@@ -19,6 +20,7 @@ mod names;
 mod parts;
 mod policies;
 mod report;
+mod signatures;
 mod threads;
 mod verdicts;
 

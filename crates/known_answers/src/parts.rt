@@ -2,7 +2,8 @@
 
 use crate::columns::Columns;
 use crate::{
-    blobs, ciphers, conditions, contexts, draws, globs, keys, macs, names, policies, verdicts,
+    blobs, ciphers, conditions, configs, contexts, draws, globs, keys, macs, names, policies,
+    signatures, verdicts,
 };
 use std::alloc::Global;
 
@@ -22,11 +23,13 @@ pub enum Part {
     Policies,
     Verdicts,
     KeyStates,
+    Signatures,
+    Configs,
 }
 
 impl Part {
     /// All parts.
-    pub const ALL: [Part; 13] = [
+    pub const ALL: [Part; 15] = [
         Part::Aes256,
         Part::Ghash,
         Part::Gcm,
@@ -40,6 +43,8 @@ impl Part {
         Part::Policies,
         Part::Verdicts,
         Part::KeyStates,
+        Part::Signatures,
+        Part::Configs,
     ];
 
     /// The name of the part's file.
@@ -58,6 +63,8 @@ impl Part {
             Part::Policies => "policies.txt",
             Part::Verdicts => "verdicts.txt",
             Part::KeyStates => "key_states.txt",
+            Part::Signatures => "signatures.txt",
+            Part::Configs => "configs.txt",
         }
     }
 
@@ -78,6 +85,8 @@ impl Part {
             Part::Policies => policies::policies(alloc, columns),
             Part::Verdicts => verdicts::verdicts(alloc, columns),
             Part::KeyStates => keys::keys(alloc, columns),
+            Part::Signatures => signatures::signatures(alloc, columns),
+            Part::Configs => configs::configs(alloc, columns),
         }
     }
 }
