@@ -14,7 +14,7 @@ use beside::beside;
 use kms_names::{AccountNumber, NoMemory, Text};
 use publish_pass::{Opening, Pass, Realm, open_service};
 use requests::{Failure, Host};
-use scenes::{many, telling, told_nothing};
+use scenes::{housekeeping, many, telling, told_nothing};
 use std::alloc::Global;
 use std::marker::Brand;
 use std::process::ExitCode;
@@ -69,6 +69,7 @@ fn show_two<R: Realm + Send + Sync, W: rt::Runtime + Threads + Wait + Sync>(
     };
     told_nothing(host, one, two)?;
     telling(host, one, two)?;
+    housekeeping(host, one, two)?;
     beside(host, one, two)
 }
 

@@ -101,6 +101,34 @@ fn read<R: Realm, W: Wait>(
     unreachable!()
 }
 
+// What a pass answers, by a change or a read.
+fn change_or_read<R: Realm, W: Wait, G: Gate>(
+    host: &Host<'_, W, R>,
+    pass: &mut Pass<R>,
+    ask: &Ask,
+    gate: &G,
+) -> Result<Answered, NoMemory>
+    requires { IsProper R.facts ask.now }
+{
+    let _ = pass.seen();
+    if ask.changes() {
+        return pass.change(host.rt, host.alloc, host.service, ask, gate);
+    }
+    read(host.rt, host.alloc, pass, ask)
+}
+
+// The same of a request that is let go then.
+fn answer_owned<R: Realm, W: Wait, G: Gate>(
+    host: &Host<'_, W, R>,
+    pass: &mut Pass<R>,
+    ask: Ask,
+    gate: &G,
+) -> Result<Answered, NoMemory>
+    requires { IsProper R.facts ask }
+{
+    change_or_read(host, pass, &ask, gate)
+}
+
 /// What a pass answers to a request.
 pub fn answer<R: Realm, W: Wait, G: Gate>(
     host: &Host<'_, W, R>,
@@ -111,11 +139,6 @@ pub fn answer<R: Realm, W: Wait, G: Gate>(
     requires { host.now.facts.now ≡ R.facts }
 {
     let ask = ask(host.alloc, host.facts, request)?;
-    let _ = pass.seen();
-    let answered = if ask.changes() {
-        pass.change(host.rt, host.alloc, host.service, &ask, gate)?
-    } else {
-        read(host.rt, host.alloc, pass, &ask)?
-    };
+    let answered = answer_owned(host, pass, ask, gate)?;
     Ok(answered)
 }

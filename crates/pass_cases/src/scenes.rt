@@ -30,6 +30,13 @@ const PUT: Request<'static> = Request {
     after: None,
 };
 
+// Automatic rotation of it from 90 days on.
+const TURN: Request<'static> = Request {
+    operation: "EnableKeyRotation",
+    body: "{\"KeyId\":\"10284733-057c-2825-aeb4-000000000000\",\"RotationPeriodInDays\":90}",
+    after: None,
+};
+
 const SEAL: Request<'static> = Request {
     operation: "Encrypt",
     body: HELLO,
@@ -147,6 +154,27 @@ pub fn telling<R: Realm, W: rt::Runtime + Wait>(
     )?;
     let region = host.service.region();
     println!(host.rt; "the region is {region}")?;
+    Ok(())
+}
+
+/// Housekeeping by a pass: one entry where a key is due, and none at the same moment again.
+pub fn housekeeping<R: Realm, W: rt::Runtime + Wait>(
+    host: &Host<'_, W, R>,
+    one: &mut Pass<R>,
+    two: &mut Pass<R>,
+) -> Result<(), Failure>
+    requires { host.now.facts.now ≡ R.facts }
+{
+    show(host, one, "pass 1 turns rotation on", &TURN)?;
+    two.settle(host.rt, host.service);
+    let before = two.seen();
+    two.keep_house(host.rt, host.alloc, host.service, 1_707_776_000)?;
+    let kept = two.seen();
+    two.keep_house(host.rt, host.alloc, host.service, 1_707_776_000)?;
+    let again = two.seen();
+    println!(host.rt;
+        "pass 2 has seen {before} when the rotation is due, {kept} after housekeeping and {again} after it was kept again"
+    )?;
     Ok(())
 }
 

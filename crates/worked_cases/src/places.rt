@@ -74,6 +74,13 @@ impl Asked {
         self.account.decide_read(alloc, ask, &mut self.line)
     }
 
+    // The same of a request that is let go then.
+    fn answer_owned(&mut self, alloc: Global, ask: Ask) -> Result<Reply, NoMemory>
+        requires { IsProper self.old.account.facts ask }
+    {
+        self.answer(alloc, &ask)
+    }
+
     // Answers a request that changes the account, and appends its entry.
     fn change(&mut self, alloc: Global, ask: &Ask) -> Result<Reply, NoMemory>
         requires proper { IsProper self.old.account.facts ask.now }
@@ -108,13 +115,29 @@ impl Asked {
             return Ok(false);
         };
         let ask = ask(alloc, facts, caller, operation.as_str(), body.as_str())?;
-        let reply = self.answer(alloc, &ask)?;
-        let body = write_reply(alloc, &reply)?;
+        let reply = self.answer_owned(alloc, ask)?;
+        let holds = self.gives(alloc, reply, wanted)?;
+        Ok(holds)
+    }
+
+    // Whether this reply is the one that is wanted.
+    fn is_wanted(
+        &self,
+        alloc: Global,
+        reply: &Reply,
+        wanted: &Wanted,
+    ) -> Result<bool, NoMemory> {
+        let body = write_reply(alloc, reply)?;
         Ok(
             reply.status() == wanted.status
                 && self.account.entries() == wanted.front
                 && body.as_slice() == wanted.body.as_bytes(),
         )
+    }
+
+    // The same of a reply that is let go then.
+    fn gives(&self, alloc: Global, reply: Reply, wanted: &Wanted) -> Result<bool, NoMemory> {
+        self.is_wanted(alloc, &reply, wanted)
     }
 }
 
