@@ -278,7 +278,6 @@ record IsInOrder (history : List Entry) : Type 0 where
   falls_never : IsNonDecreasingBy (λ (e : Entry). e.time) history
   last : (d : Entry) → 0 < length history → (get_or history (length history - 1) d).time ≡ latest_of history
 
-
 in_order : (facts : RealmFacts) (history : List Entry) → IsLawful facts history → IsInOrder history
 in_order facts history empty = record { falls_never = λ i j d up within. absurd (omega arith); last = λ d some. absurd (omega arith) }
 in_order facts history (longer {history = before} entry lawful next) =

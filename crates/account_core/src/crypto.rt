@@ -7,8 +7,8 @@ ghost use Rattle.account_core.specs.Steps.{seals};
 ghost use Rattle.account_core.specs.Crypto.{one_iv, words_of};
 
 use crate::places::Uses;
-use account_rows::Lent;
 use crate::view::View;
+use account_rows::Lent;
 use crypto_ops::seal_blob;
 use draw_lines::DrawLine;
 use enc_context::Context;

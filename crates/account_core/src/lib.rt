@@ -36,5 +36,6 @@ pub use facts::RealmFacts;
 pub use ids::draw_line;
 pub use laws::{
     authority_passes_where_statements_allow, blobs_name_their_keys, denial_names_the_first_denied,
-    house_is_kept_once, keys_differ, one_pass_repeats_no_iv, passes_share_no_iv, sealed_is_decrypted_again, times_never_fall,
+    house_is_kept_once, keys_differ, one_pass_repeats_no_iv, passes_share_no_iv,
+    sealed_is_decrypted_again, times_never_fall,
 };

@@ -24,12 +24,7 @@ use kms_names::Text;
 use std::alloc::Global;
 
 // What a request that changes a key's state or rotation comes to.
-fn change_key(
-    alloc: Global,
-    view: &View<'_>,
-    key_id: &Text,
-    how: KeyChange,
-) -> Result<Made, Stop>
+fn change_key(alloc: Global, view: &View<'_>, key_id: &Text, how: KeyChange) -> Result<Made, Stop>
     ensures { Makes (outcome view.now (changes_key view.now key_id.now how)) result }
 {
     let changing = ChangingKey {

@@ -7,13 +7,12 @@ ghost use Rattle.account_core.specs.Steps.{Passes};
 ghost use Rattle.account_core.specs.Policies.{StopsAt, IsStopAt, may_put_again, locked_out, policy_refused, puts_policy, gets_policy};
 
 use crate::checks::only_key_of;
-use account_rows::{Entry, What};
 use crate::particulars::{of_key, of_policy};
 use crate::parts::{Changes, Made, Operation, Reads};
 use crate::places::Uses;
-use account_rows::Lent;
 use crate::stops::Stop;
 use crate::view::View;
+use account_rows::{Entry, Lent, What};
 use authority::KeyPolicy;
 use draw_lines::DrawLine;
 use kms_json::{PolicyFlaw, Refusal, Reply};

@@ -23,40 +23,87 @@ pub record HasVersions (row : KeyRow) : Type 0 where
 -- a key as it is made: enabled, with one version, and without automatic rotation
 abbrev pub new_key : ℕ → ℕ → List ℕ → List ℕ → List ℕ → KeyRow
 new_key place time key description policy = record {
-  key = key; born = place; made = time; description = description; policy = policy;
-  stored = Enabled; versions = record { time = time; on_demand = false } ∷ []; period = None; next = 0; on_demand = 0;
+  key = key;
+  born = place;
+  made = time;
+  description = description;
+  policy = policy;
+  stored = Enabled;
+  versions = record { time = time; on_demand = false } ∷ [];
+  period = None;
+  next = 0;
+  on_demand = 0;
 }
 
 abbrev pub with_policy : List ℕ → KeyRow → KeyRow
 with_policy text row = record {
-  key = row.key; born = row.born; made = row.made; description = row.description; policy = text;
-  stored = row.stored; versions = row.versions; period = row.period; next = row.next; on_demand = row.on_demand;
+  key = row.key;
+  born = row.born;
+  made = row.made;
+  description = row.description;
+  policy = text;
+  stored = row.stored;
+  versions = row.versions;
+  period = row.period;
+  next = row.next;
+  on_demand = row.on_demand;
 }
 
 abbrev pub with_description : List ℕ → KeyRow → KeyRow
 with_description text row = record {
-  key = row.key; born = row.born; made = row.made; description = text; policy = row.policy;
-  stored = row.stored; versions = row.versions; period = row.period; next = row.next; on_demand = row.on_demand;
+  key = row.key;
+  born = row.born;
+  made = row.made;
+  description = text;
+  policy = row.policy;
+  stored = row.stored;
+  versions = row.versions;
+  period = row.period;
+  next = row.next;
+  on_demand = row.on_demand;
 }
 
 abbrev pub with_stored : Stored → KeyRow → KeyRow
 with_stored stored row = record {
-  key = row.key; born = row.born; made = row.made; description = row.description; policy = row.policy;
-  stored = stored; versions = row.versions; period = row.period; next = row.next; on_demand = row.on_demand;
+  key = row.key;
+  born = row.born;
+  made = row.made;
+  description = row.description;
+  policy = row.policy;
+  stored = stored;
+  versions = row.versions;
+  period = row.period;
+  next = row.next;
+  on_demand = row.on_demand;
 }
 
 -- another period of automatic rotation, and the next date
 abbrev pub with_period : Option ℕ → ℕ → KeyRow → KeyRow
 with_period period next row = record {
-  key = row.key; born = row.born; made = row.made; description = row.description; policy = row.policy;
-  stored = row.stored; versions = row.versions; period = period; next = next; on_demand = row.on_demand;
+  key = row.key;
+  born = row.born;
+  made = row.made;
+  description = row.description;
+  policy = row.policy;
+  stored = row.stored;
+  versions = row.versions;
+  period = period;
+  next = next;
+  on_demand = row.on_demand;
 }
 
 -- one version more, which is on demand or not, and the next date
 abbrev pub with_version : ℕ → Bool → ℕ → KeyRow → KeyRow
 with_version time on_demand next row = record {
-  key = row.key; born = row.born; made = row.made; description = row.description; policy = row.policy;
-  stored = row.stored; versions = row.versions ++ record { time = time; on_demand = on_demand } ∷ []; period = row.period; next = next;
+  key = row.key;
+  born = row.born;
+  made = row.made;
+  description = row.description;
+  policy = row.policy;
+  stored = row.stored;
+  versions = row.versions ++ record { time = time; on_demand = on_demand } ∷ [];
+  period = row.period;
+  next = next;
   on_demand = if on_demand then row.on_demand + 1 else row.on_demand;
 }
 

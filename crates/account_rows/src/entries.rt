@@ -18,9 +18,13 @@ pub enum What {
         policy: Text,
     },
     /// A key was enabled.
-    Enable { key: KeyId },
+    Enable {
+        key: KeyId,
+    },
     /// A key was disabled.
-    Disable { key: KeyId },
+    Disable {
+        key: KeyId,
+    },
     /// The deletion of a key was scheduled.
     Schedule {
         key: KeyId,
@@ -30,17 +34,32 @@ pub enum What {
         days: u32,
     },
     /// The deletion of a key was cancelled, which leaves it disabled.
-    Cancel { key: KeyId },
+    Cancel {
+        key: KeyId,
+    },
     /// Automatic rotation of a key was turned on, with this period in days.
-    RotationOn { key: KeyId, period: u32 },
+    RotationOn {
+        key: KeyId,
+        period: u32,
+    },
     /// Automatic rotation of a key was turned off.
-    RotationOff { key: KeyId },
+    RotationOff {
+        key: KeyId,
+    },
     /// A key was rotated on demand.
-    RotateNow { key: KeyId },
+    RotateNow {
+        key: KeyId,
+    },
     /// A key was given another policy.
-    Policy { key: KeyId, text: Text },
+    Policy {
+        key: KeyId,
+        text: Text,
+    },
     /// A key was given another description.
-    Description { key: KeyId, text: Text },
+    Description {
+        key: KeyId,
+        text: Text,
+    },
     /// Housekeeping: keys whose date of deletion has come were removed, and keys whose automatic rotation was due were rotated.
     House,
 }

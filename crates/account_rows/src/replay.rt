@@ -299,9 +299,7 @@ pub fn keys_after(
             let change = Change::Version { time };
             changed(alloc, keys, key, &change, default)
         }
-        What::Policy { key, text } => {
-            changed(alloc, keys, key, &Change::Policy(text), default)
-        }
+        What::Policy { key, text } => { changed(alloc, keys, key, &Change::Policy(text), default) }
         What::Description { key, text } => {
             changed(alloc, keys, key, &Change::Description(text), default)
         }

@@ -9,7 +9,9 @@ mod session;
 mod trust;
 mod waiting;
 
-pub use laws::{histories_only_grow, one_cut, one_end, one_session_repeats_no_iv, runs_keep_lawful};
+pub use laws::{
+    histories_only_grow, one_cut, one_end, one_session_repeats_no_iv, runs_keep_lawful,
+};
 pub use outbox::send;
 pub use session::{SessionEnd, serve_session};
 pub use trust::Trust;

@@ -62,7 +62,7 @@ readable times law facts p before after s t k j x y places others sealing run mo
     let lawful : IsLawful facts last = subst (IsLawful facts) (sym (entries_of-take j t.history)) (lawful_take facts j (entries_of t.history) grown.0.history.lawful) in
     let same : first ++ begins.0 ≡ last = begins.1 in
     let P : List Entry → Type 0 = λ h. (a : AsksToOpen facts h y others sealing.blob sealing.context)
-        → reply_to facts h y others ≡ unless_excepted (exception_of sealing.arn a.held.stored) (Decrypted sealing.plaintext sealing.arn) in
+    → reply_to facts h y others ≡ unless_excepted (exception_of sealing.arn a.held.stored) (Decrypted sealing.plaintext sealing.arn) in
     subst P same (λ a. law facts first begins.0 x y places others sealing (subst (IsLawful facts) (sym same) lawful) proper sealed policies a) asks
 
 lawful_first : (facts : RealmFacts) (k : ℕ) (pairs : List (Entry × ℕ)) → IsLawful facts (entries_of pairs) → IsLawful facts (entries_of (take k pairs))

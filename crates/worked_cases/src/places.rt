@@ -121,12 +121,7 @@ impl Asked {
     }
 
     // Whether this reply is the one that is wanted.
-    fn is_wanted(
-        &self,
-        alloc: Global,
-        reply: &Reply,
-        wanted: &Wanted,
-    ) -> Result<bool, NoMemory> {
+    fn is_wanted(&self, alloc: Global, reply: &Reply, wanted: &Wanted) -> Result<bool, NoMemory> {
         let body = write_reply(alloc, reply)?;
         Ok(
             reply.status() == wanted.status
