@@ -243,6 +243,14 @@ class Account:
         blob = self.sealed(key, body.get("EncryptionContext", {}), base64.b64decode(body["Plaintext"]))
         return {"CiphertextBlob": blob, "EncryptionAlgorithm": "SYMMETRIC_DEFAULT", "KeyId": arn(key["id"])}
 
+    def GenerateDataKey(self, body):
+        self.change("GenerateDataKey", body)
+        raise NotImplementedError("a data key is asked for only where it is refused")
+
+    def GenerateDataKeyWithoutPlaintext(self, body):
+        self.change("GenerateDataKeyWithoutPlaintext", body)
+        raise NotImplementedError("a data key is asked for only where it is refused")
+
     def opened(self, operation, action, blob, context):
         raw = base64.b64decode(blob)
         held = [k for k in self.keys if k["id"] == raw[1:17] and not self.gone(k)]
@@ -326,6 +334,9 @@ def table():
         account.ask("Decrypt", {"CiphertextBlob": first})
         account.ask("ReEncrypt", {"CiphertextBlob": first, "DestinationKeyId": ID2})
         account.ask("ReEncrypt", {"CiphertextBlob": second, "DestinationKeyId": ID1})
+        if state != "Enabled":
+            account.ask("GenerateDataKey", {"KeyId": ID1, "KeySpec": "AES_256"})
+            account.ask("GenerateDataKeyWithoutPlaintext", {"KeyId": ID1, "KeySpec": "AES_256"})
         account.ask("PutKeyPolicy", {"KeyId": ID1, "Policy": POLICY})
         account.ask("DescribeKey", {"KeyId": ID1})
         yield account
