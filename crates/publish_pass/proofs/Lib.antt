@@ -6,3 +6,4 @@ pub mod Meeting
 mod Lookups
 mod Kept
 mod Again
+mod Rests

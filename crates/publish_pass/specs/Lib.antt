@@ -5,3 +5,4 @@ pub mod Growing
 pub mod Reading
 pub mod Pass
 pub mod Machine
+pub mod House

@@ -1,9 +1,11 @@
 //! What holds of every run of events, of which each call of a pass is one or more.
 
+ghost use Rattle.publish_pass.specs.House.{OwesNothingMore};
 ghost use Rattle.publish_pass.specs.Machine.{HoldsAlways, SealedStaysReadable, NoVectorTwice, NoVectorShared};
 
 use account_core::{
-    one_pass_repeats_no_iv, passes_share_no_iv, sealed_is_decrypted_again, times_never_fall,
+    house_is_kept_once, one_pass_repeats_no_iv, passes_share_no_iv, sealed_is_decrypted_again,
+    times_never_fall,
 };
 
 /// For every number of passes and every list of events: housekeeping, changes, reads, reads for which
@@ -23,4 +25,12 @@ pub fn machine_law()
     sealed_is_decrypted_again();
     one_pass_repeats_no_iv();
     passes_share_no_iv();
+}
+
+/// After housekeeping at a clock's answer, whether it was owed or not, nothing more is owed at it. So a request that
+/// changes the account is answered at a history that owes no housekeeping at the clock's answer.
+pub fn house_owes_nothing_more()
+    ensures { OwesNothingMore }
+{
+    house_is_kept_once();
 }

@@ -22,7 +22,7 @@ mod whole;
 
 pub use answered::{Answered, Unread, answer_with};
 pub use desk::Desk;
-pub use laws::machine_law;
+pub use laws::{house_owes_nothing_more, machine_law};
 pub use opening::{Opening, open_service};
 pub use pass::Pass;
 pub use realm::Realm;
