@@ -1,5 +1,6 @@
 -- What is asked is of an operation, an object and valid values; and what valid values keep to.
 use Rattle.std.proofs.Common.{◌≡◌, ℕ, zero, suc, ◌<◌, ◌≤◌, ◌&&◌, List, [], ◌∷◌, length, Bool, true, false, Option, Some, None, Ok, Err, refl, ◌∙◌, subst, if◌then◌else◌, nat_le, unwrap_or, leb-true, arith}
+use Rattle.std.specs.Option.{IfSome}
 use Rattle.serde_json.specs.Data.{Data}
 use Rattle.kms_json.specs.declared.given.Given.{Given}
 use Rattle.kms_json.specs.declared.given.Given.TheVariants as given
@@ -8,7 +9,7 @@ use Rattle.kms_json.specs.declared.operations.Operation.{Operation}
 use Rattle.kms_json.specs.declared.refusals.Refusal.{Refusal}
 use Rattle.kms_json.specs.declared.refusals.Refusal.TheVariants as refusal
 use Rattle.kms_json.specs.Operations.{fields_of}
-use Rattle.kms_json.specs.Given.{is_absent, text_in, whole_in, number_or}
+use Rattle.kms_json.specs.Given.{is_absent, text_if, text_in, whole_in, number_or}
 use Rattle.kms_json.specs.Fields.{FieldRow, values_of, first_invalid, refusal_at, is_valid, is_between, is_some_between}
 use Rattle.kms_json.specs.Building.{held}
 use Rattle.kms_json.specs.Asks.{IsSized, built, body_of, asked_unless, asked_of_values}
@@ -79,6 +80,12 @@ some_between least most default (Some n) e = between least most n e
 pub text_within : (most : ℕ) (value : Given) → (if is_absent value then true else is_between 0 most (length (text_in value))) ≡ true → length (text_in value) ≤ most
 text_within most given.Absent e = omega arith
 text_within most value e = (between 0 most (length (text_in value)) e).1
+
+-- so does one that is told apart from none
+pub text_if_within : (least most : ℕ) (value : Given) → (if is_absent value then true else is_between least most (length (text_in value))) ≡ true
+    → IfSome (text_if value) (λ text. length text ≤ most)
+text_if_within least most (given.Text text) e = (between least most (length text) e).1
+text_if_within least most value e = tt
 
 -- a number that may be absent keeps to its bounds, where the one that stands for it does
 pub number_within : (least most default : ℕ) → least ≤ default → default ≤ most → (value : Given)

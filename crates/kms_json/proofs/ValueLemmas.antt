@@ -19,7 +19,7 @@ value_in zero values = first_of values
 value_in (suc n) values = value_in n (drop 1 values)
 
 abbrev pub row_at : ℕ → List FieldRow → FieldRow
-row_at n [] = record { name = []; kind = kind.NotBuilt; wanted = maybe }
+row_at n [] = record { name = []; kind = kind.AnyText; wanted = maybe }
 row_at zero (row ∷ rows) = row
 row_at (suc n) (row ∷ rows) = row_at n rows
 

@@ -1,12 +1,19 @@
 -- What a request asks: its operation, the type of its body, its fields, in this order.
-use Rattle.std.specs.Prelude.{ℕ, ◌≤◌, List, [], ◌∷◌, length, codes, Bool, true, false, if◌then◌else◌, Option, Some, None, Result, Ok, Err, ◌≡◌}
+use Rattle.std.specs.Prelude.{ℕ, ◌≤◌, List, [], ◌∷◌, length, Bool, true, false, if◌then◌else◌, Option, Some, None, Result, Ok, Err, ◌≡◌}
 use Rattle.std.specs.Str.{is_utf8}
+use Rattle.std.specs.Option.{IfSome}
 use Rattle.serde_json.specs.Data.{Data, object, no_members}
 use Rattle.serde_json.specs.Read.{read as read_text}
+use Rattle.kms_names.specs.Reading.{is_alias_text}
+use Rattle.enc_context.specs.Encoding.{encoding_of}
 use Rattle.kms_json.specs.declared.asks.AskBody.{AskBody}
 use Rattle.kms_json.specs.declared.asks.AskBody.TheVariants as ask
 use Rattle.kms_json.specs.declared.asks.Changing.{Changing}
 use Rattle.kms_json.specs.declared.asks.Changing.TheVariants as changing
+use Rattle.kms_json.specs.declared.asks.grants.CreateGrant.{CreateGrant as CreatedGrant}
+use Rattle.kms_json.specs.declared.asks.grants.GrantConstraint.{GrantConstraint}
+use Rattle.kms_json.specs.declared.asks.grants.GrantConstraint.TheVariants as constraint
+use Rattle.kms_json.specs.declared.asks.pages.Page.{Page}
 use Rattle.kms_json.specs.declared.asks.Reading.{Reading}
 use Rattle.kms_json.specs.declared.asks.Reading.TheVariants as reading
 use Rattle.kms_json.specs.declared.asks.JsonFault.{JsonFault}
@@ -15,14 +22,15 @@ use Rattle.kms_json.specs.declared.given.Given.{Given}
 use Rattle.kms_json.specs.declared.refusals.Refusal.{Refusal}
 use Rattle.kms_json.specs.declared.refusals.Refusal.TheVariants as refusal
 use Rattle.kms_json.specs.declared.operations.Operation.{Operation}
-use Rattle.kms_json.specs.declared.operations.Operation.TheVariants.{CreateKey, DescribeKey, PutKeyPolicy, GetKeyPolicy, UpdateKeyDescription, EnableKey, DisableKey, ScheduleKeyDeletion, CancelKeyDeletion, EnableKeyRotation, DisableKeyRotation, RotateKeyOnDemand, GetKeyRotationStatus, Encrypt, Decrypt, ReEncrypt, GenerateDataKey, GenerateDataKeyWithoutPlaintext, GenerateRandom}
-use Rattle.kms_json.specs.Given.{text_in}
+use Rattle.kms_json.specs.declared.operations.Operation.TheVariants.{CreateKey, DescribeKey, ListKeys, PutKeyPolicy, GetKeyPolicy, ListKeyPolicies, UpdateKeyDescription, EnableKey, DisableKey, ScheduleKeyDeletion, CancelKeyDeletion, EnableKeyRotation, DisableKeyRotation, RotateKeyOnDemand, GetKeyRotationStatus, ListKeyRotations, CreateAlias, UpdateAlias, DeleteAlias, ListAliases, CreateGrant, RetireGrant, RevokeGrant, ListGrants, ListRetirableGrants, Encrypt, Decrypt, ReEncrypt, GenerateDataKey, GenerateDataKeyWithoutPlaintext, GenerateRandom}
 use Rattle.kms_json.specs.Fields.{values_of, given_by, first_invalid}
 use Rattle.kms_json.specs.Operations.{operation_named, fields_of}
-use Rattle.kms_json.specs.KeyAsks.{create_key, update_key_description}
-use Rattle.kms_json.specs.PolicyAsks.{put_key_policy}
-use Rattle.kms_json.specs.StateAsks.{schedule_key_deletion}
-use Rattle.kms_json.specs.RotationAsks.{enable_key_rotation}
+use Rattle.kms_json.specs.KeyAsks.{create_key, update_key_description, describe_key, list_keys}
+use Rattle.kms_json.specs.PolicyAsks.{put_key_policy, get_key_policy, list_key_policies}
+use Rattle.kms_json.specs.StateAsks.{enable_key, disable_key, schedule_key_deletion, cancel_key_deletion}
+use Rattle.kms_json.specs.RotationAsks.{enable_key_rotation, disable_key_rotation, rotate_key_on_demand, get_key_rotation_status, list_key_rotations}
+use Rattle.kms_json.specs.AliasAsks.{create_alias, update_alias, delete_alias, list_aliases}
+use Rattle.kms_json.specs.GrantAsks.{create_grant, retire_grant, revoke_grant, list_grants, list_retirable_grants}
 use Rattle.kms_json.specs.CryptographyAsks.{encrypt, decrypt, re_encrypt, data_key, generate_data_key, generate_random}
 
 -- the operations that change the account
@@ -41,19 +49,31 @@ is_object _ = false
 
 -- an operation with its fields, by what is given to each field
 abbrev pub built : Operation → (List ℕ → Given) → AskBody
-built CreateKey at = ask.Change (changing.CreateKey (create_key at))
-built DescribeKey at = ask.Read (reading.DescribeKey (text_in (at (codes "KeyId"))))
+built CreateKey at = ask.Change (create_key at)
+built DescribeKey at = ask.Read (describe_key at)
+built ListKeys at = ask.Read (list_keys at)
 built PutKeyPolicy at = ask.Change (put_key_policy at)
-built GetKeyPolicy at = ask.Read (reading.GetKeyPolicy (text_in (at (codes "KeyId"))))
+built GetKeyPolicy at = ask.Read (get_key_policy at)
+built ListKeyPolicies at = ask.Read (list_key_policies at)
 built UpdateKeyDescription at = ask.Change (update_key_description at)
-built EnableKey at = ask.Change (changing.EnableKey (text_in (at (codes "KeyId"))))
-built DisableKey at = ask.Change (changing.DisableKey (text_in (at (codes "KeyId"))))
+built EnableKey at = ask.Change (enable_key at)
+built DisableKey at = ask.Change (disable_key at)
 built ScheduleKeyDeletion at = ask.Change (schedule_key_deletion at)
-built CancelKeyDeletion at = ask.Change (changing.CancelKeyDeletion (text_in (at (codes "KeyId"))))
+built CancelKeyDeletion at = ask.Change (cancel_key_deletion at)
 built EnableKeyRotation at = ask.Change (enable_key_rotation at)
-built DisableKeyRotation at = ask.Change (changing.DisableKeyRotation (text_in (at (codes "KeyId"))))
-built RotateKeyOnDemand at = ask.Change (changing.RotateKeyOnDemand (text_in (at (codes "KeyId"))))
-built GetKeyRotationStatus at = ask.Read (reading.GetKeyRotationStatus (text_in (at (codes "KeyId"))))
+built DisableKeyRotation at = ask.Change (disable_key_rotation at)
+built RotateKeyOnDemand at = ask.Change (rotate_key_on_demand at)
+built GetKeyRotationStatus at = ask.Read (get_key_rotation_status at)
+built ListKeyRotations at = ask.Read (list_key_rotations at)
+built CreateAlias at = ask.Change (create_alias at)
+built UpdateAlias at = ask.Change (update_alias at)
+built DeleteAlias at = ask.Change (delete_alias at)
+built ListAliases at = ask.Read (list_aliases at)
+built CreateGrant at = ask.Change (create_grant at)
+built RetireGrant at = ask.Change (retire_grant at)
+built RevokeGrant at = ask.Change (revoke_grant at)
+built ListGrants at = ask.Read (list_grants at)
+built ListRetirableGrants at = ask.Read (list_retirable_grants at)
 built Encrypt at = ask.Read (reading.Encrypt (encrypt at))
 built Decrypt at = ask.Read (reading.Decrypt (decrypt at))
 built ReEncrypt at = ask.Read (reading.ReEncrypt (re_encrypt at))
@@ -89,20 +109,47 @@ asked_where (Some operation) body = asked_by operation (body_data body)
 abbrev pub asked : List ℕ → List ℕ → Result AskBody Refusal
 asked target body = asked_where (operation_named target) body
 
--- plaintexts have 1 to 4,096 bytes, and data keys and random bytes are 1 to 1,024; this is so of all that is asked
+-- a part of a list has a row or more, and at most so many
+abbrev pub IsPageOf : ℕ → Page → Type 0
+IsPageOf most page = (1 ≤ page.limit) × (page.limit ≤ most)
+
+-- plaintexts have 1 to 4,096 bytes, data keys and random bytes are 1 to 1,024, and parts of lists have at most 1,000 or 100 rows; this is so of all that is asked
 abbrev pub IsSizedReading : Reading → Type 0
+IsSizedReading (reading.ListKeys page) = IsPageOf 1000 page
+IsSizedReading (reading.ListKeyPolicies key_id page) = IsPageOf 1000 page
+IsSizedReading (reading.ListKeyRotations key_id page) = IsPageOf 1000 page
+IsSizedReading (reading.ListAliases key_id page) = IsPageOf 100 page
+IsSizedReading (reading.ListGrants fields) = IsPageOf 100 fields.page
+IsSizedReading (reading.ListRetirableGrants retiring page) = IsPageOf 100 page
 IsSizedReading (reading.Encrypt fields) = (1 ≤ length fields.plaintext) × (length fields.plaintext ≤ 4096)
 IsSizedReading (reading.GenerateDataKey key recipient) = (1 ≤ key.size) × (key.size ≤ 1024)
 IsSizedReading (reading.GenerateDataKeyWithoutPlaintext key) = (1 ≤ key.size) × (key.size ≤ 1024)
 IsSizedReading (reading.GenerateRandom size custom_key_store recipient) = (1 ≤ size) × (size ≤ 1024)
 IsSizedReading _ = Unit {0}
 
--- descriptions have at most 8,192 bytes, a key waits 7 to 30 days for its deletion, and rotates each 90 to 2,560 days; this is so of all that is asked
+-- the context of a constraint has at most 4,096 encoded bytes
+abbrev pub IsSizedConstraint : GrantConstraint → Type 0
+IsSizedConstraint constraint.Free = Unit {0}
+IsSizedConstraint (constraint.Equals pairs) = length (encoding_of pairs) ≤ 4096
+IsSizedConstraint (constraint.Subset pairs) = length (encoding_of pairs) ≤ 4096
+
+-- texts of principals and names of grants have at most 256 bytes
+abbrev pub IsSizedGrant : CreatedGrant → Type 0
+IsSizedGrant fields =
+    (length fields.grantee ≤ 256) × IfSome fields.retiring (λ text. length text ≤ 256) × IfSome fields.name (λ text. length text ≤ 256)
+    × IsSizedConstraint fields.constraint
+
+-- descriptions have at most 8,192 bytes, a key waits 7 to 30 days for its deletion, and rotates each 90 to 2,560 days, and aliases have names of their form;
+-- this is so of all that is asked
 abbrev pub IsSizedChanging : Changing → Type 0
 IsSizedChanging (changing.CreateKey fields) = length fields.description ≤ 8192
 IsSizedChanging (changing.UpdateKeyDescription key_id description) = length description ≤ 8192
 IsSizedChanging (changing.ScheduleKeyDeletion key_id days) = (7 ≤ days) × (days ≤ 30)
 IsSizedChanging (changing.EnableKeyRotation key_id period) = (90 ≤ period) × (period ≤ 2560)
+IsSizedChanging (changing.CreateAlias alias key_id) = is_alias_text alias ≡ true
+IsSizedChanging (changing.UpdateAlias alias key_id) = is_alias_text alias ≡ true
+IsSizedChanging (changing.DeleteAlias alias) = is_alias_text alias ≡ true
+IsSizedChanging (changing.CreateGrant fields) = IsSizedGrant fields
 IsSizedChanging _ = Unit {0}
 
 abbrev pub IsSized : AskBody → Type 0

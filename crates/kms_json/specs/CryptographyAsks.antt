@@ -8,13 +8,14 @@ use Rattle.kms_json.specs.declared.asks.cryptography.ReEncrypt.{ReEncrypt}
 use Rattle.kms_json.specs.declared.asks.cryptography.DataKey.{DataKey}
 use Rattle.kms_json.specs.declared.asks.Reading.{Reading}
 use Rattle.kms_json.specs.declared.asks.Reading.TheVariants as reading
-use Rattle.kms_json.specs.Given.{is_absent, is_there, text_if, text_in, bytes_in, pairs_in, number_in, flag_in}
+use Rattle.kms_json.specs.Given.{is_absent, is_there, text_if, text_in, texts_in, bytes_in, pairs_in, number_in, flag_in}
 
 abbrev pub encrypt : (List ℕ → Given) → Encrypt
 encrypt at = record {
   key_id = text_in (at (codes "KeyId"));
   plaintext = bytes_in (at (codes "Plaintext"));
   context = pairs_in (at (codes "EncryptionContext"));
+  grant_tokens = texts_in (at (codes "GrantTokens"));
   algorithm = text_if (at (codes "EncryptionAlgorithm"));
   dry_run = flag_in (at (codes "DryRun"));
 }
@@ -23,6 +24,7 @@ abbrev pub decrypt : (List ℕ → Given) → Decrypt
 decrypt at = record {
   blob = bytes_in (at (codes "CiphertextBlob"));
   context = pairs_in (at (codes "EncryptionContext"));
+  grant_tokens = texts_in (at (codes "GrantTokens"));
   key_id = text_if (at (codes "KeyId"));
   algorithm = text_if (at (codes "EncryptionAlgorithm"));
   recipient = is_there (at (codes "Recipient"));
@@ -38,6 +40,7 @@ re_encrypt at = record {
   context = pairs_in (at (codes "DestinationEncryptionContext"));
   source_algorithm = text_if (at (codes "SourceEncryptionAlgorithm"));
   algorithm = text_if (at (codes "DestinationEncryptionAlgorithm"));
+  grant_tokens = texts_in (at (codes "GrantTokens"));
   dry_run = flag_in (at (codes "DryRun"));
 }
 
@@ -54,6 +57,7 @@ data_key at = record {
   key_id = text_in (at (codes "KeyId"));
   context = pairs_in (at (codes "EncryptionContext"));
   size = data_key_size (at (codes "KeySpec")) (at (codes "NumberOfBytes"));
+  grant_tokens = texts_in (at (codes "GrantTokens"));
   dry_run = flag_in (at (codes "DryRun"));
 }
 

@@ -1,14 +1,14 @@
 -- The fields of the operations that use keys, in the order in which they are judged (AWS KMS API Reference, Encrypt, Decrypt, ReEncrypt and the Generate operations).
 use Rattle.std.specs.Prelude.{List, [], ◌∷◌, codes}
 use Rattle.kms_json.specs.declared.fields.Kind.TheVariants.{AnyText, DataKeySpec, Bytes, Context, Whole, Flag, Object}
-use Rattle.kms_json.specs.Fields.{FieldRow, always, maybe, instead_of, field, not_built, key_reference}
+use Rattle.kms_json.specs.Fields.{FieldRow, always, maybe, instead_of, field, grant_tokens, key_reference}
 
 abbrev pub encrypt_fields : List FieldRow
 encrypt_fields =
     key_reference (codes "KeyId") always ∷
     field (codes "Plaintext") (Bytes 1 4096) always ∷
     field (codes "EncryptionContext") Context maybe ∷
-    not_built (codes "GrantTokens") ∷
+    grant_tokens ∷
     field (codes "EncryptionAlgorithm") AnyText maybe ∷
     field (codes "DryRun") Flag maybe ∷
     []
@@ -17,7 +17,7 @@ abbrev pub decrypt_fields : List FieldRow
 decrypt_fields =
     field (codes "CiphertextBlob") (Bytes 1 6144) always ∷
     field (codes "EncryptionContext") Context maybe ∷
-    not_built (codes "GrantTokens") ∷
+    grant_tokens ∷
     key_reference (codes "KeyId") maybe ∷
     field (codes "EncryptionAlgorithm") AnyText maybe ∷
     field (codes "Recipient") Object maybe ∷
@@ -33,7 +33,7 @@ re_encrypt_fields =
     field (codes "DestinationEncryptionContext") Context maybe ∷
     field (codes "SourceEncryptionAlgorithm") AnyText maybe ∷
     field (codes "DestinationEncryptionAlgorithm") AnyText maybe ∷
-    not_built (codes "GrantTokens") ∷
+    grant_tokens ∷
     field (codes "DryRun") Flag maybe ∷
     []
 
@@ -43,7 +43,7 @@ generate_data_key_fields =
     field (codes "EncryptionContext") Context maybe ∷
     field (codes "NumberOfBytes") (Whole 1 1024) (instead_of (codes "KeySpec")) ∷
     field (codes "KeySpec") DataKeySpec maybe ∷
-    not_built (codes "GrantTokens") ∷
+    grant_tokens ∷
     field (codes "Recipient") Object maybe ∷
     field (codes "DryRun") Flag maybe ∷
     []
@@ -54,7 +54,7 @@ generate_data_key_without_plaintext_fields =
     field (codes "EncryptionContext") Context maybe ∷
     field (codes "KeySpec") DataKeySpec maybe ∷
     field (codes "NumberOfBytes") (Whole 1 1024) (instead_of (codes "KeySpec")) ∷
-    not_built (codes "GrantTokens") ∷
+    grant_tokens ∷
     field (codes "DryRun") Flag maybe ∷
     []
 

@@ -1,13 +1,7 @@
 -- What the operations that use keys answer, with members in byte order of their names (AWS KMS API Reference, Encrypt, Decrypt, ReEncrypt and the Generate operations).
 use Rattle.std.specs.Prelude.{ℕ, List, codes}
-use Rattle.base64.specs.Engines.{standard}
-use Rattle.base64.specs.GeneralPurpose.{encode_of}
 use Rattle.serde_json.specs.Data.{Data, object, no_members}
 use Rattle.kms_json.specs.Objects.{symmetric_default, with_text}
-
--- bytes as the text of their base64 in the standard alphabet, with padding (RFC 4648, section 4)
-unfoldable pub base64_text : List ℕ → List ℕ
-base64_text bytes = encode_of standard bytes
 
 abbrev pub encrypted_data : List ℕ → List ℕ → Data
 encrypted_data blob arn = object (with_text (codes "CiphertextBlob") blob (with_text (codes "EncryptionAlgorithm") symmetric_default (with_text (codes "KeyId") arn no_members)))

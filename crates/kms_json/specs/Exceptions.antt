@@ -4,7 +4,7 @@ use Rattle.kms_names.specs.Action.{action_name}
 use Rattle.kms_names.specs.Principal.{principal_text}
 use Rattle.serde_json.specs.Data.{Data, object, member, no_members, string}
 use Rattle.kms_json.specs.declared.refusals.Refusal.{Refusal}
-use Rattle.kms_json.specs.declared.refusals.Refusal.TheVariants.{UnknownOperation, Serialization, Validation, InvalidAliasName, DependencyTimeout, NotFound, InvalidArn, InvalidCiphertext, IncorrectKey, AccessDenied, Disabled, InvalidState, UnsupportedOperation, InvalidKeyUsage, MalformedPolicy, LimitExceeded, DryRun}
+use Rattle.kms_json.specs.declared.refusals.Refusal.TheVariants.{MissingAuthentication, IncompleteSignature, UnrecognizedClient, RequestExpired, InvalidSignature, UnknownOperation, Serialization, Validation, InvalidAliasName, DependencyTimeout, NotFound, InvalidArn, InvalidGrantId, InvalidCiphertext, IncorrectKey, AccessDenied, InvalidGrantToken, Disabled, InvalidState, UnsupportedOperation, InvalidKeyUsage, AlreadyExists, InvalidMarker, MalformedPolicy, LimitExceeded, DryRun}
 use Rattle.kms_json.specs.declared.refusals.Missing.{Missing}
 use Rattle.kms_json.specs.declared.refusals.Missing.TheVariants as missing
 use Rattle.kms_json.specs.declared.refusals.Limit.{Limit}
@@ -23,6 +23,11 @@ refusal_status _ = 400
 
 -- the name of the exception
 abbrev pub exception_name : Refusal → List ℕ
+exception_name MissingAuthentication = codes "MissingAuthenticationTokenException"
+exception_name IncompleteSignature = codes "IncompleteSignatureException"
+exception_name UnrecognizedClient = codes "UnrecognizedClientException"
+exception_name RequestExpired = codes "RequestExpired"
+exception_name InvalidSignature = codes "InvalidSignatureException"
 exception_name UnknownOperation = codes "UnknownOperationException"
 exception_name Serialization = codes "SerializationException"
 exception_name (Validation field) = codes "ValidationException"
@@ -30,13 +35,17 @@ exception_name InvalidAliasName = codes "InvalidAliasNameException"
 exception_name (DependencyTimeout entries wanted) = codes "DependencyTimeoutException"
 exception_name (NotFound what) = codes "NotFoundException"
 exception_name InvalidArn = codes "InvalidArnException"
+exception_name InvalidGrantId = codes "InvalidGrantIdException"
 exception_name InvalidCiphertext = codes "InvalidCiphertextException"
 exception_name IncorrectKey = codes "IncorrectKeyException"
 exception_name (AccessDenied caller action resource) = codes "AccessDeniedException"
+exception_name InvalidGrantToken = codes "InvalidGrantTokenException"
 exception_name (Disabled arn) = codes "DisabledException"
 exception_name (InvalidState arn state) = codes "KMSInvalidStateException"
 exception_name (UnsupportedOperation field) = codes "UnsupportedOperationException"
 exception_name InvalidKeyUsage = codes "InvalidKeyUsageException"
+exception_name AlreadyExists = codes "AlreadyExistsException"
+exception_name InvalidMarker = codes "InvalidMarkerException"
 exception_name (MalformedPolicy flaw) = codes "MalformedPolicyDocumentException"
 exception_name (LimitExceeded what) = codes "LimitExceededException"
 exception_name DryRun = codes "DryRunOperationException"
@@ -48,6 +57,9 @@ missing_word missing.Grant = codes "grant"
 
 abbrev pub limit_word : Limit → List ℕ
 limit_word limit.Keys = codes "keys"
+limit_word limit.KeyGrants = codes "key grants"
+limit_word limit.Grants = codes "grants"
+limit_word limit.Aliases = codes "aliases"
 limit_word limit.Rotations = codes "rotations"
 limit_word limit.Ivs = codes "ivs"
 limit_word limit.Draws = codes "draws"
@@ -75,13 +87,22 @@ flaw_text flaw.Lockout = codes "lockout"
 
 -- the text of an exception that says nothing of its request
 abbrev pub fixed_text : Refusal → List ℕ
+fixed_text MissingAuthentication = codes "The request carries no Authorization header."
+fixed_text IncompleteSignature = codes "The signature is not complete."
+fixed_text UnrecognizedClient = codes "The access key is not known."
+fixed_text RequestExpired = codes "The request is outside the time window."
+fixed_text InvalidSignature = codes "The signature does not match."
 fixed_text UnknownOperation = codes "X-Amz-Target names no operation of this service."
 fixed_text Serialization = codes "The body is not the JSON that the operation takes."
 fixed_text InvalidAliasName = codes "The alias name is not valid."
 fixed_text InvalidArn = codes "The ARN is not valid."
+fixed_text InvalidGrantId = codes "The grant id is not valid."
 fixed_text InvalidCiphertext = codes "The ciphertext does not open."
 fixed_text IncorrectKey = codes "The ciphertext is of another key."
+fixed_text InvalidGrantToken = codes "A grant token names no live grant."
 fixed_text InvalidKeyUsage = codes "The algorithm does not fit the key."
+fixed_text AlreadyExists = codes "The alias exists."
+fixed_text InvalidMarker = codes "The marker is not valid."
 fixed_text DryRun = codes "The call would have been allowed."
 fixed_text _ = []
 

@@ -1,17 +1,22 @@
 -- The fields of a request's body: what each may hold, what a body gives it, and which of them isn't valid.
-use Rattle.std.specs.Prelude.{ℕ, List, [], ◌∷◌, length, nat_le, ◌&&◌, ◌||◌, Bool, true, false, not, codes, if◌then◌else◌, Option, Some, None, option_map, option_and_then, unwrap_or, is_some, ℤ, pos, negsuc}
+use Rattle.std.specs.Prelude.{ℕ, List, [], ◌∷◌, length, nat_le, ◌==◌, ◌&&◌, ◌||◌, Bool, true, false, not, codes, if◌then◌else◌, Option, Some, None, option_map, option_and_then, unwrap_or, is_some, ℤ, pos, negsuc}
+use Rattle.std.specs.Char.{is_ascii_alphanumeric}
+use Rattle.std.specs.List.{list_all, list_any}
 use Rattle.std.specs.Str.{bytes_eq}
 use Rattle.base64.specs.Engines.{standard}
 use Rattle.base64.specs.GeneralPurpose.{decoded_of}
 use Rattle.serde_json.specs.Data.{Data, null, Items, no_items, item, Members, no_members, member}
 use Rattle.serde_json.specs.Find.{get, as_str, as_bool, as_array, as_object, as_number, as_integer}
+use Rattle.kms_names.specs.GrantOps.{all_grant_ops, grant_op_name}
 use Rattle.kms_names.specs.Reading.{is_alias_text}
 use Rattle.enc_context.specs.declared.pairs.Pair.{Pair}
 use Rattle.enc_context.specs.Encoding.{encoding_of}
+use Rattle.kms_json.specs.declared.asks.grants.GrantConstraint.{GrantConstraint}
+use Rattle.kms_json.specs.declared.asks.grants.GrantConstraint.TheVariants as constraint
 use Rattle.kms_json.specs.declared.fields.Kind.{Kind}
 use Rattle.kms_json.specs.declared.fields.Kind.TheVariants as kind
 use Rattle.kms_json.specs.declared.fields.Presence.{Presence}
-use Rattle.kms_json.specs.declared.fields.Presence.TheVariants.{Required, Optional, InsteadOf}
+use Rattle.kms_json.specs.declared.fields.Presence.TheVariants.{Required, Optional, InsteadOf, InsteadOfBoth}
 use Rattle.kms_json.specs.declared.fields.Field.{Field}
 use Rattle.kms_json.specs.declared.fields.FieldFault.{FieldFault}
 use Rattle.kms_json.specs.declared.fields.FieldFault.TheVariants as fault
@@ -19,13 +24,15 @@ use Rattle.kms_json.specs.declared.given.Given.{Given}
 use Rattle.kms_json.specs.declared.given.Given.TheVariants as given
 use Rattle.kms_json.specs.declared.refusals.Refusal.{Refusal}
 use Rattle.kms_json.specs.declared.refusals.Refusal.TheVariants as refusal
-use Rattle.kms_json.specs.Given.{is_absent, text_in, bytes_in, context_in, whole_in}
+use Rattle.kms_json.specs.Given.{is_absent, is_there, text_in, texts_in, bytes_in, context_in, constraint_if, whole_in}
 
--- whether a field is to be given: it is, it may be, or it is exactly where the field of another name isn't
+-- whether a field is to be given: it is; it may be; it is exactly where the field of another name isn't; or it is where neither of two others is, and isn't
+-- where both are
 pub data Wanted : Type 0 where
   always : Wanted
   maybe : Wanted
   instead_of : List ℕ → Wanted
+  instead_of_both : List ℕ → List ℕ → Wanted
 
 -- a field's name, what its value may be, and whether it is to be given
 pub record FieldRow : Type 0 where
@@ -36,13 +43,25 @@ pub record FieldRow : Type 0 where
 abbrev pub field : List ℕ → Kind → Wanted → FieldRow
 field name kind wanted = record { name = name; kind = kind; wanted = wanted }
 
--- a field that isn't built yet
-abbrev pub not_built : List ℕ → FieldRow
-not_built name = field name kind.NotBuilt maybe
-
 -- a reference to a key
 abbrev pub key_reference : List ℕ → Wanted → FieldRow
 key_reference name wanted = field name (kind.Text 1 2048) wanted
+
+-- the tokens of grants
+abbrev pub grant_tokens : FieldRow
+grant_tokens = field (codes "GrantTokens") (kind.Texts 10) maybe
+
+-- at most so many rows of a list behind a marker
+abbrev pub page_of : ℕ → List FieldRow
+page_of most = field (codes "Limit") (kind.Whole 1 most) maybe ∷ field (codes "Marker") (kind.Text 1 1024) maybe ∷ []
+
+-- a principal
+abbrev pub principal : List ℕ → Wanted → FieldRow
+principal name wanted = field name (kind.Text 1 256) wanted
+
+-- what belongs to a key
+abbrev pub list_of_key : List FieldRow
+list_of_key = key_reference (codes "KeyId") always ∷ page_of 1000
 
 -- a key and nothing else
 abbrev pub key_alone : List FieldRow
@@ -52,6 +71,7 @@ abbrev pub wanted_by : Presence → Wanted
 wanted_by Required = always
 wanted_by Optional = maybe
 wanted_by (InsteadOf other) = instead_of other.now
+wanted_by (InsteadOfBoth one two) = instead_of_both one.now two.now
 
 -- a row of the code's table
 abbrev pub row_of : Field → FieldRow
@@ -75,9 +95,46 @@ pairs_of (member key d more) = option_and_then (λ value. option_map (λ pairs. 
 abbrev pub texts_of : Data → Option (List Pair)
 texts_of d = option_and_then pairs_of (as_object d)
 
--- a context of at most 8,192 encoded bytes
-abbrev pub fitting : List Pair → Option (List Pair)
-fitting pairs = if nat_le (length (encoding_of pairs)) 8192 then Some pairs else None
+-- a context of at most so many encoded bytes
+abbrev pub fitting : ℕ → List Pair → Option (List Pair)
+fitting most pairs = if nat_le (length (encoding_of pairs)) most then Some pairs else None
+
+-- what a member is to a context, if it has its type; null counts as absent
+abbrev pub context_of : Data → Option Given
+context_of d = option_map (λ pairs. given.Context (fitting 8192 pairs)) (texts_of d)
+
+abbrev pub context_given : Option Data → Option Given
+context_given None = Some given.Absent
+context_given (Some null) = Some given.Absent
+context_given (Some d) = context_of d
+
+-- the constraint of a grant that gives no part: a context to be equal, of at most 4,096 encoded bytes, or nothing
+abbrev pub equals_or_free : Given → Option GrantConstraint
+equals_or_free value = if is_absent value then Some constraint.Free else option_map constraint.Equals (option_and_then (fitting 4096) (context_in value))
+
+-- the constraint by what is to be equal and what is to be a part: none where both are given
+abbrev pub constraint_by : Given → Given → Option GrantConstraint
+constraint_by equals subset =
+    if is_absent subset then equals_or_free equals
+    else if is_there equals then None
+    else option_map constraint.Subset (option_and_then (fitting 4096) (context_in subset))
+
+-- the constraint of an object; its unknown members are passed over
+abbrev pub constraint_at : Data → Option Given
+constraint_at d =
+    option_and_then (λ equals. option_map (λ subset. given.Constraint (constraint_by equals subset)) (context_given (get (codes "EncryptionContextSubset") d)))
+    (context_given (get (codes "EncryptionContextEquals") d))
+
+abbrev pub constraint_of : Data → Option Given
+constraint_of d = option_and_then (λ ms. constraint_at d) (as_object d)
+
+-- items that are all texts
+abbrev pub texts_in_items : Items → Option (List (List ℕ))
+texts_in_items no_items = Some []
+texts_in_items (item d ds) = option_and_then (λ text. option_map (λ texts. text ∷ texts) (texts_in_items ds)) (as_str d)
+
+abbrev pub list_of_texts : Data → Option (List (List ℕ))
+list_of_texts d = option_and_then texts_in_items (as_array d)
 
 -- a number that isn't negative
 abbrev pub natural : ℤ → Option ℕ
@@ -100,13 +157,16 @@ value_of kind.AnyText d = option_map given.Text (as_str d)
 value_of kind.AliasName d = option_map given.Text (as_str d)
 value_of kind.PolicyName d = option_map given.Text (as_str d)
 value_of kind.DataKeySpec d = option_map given.Text (as_str d)
+value_of kind.GrantName d = option_map given.Text (as_str d)
+value_of (kind.Texts most) d = option_map given.Texts (list_of_texts d)
+value_of kind.GrantOperations d = option_map given.Texts (list_of_texts d)
 value_of (kind.Bytes least most) d = option_map given.Bytes (bytes_of d)
-value_of kind.Context d = option_map (λ pairs. given.Context (fitting pairs)) (texts_of d)
+value_of kind.Context d = context_of d
+value_of kind.GrantConstraint d = constraint_of d
 value_of (kind.Whole least most) d = option_map (λ z. given.Whole (natural z)) (whole_of d)
 value_of kind.Flag d = option_map given.Flag (as_bool d)
 value_of kind.List d = option_map (λ items. given.Items (any_items items)) (as_array d)
 value_of kind.Object d = option_map (λ ms. given.Something) (as_object d)
-value_of kind.NotBuilt d = Some given.Something
 
 -- null counts as absent
 abbrev pub value_given : Kind → Option Data → Option Given
@@ -140,7 +200,22 @@ is_policy_name name = bytes_eq name (codes "default")
 abbrev pub is_data_key_spec : List ℕ → Bool
 is_data_key_spec name = bytes_eq name (codes "AES_256") || bytes_eq name (codes "AES_128")
 
--- a value that is given keeps to its kind's bounds; a field that isn't built may not be given
+-- a letter, a digit or one of : / _ -
+abbrev pub is_grant_name_character : ℕ → Bool
+is_grant_name_character c = is_ascii_alphanumeric c || list_any (λ d. d == c) (codes ":/_-")
+
+-- 1 to 256 of them
+abbrev pub is_grant_name : List ℕ → Bool
+is_grant_name name = nat_le 1 (length name) && (nat_le (length name) 256 && list_all is_grant_name_character name)
+
+-- the names of grant operations, one or more
+abbrev pub is_operation_name : List ℕ → Bool
+is_operation_name name = list_any (λ op. bytes_eq name (grant_op_name op)) all_grant_ops
+
+abbrev pub are_operation_names : List (List ℕ) → Bool
+are_operation_names names = nat_le 1 (length names) && list_all is_operation_name names
+
+-- a value that is given keeps to its kind's bounds
 abbrev pub fits : Kind → Given → Bool
 fits (kind.Text least most) value = is_between least most (length (text_in value))
 fits kind.SomeText value = nat_le 1 (length (text_in value))
@@ -148,25 +223,30 @@ fits kind.AnyText value = true
 fits kind.AliasName value = is_alias_text (text_in value)
 fits kind.PolicyName value = is_policy_name (text_in value)
 fits kind.DataKeySpec value = is_data_key_spec (text_in value)
+fits kind.GrantName value = is_grant_name (text_in value)
+fits (kind.Texts most) value = nat_le (length (texts_in value)) most
+fits kind.GrantOperations value = are_operation_names (texts_in value)
 fits (kind.Bytes least most) value = is_between least most (length (bytes_in value))
 fits kind.Context value = is_some (context_in value)
+fits kind.GrantConstraint value = is_some (constraint_if value)
 fits (kind.Whole least most) value = is_some_between least most (whole_in value)
 fits kind.Flag value = true
 fits kind.List value = true
 fits kind.Object value = true
-fits kind.NotBuilt value = false
 
 -- a field that isn't given may be absent
 abbrev pub may_be_absent : Wanted → Data → Bool
 may_be_absent always body = false
 may_be_absent maybe body = true
 may_be_absent (instead_of other) body = is_given (get other body)
+may_be_absent (instead_of_both one two) body = is_given (get one body) && is_given (get two body)
 
 -- a field that is given may be given
 abbrev pub may_be_given : Wanted → Data → Bool
 may_be_given always body = true
 may_be_given maybe body = true
 may_be_given (instead_of other) body = not (is_given (get other body))
+may_be_given (instead_of_both one two) body = not (is_given (get one body)) && not (is_given (get two body))
 
 -- the value of a field is valid
 abbrev pub is_valid : FieldRow → Data → Given → Bool

@@ -1,7 +1,7 @@
--- The fields of the operations on keys, in the order in which they are judged (AWS KMS API Reference, CreateKey, UpdateKeyDescription and DescribeKey).
+-- The fields of the operations on keys, in the order in which they are judged (AWS KMS API Reference, CreateKey, UpdateKeyDescription, DescribeKey and ListKeys).
 use Rattle.std.specs.Prelude.{List, [], ◌∷◌, codes}
 use Rattle.kms_json.specs.declared.fields.Kind.TheVariants.{Text, SomeText, AnyText, Flag, List as Items}
-use Rattle.kms_json.specs.Fields.{FieldRow, always, maybe, field, not_built, key_reference}
+use Rattle.kms_json.specs.Fields.{FieldRow, always, maybe, field, grant_tokens, key_reference, page_of}
 
 abbrev pub create_key_fields : List FieldRow
 create_key_fields =
@@ -27,5 +27,8 @@ update_key_description_fields =
 abbrev pub describe_key_fields : List FieldRow
 describe_key_fields =
     key_reference (codes "KeyId") always ∷
-    not_built (codes "GrantTokens") ∷
+    grant_tokens ∷
     []
+
+abbrev pub list_keys_fields : List FieldRow
+list_keys_fields = page_of 1000

@@ -1,10 +1,12 @@
--- What the operations on keys answer, with members in byte order of their names (AWS KMS API Reference, KeyMetadata).
+-- What the operations on keys answer, with members in byte order of their names (AWS KMS API Reference, KeyMetadata and ListKeys).
 use Rattle.std.specs.Prelude.{ℕ, List, codes, false, option_map}
 use Rattle.uuid.specs.Text.{hyphenated_text, lower}
 use Rattle.kms_names.specs.Reference.{key_arn_text}
 use Rattle.serde_json.specs.Data.{Data, object, member, no_members, string, boolean, array, item, no_items}
 use Rattle.kms_json.specs.declared.replies.KeyMetadata.{KeyMetadata}
-use Rattle.kms_json.specs.Objects.{symmetric_default, with_text, with_any, number_data}
+use Rattle.kms_json.specs.declared.replies.lists.KeyPage.{KeyPage}
+use Rattle.kms_json.specs.Objects.{symmetric_default, with_text, with_any, number_data, list_data}
+use Rattle.kms_json.specs.PageReplies.{page_data}
 use Rattle.kms_json.specs.States.{state_name, is_enabled, deletion_date}
 
 -- a key of this account, ARN and printed id
@@ -31,3 +33,13 @@ metadata key = described_as key.account (key_arn_text key.account key.region key
 
 abbrev pub metadata_data : KeyMetadata → Data
 metadata_data key = object (member (codes "KeyMetadata") (metadata key) no_members)
+
+-- a key by its ARN and its printed id
+abbrev pub key_by : List ℕ → List ℕ → Data
+key_by arn id = object (with_text (codes "KeyArn") arn (with_text (codes "KeyId") id no_members))
+
+abbrev pub key_data : List ℕ → List ℕ → List ℕ → Data
+key_data account region key = key_by (key_arn_text account region key) (hyphenated_text lower key)
+
+abbrev pub keys_data : KeyPage → Data
+keys_data page = page_data (codes "Keys") (list_data (key_data page.account page.region) page.keys) page.next

@@ -8,3 +8,12 @@ use Rattle.kms_json.specs.Given.{text_in, number_or}
 -- a key waits 30 days where no number of days is given
 abbrev pub schedule_key_deletion : (List ℕ → Given) → Changing
 schedule_key_deletion at = changing.ScheduleKeyDeletion (text_in (at (codes "KeyId"))) (number_or (at (codes "PendingWindowInDays")) 30)
+
+abbrev pub enable_key : (List ℕ → Given) → Changing
+enable_key at = changing.EnableKey (text_in (at (codes "KeyId")))
+
+abbrev pub disable_key : (List ℕ → Given) → Changing
+disable_key at = changing.DisableKey (text_in (at (codes "KeyId")))
+
+abbrev pub cancel_key_deletion : (List ℕ → Given) → Changing
+cancel_key_deletion at = changing.CancelKeyDeletion (text_in (at (codes "KeyId")))

@@ -3,11 +3,15 @@ ghost use Rattle.std.specs.Prelude.{◌≡◌};
 ghost use Rattle.kms_json.specs.Asks.{changes_account};
 
 mod cryptography;
+mod grants;
 mod keys;
+mod pages;
 
 pub use cryptography::{DataKey, Decrypt, Encrypt, ReEncrypt};
+pub use grants::{CreateGrant, GrantConstraint, ListGrants, RetiredGrant};
 pub use keys::CreateKey;
-use kms_names::{NoMemory, Principal, Text};
+use kms_names::{NoMemory, Principal, Text, TextList};
+pub use pages::Page;
 
 /// An operation that changes the account, with its fields.
 #[derive(Debug, Drop)]
@@ -59,14 +63,76 @@ pub enum Changing {
     RotateKeyOnDemand {
         key_id: Text,
     },
+    /// CreateAlias: the alias name, and the reference to the key that it is to name, a text of 1 to
+    /// 2,048 bytes.
+    CreateAlias {
+        alias: Text,
+        key_id: Text,
+    },
+    /// UpdateAlias: the alias name, and the reference to the key that it is to name from now on, a text
+    /// of 1 to 2,048 bytes.
+    UpdateAlias {
+        alias: Text,
+        key_id: Text,
+    },
+    /// DeleteAlias of this alias name.
+    DeleteAlias {
+        alias: Text,
+    },
+    /// CreateGrant.
+    CreateGrant(CreateGrant),
+    /// RetireGrant: which grant, and whether the call is only to say what it would answer.
+    RetireGrant {
+        grant: RetiredGrant,
+        dry_run: bool,
+    },
+    /// RevokeGrant: the reference to the grant's key, a text of 1 to 2,048 bytes; the grant's id; and
+    /// whether the call is only to say what it would answer.
+    RevokeGrant {
+        key_id: Text,
+        grant_id: Text,
+        dry_run: bool,
+    },
 }
 
 /// An operation that doesn't change the account, with its fields.
 #[derive(Debug, Drop)]
 pub enum Reading {
-    /// DescribeKey of the key that `key_id` refers to, a text of 1 to 2,048 bytes.
+    /// DescribeKey of the key that `key_id` refers to, a text of 1 to 2,048 bytes, with at most 10 grant
+    /// tokens.
     DescribeKey {
         key_id: Text,
+        grant_tokens: TextList,
+    },
+    /// ListKeys: at most 1,000 keys, 100 where no limit is given.
+    ListKeys {
+        page: Page,
+    },
+    /// ListKeyPolicies of the key that `key_id` refers to, a text of 1 to 2,048 bytes: at most 1,000
+    /// names, 100 where no limit is given.
+    ListKeyPolicies {
+        key_id: Text,
+        page: Page,
+    },
+    /// ListKeyRotations of the key that `key_id` refers to, a text of 1 to 2,048 bytes: at most 1,000
+    /// rotations, 100 where no limit is given.
+    ListKeyRotations {
+        key_id: Text,
+        page: Page,
+    },
+    /// ListAliases, of the key that `key_id` refers to, a text of 1 to 2,048 bytes, where it is given: at
+    /// most 100 aliases, 50 where no limit is given.
+    ListAliases {
+        key_id: Option<Text>,
+        page: Page,
+    },
+    /// ListGrants.
+    ListGrants(ListGrants),
+    /// ListRetirableGrants of the retiring principal, a text of 1 to 256 bytes: at most 100 grants, 50
+    /// where no limit is given.
+    ListRetirableGrants {
+        retiring: Text,
+        page: Page,
     },
     /// GetKeyPolicy of the key that `key_id` refers to, a text of 1 to 2,048 bytes.
     GetKeyPolicy {

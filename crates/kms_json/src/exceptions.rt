@@ -20,6 +20,11 @@ fn name_of(refusal: &Refusal) -> &'static str
     ensures { result.now ≡ exception_name refusal.now }
 {
     match refusal {
+        Refusal::MissingAuthentication => "MissingAuthenticationTokenException",
+        Refusal::IncompleteSignature => "IncompleteSignatureException",
+        Refusal::UnrecognizedClient => "UnrecognizedClientException",
+        Refusal::RequestExpired => "RequestExpired",
+        Refusal::InvalidSignature => "InvalidSignatureException",
         Refusal::UnknownOperation => "UnknownOperationException",
         Refusal::Serialization => "SerializationException",
         Refusal::Validation(_) => "ValidationException",
@@ -27,13 +32,17 @@ fn name_of(refusal: &Refusal) -> &'static str
         Refusal::DependencyTimeout { .. } => "DependencyTimeoutException",
         Refusal::NotFound(_) => "NotFoundException",
         Refusal::InvalidArn => "InvalidArnException",
+        Refusal::InvalidGrantId => "InvalidGrantIdException",
         Refusal::InvalidCiphertext => "InvalidCiphertextException",
         Refusal::IncorrectKey => "IncorrectKeyException",
         Refusal::AccessDenied { .. } => "AccessDeniedException",
+        Refusal::InvalidGrantToken => "InvalidGrantTokenException",
         Refusal::Disabled(_) => "DisabledException",
         Refusal::InvalidState { .. } => "KMSInvalidStateException",
         Refusal::UnsupportedOperation(_) => "UnsupportedOperationException",
         Refusal::InvalidKeyUsage => "InvalidKeyUsageException",
+        Refusal::AlreadyExists => "AlreadyExistsException",
+        Refusal::InvalidMarker => "InvalidMarkerException",
         Refusal::MalformedPolicy(_) => "MalformedPolicyDocumentException",
         Refusal::LimitExceeded(_) => "LimitExceededException",
         Refusal::DryRun => "DryRunOperationException",
@@ -55,6 +64,9 @@ fn word_of_limit(what: Limit) -> &'static str
 {
     match what {
         Limit::Keys => "keys",
+        Limit::KeyGrants => "key grants",
+        Limit::Grants => "grants",
+        Limit::Aliases => "aliases",
         Limit::Rotations => "rotations",
         Limit::Ivs => "ivs",
         Limit::Draws => "draws",
@@ -143,13 +155,22 @@ fn fixed_text_of(refusal: &Refusal) -> &'static str
     ensures { result.now ≡ fixed_text refusal.now }
 {
     match refusal {
+        Refusal::MissingAuthentication => "The request carries no Authorization header.",
+        Refusal::IncompleteSignature => "The signature is not complete.",
+        Refusal::UnrecognizedClient => "The access key is not known.",
+        Refusal::RequestExpired => "The request is outside the time window.",
+        Refusal::InvalidSignature => "The signature does not match.",
         Refusal::UnknownOperation => "X-Amz-Target names no operation of this service.",
         Refusal::Serialization => "The body is not the JSON that the operation takes.",
         Refusal::InvalidAliasName => "The alias name is not valid.",
         Refusal::InvalidArn => "The ARN is not valid.",
+        Refusal::InvalidGrantId => "The grant id is not valid.",
         Refusal::InvalidCiphertext => "The ciphertext does not open.",
         Refusal::IncorrectKey => "The ciphertext is of another key.",
+        Refusal::InvalidGrantToken => "A grant token names no live grant.",
         Refusal::InvalidKeyUsage => "The algorithm does not fit the key.",
+        Refusal::AlreadyExists => "The alias exists.",
+        Refusal::InvalidMarker => "The marker is not valid.",
         Refusal::DryRun => "The call would have been allowed.",
         _ => "",
     }

@@ -1,12 +1,13 @@
 // Fields of a request's body, read in their order and then judged in it.
 ghost use Rattle.std.specs.Prelude.{◌≡◌, map, length, IfOk, option_map};
+ghost use Rattle.std.specs.List.{list_all};
 ghost use Rattle.serde_json.specs.View.{view};
 ghost use Rattle.kms_names.specs.Reading.{is_alias_text};
-ghost use Rattle.kms_json.specs.Fields.{row_of, wanted_by, fits, may_be_absent, may_be_given, is_valid, values_of, first_invalid, refused_by, refusal_at, is_policy_name, is_data_key_spec, is_some_between};
+ghost use Rattle.kms_json.specs.Fields.{row_of, wanted_by, fits, may_be_absent, may_be_given, is_valid, values_of, first_invalid, refused_by, refusal_at, is_policy_name, is_data_key_spec, is_grant_name_character, is_grant_name, is_operation_name, are_operation_names, is_some_between};
 
 use crate::given::Given;
 use crate::members::{is_given, value_given};
-use kms_names::{NoMemory, is_alias_name};
+use kms_names::{GrantOp, NoMemory, Text, is_alias_name};
 use serde_json::Value;
 use std::alloc::Global;
 use std::collections::VecDeque;
@@ -26,10 +27,18 @@ pub enum Kind {
     PolicyName,
     /// The name of a data key's spec.
     DataKeySpec,
+    /// The name of a grant.
+    GrantName,
+    /// A list of at most so many texts.
+    Texts { most: usize },
+    /// A list of the names of one grant operation or more.
+    GrantOperations,
     /// So many bytes, as the text of their base64.
     Bytes { least: usize, most: usize },
     /// Texts by texts, of at most 8,192 encoded bytes.
     Context,
+    /// The constraint of a grant: at most one context, of at most 4,096 encoded bytes.
+    GrantConstraint,
     /// A whole number from the least to the most.
     Whole { least: u64, most: u64 },
     /// A truth value.
@@ -38,8 +47,6 @@ pub enum Kind {
     List,
     /// An object.
     Object,
-    /// Nothing: the field isn't built yet.
-    NotBuilt,
 }
 
 /// Whether a field is to be given.
@@ -51,6 +58,8 @@ pub enum Presence {
     Optional,
     /// Exactly one of it and the field of this other name is.
     InsteadOf(&'static str),
+    /// It is exactly where neither field of these other names is; where it isn't, both are.
+    InsteadOfBoth(&'static str, &'static str),
 }
 
 /// A field of a request's body: its name, what its value may be, and whether it is to be given.
@@ -84,6 +93,42 @@ fn is_spec(name: &str) -> bool
     name == "AES_256" || name == "AES_128"
 }
 
+fn is_grant_name_byte(byte: u8) -> bool
+    ensures { result ≡ is_grant_name_character byte }
+{
+    byte.is_ascii_alphanumeric() || b":/_-".contains(&byte)
+}
+
+fn has_grant_name_bytes(name: &str) -> bool
+    ensures { result ≡ list_all is_grant_name_character name.now }
+{
+    name.bytes().all(is_grant_name_byte)
+}
+
+fn is_grant_name(name: &str) -> bool
+    ensures { result ≡ is_grant_name name.now }
+{
+    !name.is_empty() && name.len() <= 256 && has_grant_name_bytes(name)
+}
+
+fn is_operation(name: &str) -> bool
+    ensures { result ≡ is_operation_name name.now }
+{
+    GrantOp::ALL.iter().any(|op| name == op.name())
+}
+
+fn are_all_operations(names: &[Text]) -> bool
+    ensures { result ≡ list_all is_operation_name names.now }
+{
+    names.iter().all(|name| is_operation(name.as_str()))
+}
+
+fn are_operations(names: &[Text]) -> bool
+    ensures { result ≡ are_operation_names names.now }
+{
+    !names.is_empty() && are_all_operations(names)
+}
+
 fn number_between(least: u64, most: u64, number: Option<u64>) -> bool
     ensures { result ≡ is_some_between least most number }
 {
@@ -112,8 +157,11 @@ fn fits(kind: Kind, value: &Given) -> bool
         Kind::AliasName => is_alias(value.text()),
         Kind::PolicyName => is_default(value.text()),
         Kind::DataKeySpec => is_spec(value.text()),
+        Kind::GrantName => is_grant_name(value.text()),
+        Kind::Texts { most } => value.texts().len() <= most,
+        Kind::GrantOperations => are_operations(value.texts()),
+        Kind::GrantConstraint => value.has_constraint(),
         Kind::AnyText | Kind::Flag | Kind::List | Kind::Object => true,
-        Kind::NotBuilt => false,
     }
 }
 
@@ -124,6 +172,7 @@ fn may_be_absent(presence: Presence, body: &Value) -> bool
         Presence::Required => false,
         Presence::Optional => true,
         Presence::InsteadOf(other) => is_given(body.get(other)),
+        Presence::InsteadOfBoth(one, two) => is_given(body.get(one)) && is_given(body.get(two)),
     }
 }
 
@@ -133,6 +182,7 @@ fn may_be_given(presence: Presence, body: &Value) -> bool
     match presence {
         Presence::Required | Presence::Optional => true,
         Presence::InsteadOf(other) => !is_given(body.get(other)),
+        Presence::InsteadOfBoth(one, two) => !is_given(body.get(one)) && !is_given(body.get(two)),
     }
 }
 

@@ -1,9 +1,10 @@
 // What a body gives to a field, by its form.
 ghost use Rattle.std.specs.Prelude.{◌≡◌, [], IfOk};
-ghost use Rattle.kms_json.specs.Given.{text_if, text_in, bytes_in, pairs_in, number_in, number_or, flag_in, items_in};
+ghost use Rattle.kms_json.specs.Given.{text_if, text_in, texts_in, bytes_in, context_in, pairs_in, constraint_in, number_in, number_or, flag_in, items_in, is_named, operations_named};
 
+use crate::asks::GrantConstraint;
 use enc_context::Context;
-use kms_names::{Bytes, NoMemory, Text};
+use kms_names::{Bytes, GrantOp, GrantOps, NoMemory, Text, TextList};
 use std::alloc::Global;
 
 /// What a member is to its field.
@@ -17,6 +18,10 @@ pub enum Given {
     Bytes(Bytes),
     /// A context, or none where its encoding has more than 8,192 bytes.
     Context(Option<Context>),
+    /// The constraint of a grant, or none where it is two, or its encoding has more than 4,096 bytes.
+    Constraint(Option<GrantConstraint>),
+    /// A list of texts.
+    Texts(TextList),
     /// A whole number, or none where it is negative.
     Whole(Option<u64>),
     /// A truth value.
@@ -30,7 +35,7 @@ pub enum Given {
 impl Given {
     ghost use Rattle.std.specs.Prelude.{◌≡◌};
     ghost use Rattle.std.specs.Prelude.{is_some};
-    ghost use Rattle.kms_json.specs.Given.{is_absent, is_there, text_in, bytes_in, context_in, whole_in};
+    ghost use Rattle.kms_json.specs.Given.{is_absent, is_there, text_in, bytes_in, context_in, whole_in, constraint_if, texts_in};
 
     /// Whether the member isn't given.
     pub fn is_absent(&self) -> bool
@@ -85,6 +90,26 @@ impl Given {
             _ => false,
         }
     }
+
+    /// Whether it is a grant's constraint that is one and isn't too long.
+    pub fn has_constraint(&self) -> bool
+        ensures { result ≡ is_some (constraint_if self.now) }
+    {
+        match self {
+            Given::Constraint(Some(_)) => true,
+            _ => false,
+        }
+    }
+
+    /// The texts, or none where it is no list of texts.
+    pub fn texts(&self) -> &[Text]
+        ensures { result.now ≡ texts_in self.now }
+    {
+        match self {
+            Given::Texts(texts) => texts.as_slice(),
+            _ => &[],
+        }
+    }
 }
 
 /// The text, or the empty text where it is no text.
@@ -114,6 +139,64 @@ pub fn bytes_in(alloc: Global, value: Given) -> Bytes
     match value {
         Given::Bytes(bytes) => bytes,
         _ => Bytes::new(Vec::new(alloc)),
+    }
+}
+
+/// The texts, or none where it is no list of texts.
+pub fn texts_in(alloc: Global, value: Given) -> TextList
+    ensures { result ≡ texts_in value }
+{
+    match value {
+        Given::Texts(texts) => texts,
+        _ => TextList::new(Vec::new(alloc)),
+    }
+}
+
+/// The constraint, or the one that asks nothing where it is none.
+pub fn constraint_in(value: Given) -> GrantConstraint
+    ensures { result ≡ constraint_in value }
+{
+    match value {
+        Given::Constraint(Some(constraint)) => constraint,
+        _ => GrantConstraint::Free,
+    }
+}
+
+// Whether an operation is named by one of these texts.
+fn is_named(names: &[Text], op: GrantOp) -> bool
+    ensures { result ≡ is_named names.now op }
+{
+    names.iter().any(|name| name.as_str() == op.name())
+}
+
+/// The set of the operations that are named.
+pub fn operations_in(value: &Given) -> GrantOps
+    ensures { result ≡ operations_named (texts_in value.now) }
+{
+    let names = value.texts();
+    GrantOps {
+        encrypt: is_named(names, GrantOp::Encrypt),
+        decrypt: is_named(names, GrantOp::Decrypt),
+        generate_data_key: is_named(names, GrantOp::GenerateDataKey),
+        generate_data_key_without_plaintext: is_named(
+            names,
+            GrantOp::GenerateDataKeyWithoutPlaintext,
+        ),
+        re_encrypt_from: is_named(names, GrantOp::ReEncryptFrom),
+        re_encrypt_to: is_named(names, GrantOp::ReEncryptTo),
+        create_grant: is_named(names, GrantOp::CreateGrant),
+        retire_grant: is_named(names, GrantOp::RetireGrant),
+        describe_key: is_named(names, GrantOp::DescribeKey),
+    }
+}
+
+/// The context, if it is one that isn't too long.
+pub fn context_if(value: Given) -> Option<Context>
+    ensures { result ≡ context_in value }
+{
+    match value {
+        Given::Context(context) => context,
+        _ => None,
     }
 }
 

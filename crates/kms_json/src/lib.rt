@@ -6,6 +6,7 @@
 mod asks;
 mod bodies;
 mod building;
+mod constraints;
 mod exceptions;
 mod fields;
 mod given;
@@ -16,13 +17,19 @@ mod refusals;
 mod replies;
 mod states;
 mod tables;
+mod threads;
 mod writing;
 
 pub use asks::{
-    Ask, AskBody, Changing, CreateKey, DataKey, Decrypt, Encrypt, JsonFault, ReEncrypt, Reading,
+    Ask, AskBody, Changing, CreateGrant, CreateKey, DataKey, Decrypt, Encrypt, GrantConstraint,
+    JsonFault, ListGrants, Page, ReEncrypt, Reading, RetiredGrant,
 };
 pub use bodies::read_ask;
 pub use refusals::{Limit, Missing, PolicyFlaw, Refusal, Unsupported};
-pub use replies::{AutomaticRotation, KeyMetadata, Reply, SYMMETRIC_DEFAULT};
+pub use replies::{
+    AliasList, AliasPage, AutomaticRotation, GrantList, GrantPage, KeyIdList, KeyMetadata, KeyPage,
+    ListedAlias, ListedGrant, Reply, Rotation, RotationList, RotationPage, SYMMETRIC_DEFAULT,
+};
 pub use states::KeyState;
+pub use threads::asks_and_replies_cross_threads;
 pub use writing::write_reply;

@@ -1,18 +1,19 @@
 // A member of a body, read once, as what it is to its field.
 ghost use Rattle.std.specs.Prelude.{◌≡◌, IfOk, IfSome, option_map};
-ghost use Rattle.serde_json.specs.View.{view, members_view};
+ghost use Rattle.serde_json.specs.View.{view, items_view, members_view};
 ghost use Rattle.base64.specs.Engines.{standard};
 ghost use Rattle.base64.specs.GeneralPurpose.{decoded_of};
 ghost use Rattle.enc_context.specs.Pairs.{IsInOrder};
 ghost use Rattle.kms_json.specs.declared.fields.Kind.TheVariants as kind;
-ghost use Rattle.kms_json.specs.Fields.{is_given, value_of, value_given, pairs_of};
+ghost use Rattle.kms_json.specs.Fields.{is_given, context_of, value_of, value_given, pairs_of, texts_in_items};
 
+use crate::constraints::constraint_of;
 use crate::fields::Kind;
 use crate::given::Given;
 use base64::DecodeAllocError;
 use base64::engine::general_purpose::STANDARD;
 use enc_context::{Context, ContextFault, Pair};
-use kms_names::{Bytes, NoMemory, Text};
+use kms_names::{Bytes, NoMemory, Text, TextList};
 use serde_json::{Map, Value};
 use std::alloc::Global;
 
@@ -73,8 +74,9 @@ fn pairs_of(alloc: Global, members: &Map<String, Value>) -> Result<Option<Vec<Pa
     Ok(Some(pairs))
 }
 
-fn context_of(alloc: Global, value: &Value) -> Result<Option<Given>, NoMemory>
-    ensures { IfOk result (λ g. g ≡ value_of kind.Context (view value.now)) }
+/// A context that isn't null, if all of its members are texts.
+pub fn context_of(alloc: Global, value: &Value) -> Result<Option<Given>, NoMemory>
+    ensures { IfOk result (λ g. g ≡ context_of (view value.now)) }
 {
     let Some(members) = value.as_object() else {
         return Ok(None);
@@ -86,6 +88,29 @@ fn context_of(alloc: Global, value: &Value) -> Result<Option<Given>, NoMemory>
         Ok(context) => Ok(Some(Given::Context(Some(context)))),
         Err(ContextFault::TooLong) => Ok(Some(Given::Context(None))),
         Err(ContextFault::NoMemory) => Err(NoMemory),
+    }
+}
+
+// The items of a list, if all are texts.
+fn texts_in(alloc: Global, items: &[Value]) -> Result<Option<TextList>, NoMemory>
+    ensures { IfOk result (λ texts. texts ≡ texts_in_items (items_view items.now)) }
+{
+    let mut texts = Vec::new(alloc);
+    for item in items {
+        let Some(text) = item.as_str() else {
+            return Ok(None);
+        };
+        texts.push(Text::from_str(alloc, text)?)?;
+    }
+    Ok(Some(TextList::new(texts)))
+}
+
+fn texts_of(alloc: Global, value: &Value) -> Result<Option<Given>, NoMemory>
+    ensures { IfOk result (λ g. g ≡ value_of kind.GrantOperations (view value.now)) }
+{
+    match value.as_array() {
+        Some(items) => Ok(texts_in(alloc, items)?.map(Given::Texts)),
+        None => Ok(None),
     }
 }
 
@@ -137,14 +162,16 @@ fn value_of(alloc: Global, kind: Kind, value: &Value) -> Result<Option<Given>, N
         | Kind::AnyText
         | Kind::AliasName
         | Kind::PolicyName
-        | Kind::DataKeySpec => text_of(alloc, value),
+        | Kind::DataKeySpec
+        | Kind::GrantName => text_of(alloc, value),
+        Kind::Texts { .. } | Kind::GrantOperations => texts_of(alloc, value),
         Kind::Bytes { .. } => bytes_of(alloc, value),
         Kind::Context => context_of(alloc, value),
+        Kind::GrantConstraint => constraint_of(alloc, value),
         Kind::Whole { .. } => Ok(whole_of(value)),
         Kind::Flag => Ok(value.as_bool().map(Given::Flag)),
         Kind::List => Ok(list_of(value)),
         Kind::Object => Ok(object_of(value)),
-        Kind::NotBuilt => Ok(Some(Given::Something)),
     }
 }
 

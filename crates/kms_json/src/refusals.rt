@@ -14,6 +14,11 @@ pub enum Missing {
 #[derive(Clone, Copy, Debug, PartialEq, Eq)]
 pub enum Limit {
     Keys,
+    /// The grants of a key.
+    KeyGrants,
+    /// The grants of all keys.
+    Grants,
+    Aliases,
     /// The rotations on demand of a key.
     Rotations,
     /// The initialization vectors of a pass.
@@ -58,6 +63,16 @@ pub enum PolicyFlaw {
 /// Why a request isn't served: one variant an exception.
 #[derive(Debug, Drop)]
 pub enum Refusal {
+    /// MissingAuthenticationTokenException.
+    MissingAuthentication,
+    /// IncompleteSignatureException.
+    IncompleteSignature,
+    /// UnrecognizedClientException.
+    UnrecognizedClient,
+    /// RequestExpired.
+    RequestExpired,
+    /// InvalidSignatureException.
+    InvalidSignature,
     /// UnknownOperationException.
     UnknownOperation,
     /// SerializationException.
@@ -75,6 +90,8 @@ pub enum Refusal {
     NotFound(Missing),
     /// InvalidArnException.
     InvalidArn,
+    /// InvalidGrantIdException.
+    InvalidGrantId,
     /// InvalidCiphertextException.
     InvalidCiphertext,
     /// IncorrectKeyException.
@@ -85,6 +102,8 @@ pub enum Refusal {
         action: Action,
         resource: Text,
     },
+    /// InvalidGrantTokenException.
+    InvalidGrantToken,
     /// DisabledException, with the ARN of the key that is disabled.
     Disabled(Text),
     /// KMSInvalidStateException: the ARN of a key, and its state.
@@ -96,6 +115,10 @@ pub enum Refusal {
     UnsupportedOperation(Unsupported),
     /// InvalidKeyUsageException.
     InvalidKeyUsage,
+    /// AlreadyExistsException, of an alias.
+    AlreadyExists,
+    /// InvalidMarkerException.
+    InvalidMarker,
     /// MalformedPolicyDocumentException, with what is wrong.
     MalformedPolicy(PolicyFlaw),
     /// LimitExceededException.

@@ -1,7 +1,13 @@
 // What replies say.
+mod lists;
+
 use crate::refusals::Refusal;
 use crate::states::KeyState;
-use kms_names::{AccountNumber, Bytes, KeyId, Text};
+use kms_names::{AccountNumber, Bytes, GrantId, KeyId, Text};
+pub use lists::{
+    AliasList, AliasPage, GrantList, GrantPage, KeyIdList, KeyPage, ListedAlias, ListedGrant,
+    Rotation, RotationList, RotationPage,
+};
 
 /// The name of the one key spec, and of the one algorithm, of symmetric keys (AWS KMS API Reference,
 /// KeyMetadata).
@@ -62,6 +68,20 @@ pub enum Reply {
         key: KeyId,
         rotation: Option<AutomaticRotation>,
     },
+    /// What ListKeys answers.
+    Keys(KeyPage),
+    /// What ListKeyPolicies answers: the one name of a key's policy.
+    KeyPolicyNames,
+    /// What ListKeyRotations answers.
+    Rotations(RotationPage),
+    /// What ListAliases answers.
+    Aliases(AliasPage),
+    /// What CreateGrant answers. The token of a grant is the text of its id.
+    Granted {
+        grant: GrantId,
+    },
+    /// What ListGrants and ListRetirableGrants answer.
+    Grants(GrantPage),
     /// What Encrypt answers: the sealed text, and the ARN of its key.
     Encrypted {
         blob: Bytes,

@@ -4,19 +4,24 @@ ghost use Rattle.serde_json.specs.View.{view};
 ghost use Rattle.serde_json.specs.Written.{compact_text};
 ghost use Rattle.kms_json.specs.Replies.{reply_data};
 
+mod aliases;
 mod cryptography;
+mod grants;
 mod keys;
+mod pages;
 mod policies;
 mod rotation;
 mod states;
 
 use crate::exceptions::refusal_value;
 use crate::replies::Reply;
-use cryptography::{base64, data_key, decrypted, encrypted, random, re_encrypted, sealed_data_key};
-use keys::metadata;
+use aliases::alias_list;
+use cryptography::{data_key, decrypted, encrypted, random, re_encrypted, sealed_data_key};
+use grants::{grant_list, granted};
+use keys::{key_list, metadata};
 use kms_names::{Bytes, NoMemory};
-use policies::key_policy;
-use rotation::{rotated, rotation};
+use policies::{key_policies, key_policy};
+use rotation::{rotated, rotation, rotation_list};
 use serde_json::{Map, Value};
 use states::{cancelled, deletion};
 use std::alloc::Global;
@@ -38,39 +43,26 @@ fn reply_value(alloc: Global, reply: &Reply) -> Result<Value, NoMemory>
             key,
             rotation: status,
         } => rotation(alloc, key, *status),
-        Reply::Encrypted { blob, arn } => {
-            let blob = base64(alloc, blob)?;
-            encrypted(alloc, blob.as_str(), arn.as_str())
-        }
-        Reply::Decrypted { plaintext, arn } => {
-            let plaintext = base64(alloc, plaintext)?;
-            decrypted(alloc, plaintext.as_str(), arn.as_str())
-        }
+        Reply::Keys(list) => key_list(alloc, list),
+        Reply::KeyPolicyNames => key_policies(alloc),
+        Reply::Rotations(list) => rotation_list(alloc, list),
+        Reply::Aliases(list) => alias_list(alloc, list),
+        Reply::Granted { grant } => granted(alloc, grant),
+        Reply::Grants(list) => grant_list(alloc, list),
+        Reply::Encrypted { blob, arn } => encrypted(alloc, blob, arn.as_str()),
+        Reply::Decrypted { plaintext, arn } => decrypted(alloc, plaintext, arn.as_str()),
         Reply::ReEncrypted {
             blob,
             arn,
             source_arn,
-        } => {
-            let blob = base64(alloc, blob)?;
-            re_encrypted(alloc, blob.as_str(), arn.as_str(), source_arn.as_str())
-        }
+        } => re_encrypted(alloc, blob, arn.as_str(), source_arn.as_str()),
         Reply::DataKey {
             blob,
             plaintext,
             arn,
-        } => {
-            let blob = base64(alloc, blob)?;
-            let plaintext = base64(alloc, plaintext)?;
-            data_key(alloc, blob.as_str(), plaintext.as_str(), arn.as_str())
-        }
-        Reply::SealedDataKey { blob, arn } => {
-            let blob = base64(alloc, blob)?;
-            sealed_data_key(alloc, blob.as_str(), arn.as_str())
-        }
-        Reply::Random { plaintext } => {
-            let plaintext = base64(alloc, plaintext)?;
-            random(alloc, plaintext.as_str())
-        }
+        } => data_key(alloc, blob, plaintext, arn.as_str()),
+        Reply::SealedDataKey { blob, arn } => sealed_data_key(alloc, blob, arn.as_str()),
+        Reply::Random { plaintext } => random(alloc, plaintext),
         Reply::Done => Ok(Value::Object(Map::new(alloc))),
         Reply::Refused(refusal) => refusal_value(alloc, refusal),
     }

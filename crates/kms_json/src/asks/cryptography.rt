@@ -1,6 +1,6 @@
 // What the operations that use keys are asked.
 use enc_context::Context;
-use kms_names::{Bytes, Text};
+use kms_names::{Bytes, Text, TextList};
 
 /// What Encrypt takes (AWS KMS API Reference, Encrypt).
 #[derive(Debug, Drop)]
@@ -11,6 +11,8 @@ pub struct Encrypt {
     pub plaintext: Bytes,
     /// The encryption context; one that isn't given has no pairs.
     pub context: Context,
+    /// The tokens of grants, at most 10.
+    pub grant_tokens: TextList,
     /// The algorithm, where it is given.
     pub algorithm: Option<Text>,
     /// Whether the call is only to say what it would answer.
@@ -24,6 +26,8 @@ pub struct Decrypt {
     pub blob: Bytes,
     /// The encryption context; one that isn't given has no pairs.
     pub context: Context,
+    /// The tokens of grants, at most 10.
+    pub grant_tokens: TextList,
     /// The reference to the key, where it is given: a text of 1 to 2,048 bytes.
     pub key_id: Option<Text>,
     /// The algorithm, where it is given.
@@ -51,6 +55,8 @@ pub struct ReEncrypt {
     pub source_algorithm: Option<Text>,
     /// The algorithm to seal it by, where it is given.
     pub algorithm: Option<Text>,
+    /// The tokens of grants, at most 10.
+    pub grant_tokens: TextList,
     /// Whether the call is only to say what it would answer.
     pub dry_run: bool,
 }
@@ -64,6 +70,8 @@ pub struct DataKey {
     pub context: Context,
     /// How many bytes the data key has, 1 to 1,024.
     pub size: u64,
+    /// The tokens of grants, at most 10.
+    pub grant_tokens: TextList,
     /// Whether the call is only to say what it would answer.
     pub dry_run: bool,
 }

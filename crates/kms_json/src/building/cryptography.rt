@@ -2,58 +2,61 @@
 ghost use Rattle.std.specs.Prelude.{◌≡◌, IfOk};
 ghost use Rattle.kms_json.specs.Building.{held};
 ghost use Rattle.kms_json.specs.CryptographyAsks as asked;
+ghost use Rattle.kms_json.specs.declared.asks.Reading.TheVariants as reading;
 ghost use Rattle.kms_json.specs.CryptographyFields.{encrypt_fields, decrypt_fields, re_encrypt_fields, generate_data_key_fields, generate_data_key_without_plaintext_fields, generate_random_fields};
 
 use super::next;
 use crate::asks::{DataKey, Decrypt, Encrypt, ReEncrypt, Reading};
-use crate::given::{Given, bytes_in, context_in, flag_in, number_in, text_if, text_in};
+use crate::given::{Given, bytes_in, context_in, flag_in, number_in, text_if, text_in, texts_in};
 use kms_names::NoMemory;
 use std::alloc::Global;
 use std::collections::VecDeque;
 
 /// Encrypt.
-pub fn encrypt(alloc: Global, values: &mut VecDeque<Given>) -> Result<Encrypt, NoMemory>
-    ensures { IfOk result (λ fields. fields ≡ asked.encrypt (held encrypt_fields values.old.items)) }
+pub fn encrypt(alloc: Global, values: &mut VecDeque<Given>) -> Result<Reading, NoMemory>
+    ensures { IfOk result (λ made. made ≡ reading.Encrypt (asked.encrypt (held encrypt_fields values.old.items))) }
 {
     let key_id = text_in(alloc, next(values));
     let plaintext = bytes_in(alloc, next(values));
     let context = context_in(alloc, next(values))?;
-    let _grant_tokens = next(values);
+    let grant_tokens = texts_in(alloc, next(values));
     let algorithm = text_if(next(values));
     let dry_run = flag_in(&next(values));
-    Ok(Encrypt {
+    Ok(Reading::Encrypt(Encrypt {
         key_id,
         plaintext,
         context,
+        grant_tokens,
         algorithm,
         dry_run,
-    })
+    }))
 }
 
 /// Decrypt.
-pub fn decrypt(alloc: Global, values: &mut VecDeque<Given>) -> Result<Decrypt, NoMemory>
-    ensures { IfOk result (λ fields. fields ≡ asked.decrypt (held decrypt_fields values.old.items)) }
+pub fn decrypt(alloc: Global, values: &mut VecDeque<Given>) -> Result<Reading, NoMemory>
+    ensures { IfOk result (λ made. made ≡ reading.Decrypt (asked.decrypt (held decrypt_fields values.old.items))) }
 {
     let blob = bytes_in(alloc, next(values));
     let context = context_in(alloc, next(values))?;
-    let _grant_tokens = next(values);
+    let grant_tokens = texts_in(alloc, next(values));
     let key_id = text_if(next(values));
     let algorithm = text_if(next(values));
     let recipient = next(values).is_there();
     let dry_run = flag_in(&next(values));
-    Ok(Decrypt {
+    Ok(Reading::Decrypt(Decrypt {
         blob,
         context,
+        grant_tokens,
         key_id,
         algorithm,
         recipient,
         dry_run,
-    })
+    }))
 }
 
 /// ReEncrypt.
-pub fn re_encrypt(alloc: Global, values: &mut VecDeque<Given>) -> Result<ReEncrypt, NoMemory>
-    ensures { IfOk result (λ fields. fields ≡ asked.re_encrypt (held re_encrypt_fields values.old.items)) }
+pub fn re_encrypt(alloc: Global, values: &mut VecDeque<Given>) -> Result<Reading, NoMemory>
+    ensures { IfOk result (λ made. made ≡ reading.ReEncrypt (asked.re_encrypt (held re_encrypt_fields values.old.items))) }
 {
     let blob = bytes_in(alloc, next(values));
     let source_context = context_in(alloc, next(values))?;
@@ -62,9 +65,9 @@ pub fn re_encrypt(alloc: Global, values: &mut VecDeque<Given>) -> Result<ReEncry
     let context = context_in(alloc, next(values))?;
     let source_algorithm = text_if(next(values));
     let algorithm = text_if(next(values));
-    let _grant_tokens = next(values);
+    let grant_tokens = texts_in(alloc, next(values));
     let dry_run = flag_in(&next(values));
-    Ok(ReEncrypt {
+    Ok(Reading::ReEncrypt(ReEncrypt {
         blob,
         source_context,
         source_key_id,
@@ -72,8 +75,9 @@ pub fn re_encrypt(alloc: Global, values: &mut VecDeque<Given>) -> Result<ReEncry
         context,
         source_algorithm,
         algorithm,
+        grant_tokens,
         dry_run,
-    })
+    }))
 }
 
 // The size of a data key of this spec.
@@ -102,37 +106,36 @@ pub fn generate_data_key(alloc: Global, values: &mut VecDeque<Given>) -> Result<
     let context = context_in(alloc, next(values))?;
     let number = next(values);
     let size = data_key_size(&next(values), &number);
-    let _grant_tokens = next(values);
+    let grant_tokens = texts_in(alloc, next(values));
     let recipient = next(values).is_there();
     let dry_run = flag_in(&next(values));
     let key = DataKey {
         key_id,
         context,
         size,
+        grant_tokens,
         dry_run,
     };
     Ok(Reading::GenerateDataKey { key, recipient })
 }
 
 /// GenerateDataKeyWithoutPlaintext: the spec stands before the number of bytes.
-pub fn generate_data_key_without_plaintext(
-    alloc: Global,
-    values: &mut VecDeque<Given>,
-) -> Result<DataKey, NoMemory>
-    ensures { IfOk result (λ key. key ≡ asked.data_key (held generate_data_key_without_plaintext_fields values.old.items)) }
+pub fn seal_data_key(alloc: Global, values: &mut VecDeque<Given>) -> Result<Reading, NoMemory>
+    ensures { IfOk result (λ made. made ≡ reading.GenerateDataKeyWithoutPlaintext (asked.data_key (held generate_data_key_without_plaintext_fields values.old.items))) }
 {
     let key_id = text_in(alloc, next(values));
     let context = context_in(alloc, next(values))?;
     let spec = next(values);
     let size = data_key_size(&spec, &next(values));
-    let _grant_tokens = next(values);
+    let grant_tokens = texts_in(alloc, next(values));
     let dry_run = flag_in(&next(values));
-    Ok(DataKey {
+    Ok(Reading::GenerateDataKeyWithoutPlaintext(DataKey {
         key_id,
         context,
         size,
+        grant_tokens,
         dry_run,
-    })
+    }))
 }
 
 /// GenerateRandom.

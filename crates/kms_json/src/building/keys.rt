@@ -2,19 +2,19 @@
 ghost use Rattle.std.specs.Prelude.{◌≡◌};
 ghost use Rattle.kms_json.specs.Building.{held};
 ghost use Rattle.kms_json.specs.KeyAsks as asked;
-ghost use Rattle.kms_json.specs.KeyFields.{create_key_fields, update_key_description_fields};
+ghost use Rattle.kms_json.specs.KeyFields.{create_key_fields, update_key_description_fields, describe_key_fields, list_keys_fields};
 
-use super::next;
-use crate::asks::{Changing, CreateKey};
-use crate::given::{Given, flag_in, items_in, text_if, text_in};
+use super::{next, page};
+use crate::asks::{Changing, CreateKey, Reading};
+use crate::given::{Given, flag_in, items_in, text_if, text_in, texts_in};
 use std::alloc::Global;
 use std::collections::VecDeque;
 
 /// CreateKey.
-pub fn create_key(alloc: Global, values: &mut VecDeque<Given>) -> CreateKey
+pub fn create_key(alloc: Global, values: &mut VecDeque<Given>) -> Changing
     ensures { result ≡ asked.create_key (held create_key_fields values.old.items) }
 {
-    CreateKey {
+    Changing::CreateKey(CreateKey {
         policy: text_if(next(values)),
         description: text_in(alloc, next(values)),
         key_usage: text_if(next(values)),
@@ -26,7 +26,7 @@ pub fn create_key(alloc: Global, values: &mut VecDeque<Given>) -> CreateKey
         tags: items_in(&next(values)),
         multi_region: flag_in(&next(values)),
         xks_key_id: next(values).is_there(),
-    }
+    })
 }
 
 /// UpdateKeyDescription.
@@ -38,5 +38,26 @@ pub fn update_key_description(alloc: Global, values: &mut VecDeque<Given>) -> Ch
     Changing::UpdateKeyDescription {
         key_id,
         description,
+    }
+}
+
+/// DescribeKey.
+pub fn describe_key(alloc: Global, values: &mut VecDeque<Given>) -> Reading
+    ensures { result ≡ asked.describe_key (held describe_key_fields values.old.items) }
+{
+    let key_id = text_in(alloc, next(values));
+    let grant_tokens = texts_in(alloc, next(values));
+    Reading::DescribeKey {
+        key_id,
+        grant_tokens,
+    }
+}
+
+/// ListKeys.
+pub fn list_keys(values: &mut VecDeque<Given>) -> Reading
+    ensures { result ≡ asked.list_keys (held list_keys_fields values.old.items) }
+{
+    Reading::ListKeys {
+        page: page(values, 100),
     }
 }

@@ -1,11 +1,12 @@
 // What the operations on key policies are asked.
 ghost use Rattle.std.specs.Prelude.{◌≡◌};
 ghost use Rattle.kms_json.specs.Building.{held};
+ghost use Rattle.kms_json.specs.Fields.{list_of_key};
 ghost use Rattle.kms_json.specs.PolicyAsks as asked;
-ghost use Rattle.kms_json.specs.PolicyFields.{put_key_policy_fields};
+ghost use Rattle.kms_json.specs.PolicyFields.{put_key_policy_fields, get_key_policy_fields};
 
-use super::next;
-use crate::asks::Changing;
+use super::{next, page};
+use crate::asks::{Changing, Reading};
 use crate::given::{Given, flag_in, text_in};
 use std::alloc::Global;
 use std::collections::VecDeque;
@@ -22,5 +23,23 @@ pub fn put_key_policy(alloc: Global, values: &mut VecDeque<Given>) -> Changing
         key_id,
         policy,
         bypass_lockout_check,
+    }
+}
+
+/// ListKeyPolicies.
+pub fn list_key_policies(alloc: Global, values: &mut VecDeque<Given>) -> Reading
+    ensures { result ≡ asked.list_key_policies (held list_of_key values.old.items) }
+{
+    let key_id = text_in(alloc, next(values));
+    let page = page(values, 100);
+    Reading::ListKeyPolicies { key_id, page }
+}
+
+/// GetKeyPolicy.
+pub fn get_key_policy(alloc: Global, values: &mut VecDeque<Given>) -> Reading
+    ensures { result ≡ asked.get_key_policy (held get_key_policy_fields values.old.items) }
+{
+    Reading::GetKeyPolicy {
+        key_id: text_in(alloc, next(values)),
     }
 }

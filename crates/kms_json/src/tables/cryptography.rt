@@ -1,5 +1,5 @@
 // The fields of the operations that use keys.
-use super::KEY_REFERENCE;
+use super::{GRANT_TOKENS, KEY_REFERENCE};
 use crate::fields::{Field, Kind, Presence};
 
 const PLAINTEXT: Kind = Kind::Bytes {
@@ -21,7 +21,7 @@ pub static ENCRYPT: [Field; 6] = [
     Field("KeyId", KEY_REFERENCE, Presence::Required),
     Field("Plaintext", PLAINTEXT, Presence::Required),
     Field("EncryptionContext", Kind::Context, Presence::Optional),
-    Field("GrantTokens", Kind::NotBuilt, Presence::Optional),
+    Field("GrantTokens", GRANT_TOKENS, Presence::Optional),
     Field("EncryptionAlgorithm", Kind::AnyText, Presence::Optional),
     Field("DryRun", Kind::Flag, Presence::Optional),
 ];
@@ -29,7 +29,7 @@ pub static ENCRYPT: [Field; 6] = [
 pub static DECRYPT: [Field; 7] = [
     Field("CiphertextBlob", CIPHERTEXT, Presence::Required),
     Field("EncryptionContext", Kind::Context, Presence::Optional),
-    Field("GrantTokens", Kind::NotBuilt, Presence::Optional),
+    Field("GrantTokens", GRANT_TOKENS, Presence::Optional),
     Field("KeyId", KEY_REFERENCE, Presence::Optional),
     Field("EncryptionAlgorithm", Kind::AnyText, Presence::Optional),
     Field("Recipient", Kind::Object, Presence::Optional),
@@ -56,7 +56,7 @@ pub static RE_ENCRYPT: [Field; 9] = [
         Kind::AnyText,
         Presence::Optional,
     ),
-    Field("GrantTokens", Kind::NotBuilt, Presence::Optional),
+    Field("GrantTokens", GRANT_TOKENS, Presence::Optional),
     Field("DryRun", Kind::Flag, Presence::Optional),
 ];
 
@@ -65,7 +65,7 @@ pub static GENERATE_DATA_KEY: [Field; 7] = [
     Field("EncryptionContext", Kind::Context, Presence::Optional),
     Field("NumberOfBytes", DATA_SIZE, Presence::InsteadOf("KeySpec")),
     Field("KeySpec", Kind::DataKeySpec, Presence::Optional),
-    Field("GrantTokens", Kind::NotBuilt, Presence::Optional),
+    Field("GrantTokens", GRANT_TOKENS, Presence::Optional),
     Field("Recipient", Kind::Object, Presence::Optional),
     Field("DryRun", Kind::Flag, Presence::Optional),
 ];
@@ -75,7 +75,7 @@ pub static GENERATE_DATA_KEY_WITHOUT_PLAINTEXT: [Field; 6] = [
     Field("EncryptionContext", Kind::Context, Presence::Optional),
     Field("KeySpec", Kind::DataKeySpec, Presence::Optional),
     Field("NumberOfBytes", DATA_SIZE, Presence::InsteadOf("KeySpec")),
-    Field("GrantTokens", Kind::NotBuilt, Presence::Optional),
+    Field("GrantTokens", GRANT_TOKENS, Presence::Optional),
     Field("DryRun", Kind::Flag, Presence::Optional),
 ];
 

@@ -1,5 +1,5 @@
 // The fields of the operations on keys.
-use super::KEY_REFERENCE;
+use super::{GRANT_TOKENS, KEY_REFERENCE, MANY_ROWS, MARKER};
 use crate::fields::{Field, Kind, Presence};
 
 const DESCRIPTION: Kind = Kind::Text {
@@ -32,5 +32,10 @@ pub static UPDATE_KEY_DESCRIPTION: [Field; 2] = [
 
 pub static DESCRIBE_KEY: [Field; 2] = [
     Field("KeyId", KEY_REFERENCE, Presence::Required),
-    Field("GrantTokens", Kind::NotBuilt, Presence::Optional),
+    Field("GrantTokens", GRANT_TOKENS, Presence::Optional),
+];
+
+pub static LIST_KEYS: [Field; 2] = [
+    Field("Limit", MANY_ROWS, Presence::Optional),
+    Field("Marker", MARKER, Presence::Optional),
 ];

@@ -1,11 +1,12 @@
 // What the operations on keys answer.
 ghost use Rattle.std.specs.Prelude.{◌≡◌, IfOk};
 ghost use Rattle.serde_json.specs.View.{view};
-ghost use Rattle.kms_json.specs.KeyReplies.{described_as, metadata_data};
+ghost use Rattle.kms_json.specs.KeyReplies.{described_as, metadata_data, key_by, key_data, keys_data};
 
-use crate::objects::{Item, Member, object_of};
-use crate::replies::{KeyMetadata, SYMMETRIC_DEFAULT};
-use kms_names::{NoMemory, key_arn, key_text};
+use super::pages::page;
+use crate::objects::{Item, Member, Rows, list_of, object_of};
+use crate::replies::{KeyMetadata, KeyPage, SYMMETRIC_DEFAULT};
+use kms_names::{AccountNumber, KeyId, NoMemory, key_arn, key_text};
 use serde_json::{Value, json};
 use std::alloc::Global;
 
@@ -49,4 +50,45 @@ pub fn metadata(alloc: Global, key: &KeyMetadata) -> Result<Value, NoMemory>
     let account = key.account.as_str();
     let members = described(alloc, account, arn.as_str(), key, id.as_str())?;
     Ok(json!(in alloc; {"KeyMetadata": members})?)
+}
+
+fn key_by<'a>(alloc: Global, arn: &'a str, id: &'a str) -> Result<Value, NoMemory>
+    ensures { IfOk result (λ v. view v ≡ key_by arn.now id.now) }
+{
+    let members = [
+        Member("KeyArn", Item::Text(arn)),
+        Member("KeyId", Item::Text(id)),
+    ];
+    object_of(alloc, &members)
+}
+
+// The keys of an account and a region.
+#[derive(Clone, Copy)]
+struct KeyRows<'a> {
+    account: &'a AccountNumber,
+    region: &'a str,
+}
+
+impl Rows for KeyRows<'_> {
+    type Row = KeyId;
+
+    ghost row_data = { λ rows key. key_data rows.account.now rows.region.now key };
+
+    fn row(&self, alloc: Global, key: &KeyId) -> Result<Value, NoMemory> {
+        let id = key_text(alloc, key)?;
+        let arn = key_arn(alloc, self.account, self.region, key)?;
+        key_by(alloc, arn.as_str(), id.as_str())
+    }
+}
+
+/// What ListKeys answers.
+pub fn key_list(alloc: Global, list: &KeyPage) -> Result<Value, NoMemory>
+    ensures { IfOk result (λ v. view v ≡ keys_data list.now) }
+{
+    let writer = KeyRows {
+        account: &list.account,
+        region: list.region.as_str(),
+    };
+    let rows = list_of(alloc, &writer, list.keys.as_slice())?;
+    page(alloc, "Keys", rows, list.next)
 }

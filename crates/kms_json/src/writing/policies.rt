@@ -1,7 +1,7 @@
 // What the operations on key policies answer.
 ghost use Rattle.std.specs.Prelude.{◌≡◌, IfOk};
 ghost use Rattle.serde_json.specs.View.{view};
-ghost use Rattle.kms_json.specs.PolicyReplies.{key_policy_data};
+ghost use Rattle.kms_json.specs.PolicyReplies.{key_policy_data, key_policies_data};
 
 use crate::objects::{Item, Member, object_of};
 use kms_names::NoMemory;
@@ -15,6 +15,17 @@ pub fn key_policy(alloc: Global, policy: &str) -> Result<Value, NoMemory>
     let members = [
         Member("Policy", Item::Text(policy)),
         Member("PolicyName", Item::Text("default")),
+    ];
+    object_of(alloc, &members)
+}
+
+/// What ListKeyPolicies answers.
+pub fn key_policies(alloc: Global) -> Result<Value, NoMemory>
+    ensures { IfOk result (λ v. view v ≡ key_policies_data) }
+{
+    let members = [
+        Member("PolicyNames", Item::OneText("default")),
+        Member("Truncated", Item::Flag(false)),
     ];
     object_of(alloc, &members)
 }

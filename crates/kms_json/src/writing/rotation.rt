@@ -1,10 +1,11 @@
 // What the operations on the rotation of keys answer.
 ghost use Rattle.std.specs.Prelude.{◌≡◌, IfOk};
 ghost use Rattle.serde_json.specs.View.{view};
-ghost use Rattle.kms_json.specs.RotationReplies.{rotated_data, rotation_data};
+ghost use Rattle.kms_json.specs.RotationReplies.{rotated_data, rotation_data, rotation_type, one_rotation_data, rotations_data};
 
-use crate::objects::{Item, Member, object_of};
-use crate::replies::AutomaticRotation;
+use super::pages::page;
+use crate::objects::{Item, Member, Rows, list_of, object_of};
+use crate::replies::{AutomaticRotation, Rotation, RotationPage};
 use kms_names::{KeyId, NoMemory, key_text};
 use serde_json::Value;
 use std::alloc::Global;
@@ -42,4 +43,47 @@ pub fn rotation(
             object_of(alloc, &members)
         }
     }
+}
+
+fn rotation_type(on_demand: bool) -> &'static str
+    ensures { result.now ≡ rotation_type on_demand }
+{
+    if on_demand { "ON_DEMAND" } else { "AUTOMATIC" }
+}
+
+// The rotations of the key of a printed id.
+#[derive(Clone, Copy)]
+struct RotationRows<'a> {
+    id: &'a str,
+}
+
+impl Rows for RotationRows<'_> {
+    type Row = Rotation;
+
+    ghost row_data = { λ rows rotation. one_rotation_data rows.id.now rotation };
+
+    fn row(&self, alloc: Global, rotation: &Rotation) -> Result<Value, NoMemory> {
+        let members = [
+            Member("KeyId", Item::Text(self.id)),
+            Member("RotationDate", Item::Number(rotation.date)),
+            Member(
+                "RotationType",
+                Item::Text(rotation_type(rotation.on_demand)),
+            ),
+        ];
+        object_of(alloc, &members)
+    }
+}
+
+/// What ListKeyRotations answers.
+pub fn rotation_list(alloc: Global, list: &RotationPage) -> Result<Value, NoMemory>
+    ensures { IfOk result (λ v. view v ≡ rotations_data list.now) }
+{
+    let id = key_text(alloc, &list.key)?;
+    let rows = list_of(
+        alloc,
+        &RotationRows { id: id.as_str() },
+        list.rotations.as_slice(),
+    )?;
+    page(alloc, "Rotations", rows, list.next)
 }

@@ -1,0 +1,44 @@
+-- What requests about grants ask, by what is given to their fields.
+use Rattle.std.specs.Prelude.{ℕ, List, codes, if◌then◌else◌}
+use Rattle.kms_json.specs.declared.given.Given.{Given}
+use Rattle.kms_json.specs.declared.asks.grants.RetiredGrant.{RetiredGrant}
+use Rattle.kms_json.specs.declared.asks.grants.RetiredGrant.TheVariants.{OfToken, OfKey}
+use Rattle.kms_json.specs.declared.asks.Changing.{Changing}
+use Rattle.kms_json.specs.declared.asks.Changing.TheVariants as changing
+use Rattle.kms_json.specs.declared.asks.Reading.{Reading}
+use Rattle.kms_json.specs.declared.asks.Reading.TheVariants as reading
+use Rattle.kms_json.specs.PageAsks.{page}
+use Rattle.kms_json.specs.Given.{is_absent, text_if, text_in, texts_in, constraint_in, flag_in, operations_named}
+
+abbrev pub create_grant : (List ℕ → Given) → Changing
+create_grant at = changing.CreateGrant record {
+  key_id = text_in (at (codes "KeyId"));
+  grantee = text_in (at (codes "GranteePrincipal"));
+  retiring = text_if (at (codes "RetiringPrincipal"));
+  operations = operations_named (texts_in (at (codes "Operations")));
+  constraint = constraint_in (at (codes "Constraints"));
+  grant_tokens = texts_in (at (codes "GrantTokens"));
+  name = text_if (at (codes "Name"));
+  dry_run = flag_in (at (codes "DryRun"));
+}
+
+-- a grant is that of its token, where that is given, or the one of its id
+abbrev pub retired : Given → Given → Given → RetiredGrant
+retired token key_id grant_id = if is_absent token then OfKey (text_in key_id) (text_in grant_id) else OfToken (text_in token)
+
+abbrev pub retire_grant : (List ℕ → Given) → Changing
+retire_grant at = changing.RetireGrant (retired (at (codes "GrantToken")) (at (codes "KeyId")) (at (codes "GrantId"))) (flag_in (at (codes "DryRun")))
+
+abbrev pub revoke_grant : (List ℕ → Given) → Changing
+revoke_grant at = changing.RevokeGrant (text_in (at (codes "KeyId"))) (text_in (at (codes "GrantId"))) (flag_in (at (codes "DryRun")))
+
+abbrev pub list_grants : (List ℕ → Given) → Reading
+list_grants at = reading.ListGrants record {
+  key_id = text_in (at (codes "KeyId"));
+  page = page 50 at;
+  grant_id = text_if (at (codes "GrantId"));
+  grantee = text_if (at (codes "GranteePrincipal"));
+}
+
+abbrev pub list_retirable_grants : (List ℕ → Given) → Reading
+list_retirable_grants at = reading.ListRetirableGrants (text_in (at (codes "RetiringPrincipal"))) (page 50 at)

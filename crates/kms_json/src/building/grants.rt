@@ -1,0 +1,100 @@
+// What the operations on grants are asked.
+ghost use Rattle.std.specs.Prelude.{◌≡◌};
+ghost use Rattle.kms_json.specs.Building.{held};
+ghost use Rattle.kms_json.specs.GrantAsks as asked;
+ghost use Rattle.kms_json.specs.GrantFields.{create_grant_fields, retire_grant_fields, revoke_grant_fields, list_grants_fields, list_retirable_grants_fields};
+
+use super::{next, page};
+use crate::asks::{Changing, CreateGrant, ListGrants, Reading, RetiredGrant};
+use crate::given::{Given, constraint_in, flag_in, operations_in, text_if, text_in, texts_in};
+use std::alloc::Global;
+use std::collections::VecDeque;
+
+/// CreateGrant.
+pub fn create_grant(alloc: Global, values: &mut VecDeque<Given>) -> Changing
+    ensures { result ≡ asked.create_grant (held create_grant_fields values.old.items) }
+{
+    let key_id = text_in(alloc, next(values));
+    let grantee = text_in(alloc, next(values));
+    let retiring = text_if(next(values));
+    let operations = operations_in(&next(values));
+    let constraint = constraint_in(next(values));
+    let grant_tokens = texts_in(alloc, next(values));
+    let name = text_if(next(values));
+    let dry_run = flag_in(&next(values));
+    Changing::CreateGrant(CreateGrant {
+        key_id,
+        grantee,
+        retiring,
+        operations,
+        constraint,
+        grant_tokens,
+        name,
+        dry_run,
+    })
+}
+
+// The grant of a token, where that is given, or of an id.
+fn retired(alloc: Global, token: Given, key_id: Given, grant_id: Given) -> RetiredGrant
+    ensures { result ≡ asked.retired token key_id grant_id }
+{
+    if token.is_absent() {
+        RetiredGrant::OfKey {
+            key_id: text_in(alloc, key_id),
+            grant_id: text_in(alloc, grant_id),
+        }
+    } else {
+        RetiredGrant::OfToken(text_in(alloc, token))
+    }
+}
+
+/// RetireGrant.
+pub fn retire_grant(alloc: Global, values: &mut VecDeque<Given>) -> Changing
+    ensures { result ≡ asked.retire_grant (held retire_grant_fields values.old.items) }
+{
+    let token = next(values);
+    let key_id = next(values);
+    let grant_id = next(values);
+    let grant = retired(alloc, token, key_id, grant_id);
+    let dry_run = flag_in(&next(values));
+    Changing::RetireGrant { grant, dry_run }
+}
+
+/// RevokeGrant.
+pub fn revoke_grant(alloc: Global, values: &mut VecDeque<Given>) -> Changing
+    ensures { result ≡ asked.revoke_grant (held revoke_grant_fields values.old.items) }
+{
+    let key_id = text_in(alloc, next(values));
+    let grant_id = text_in(alloc, next(values));
+    let dry_run = flag_in(&next(values));
+    Changing::RevokeGrant {
+        key_id,
+        grant_id,
+        dry_run,
+    }
+}
+
+/// ListGrants.
+pub fn list_grants(alloc: Global, values: &mut VecDeque<Given>) -> Reading
+    ensures { result ≡ asked.list_grants (held list_grants_fields values.old.items) }
+{
+    let key_id = text_in(alloc, next(values));
+    let page = page(values, 50);
+    let grant_id = text_if(next(values));
+    let grantee = text_if(next(values));
+    Reading::ListGrants(ListGrants {
+        key_id,
+        page,
+        grant_id,
+        grantee,
+    })
+}
+
+/// ListRetirableGrants.
+pub fn list_retirable_grants(alloc: Global, values: &mut VecDeque<Given>) -> Reading
+    ensures { result ≡ asked.list_retirable_grants (held list_retirable_grants_fields values.old.items) }
+{
+    let retiring = text_in(alloc, next(values));
+    let page = page(values, 50);
+    Reading::ListRetirableGrants { retiring, page }
+}
