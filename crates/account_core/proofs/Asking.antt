@@ -1,24 +1,30 @@
 -- The step of authority passes exactly where statements allow every question.
-use Rattle.std.proofs.Common.{◌≡◌, ℕ, List, [], ◌∷◌, Bool, true, false, Option, Some, None, refl, sym, ap, ◌∙◌, zero, suc, arith}
-use Rattle.std.specs.Prelude.{◌↔◌, IsTrue, All}
+use Rattle.std.proofs.Common.{◌≡◌, ◌⊎◌, inl, inr, ℕ, List, [], ◌∷◌, Bool, true, false, ◌&&◌, ◌||◌, Option, Some, None, is_some, refl, sym, ap, ◌∙◌, zero, suc, subst, arith, length, get_or}
+use Rattle.std.specs.Prelude.{◌↔◌, IsTrue, All, Any, find}
+use Rattle.std.specs.Bool.{Decides}
 use Rattle.std.proofs.lemmas.List.Elements.{All-cons}
 use Rattle.kms_names.specs.declared.actions.Action.{Action}
 use Rattle.kms_names.specs.declared.principals.Principal.{Principal}
+use Rattle.kms_names.specs.declared.operations.GrantOp.{GrantOp}
+use Rattle.kms_names.specs.declared.operations.GrantOp.TheVariants as op
+use Rattle.kms_names.specs.GrantOps.{contains}
 use Rattle.kms_json.specs.declared.refusals.Refusal.{Refusal}
 use Rattle.kms_json.specs.declared.refusals.Refusal.TheVariants as refusal
 use Rattle.policy_doc.specs.declared.policies.Policy.{Policy}
-use Rattle.authority.specs.Allowed.{is_allowed, IsKeyPolicy, AreIdentityPolicies}
+use Rattle.authority.specs.KeyPolicy.{policy_in}
+use Rattle.authority.specs.Setting.{Particulars, GrantSaid, is_root}
+use Rattle.authority.specs.Allowed.{is_allowed, AreIdentityPolicies}
 use Rattle.authority.proofs.LawFacts.{allowed_by}
 use Rattle.authority.proofs.KindFacts.{kind_of_text}
+use Rattle.grant_table.specs.declared.rows.GrantRow.{GrantRow}
+use Rattle.grant_table.specs.Grants.{is_parent, is_child_of, IsChildOf, has_retiring, permits, Permits}
+use Rattle.grant_table.specs.Principals.{same_principal}
+use Rattle.grant_table.proofs.PermitFacts.{principal_decides, permits_decides}
 use Rattle.key_states.specs.declared.rows.KeyRow.{KeyRow}
 use Rattle.account_core.specs.View.{View}
-use Rattle.account_core.specs.Steps.{or_else}
-use Rattle.account_core.specs.Authority.{Question, setting_of, resource_of, policy_of, asked_of, denied_at, denied_one, denied, MayAsk}
-use Rattle.account_core.specs.Laws.{PassesWhereStatementsAllow, IsFirstDenied, NamesTheFirstDenied}
-
-kind_of : (key : Option KeyRow) → IsKeyPolicy (policy_of key)
-kind_of None = tt
-kind_of (Some row) = kind_of_text row.policy
+use Rattle.account_core.specs.Steps.{or_else, arn_of}
+use Rattle.account_core.specs.Authority.{Question, on_key, on_other, retiring, setting_of, resource_of, action_of, asked_of, granted, granted_op, grant_op_of, may_on_key, may_on_other, may_retire, may, denied_at, denied_one, denied, MayRetire, MayAsk, IsParent, GrantedOp, IsGranted}
+use Rattle.account_core.specs.Laws.{PassesWhereStatementsAllow, IsFirstDenied, NamesTheFirstDenied, GrantsPermit}
 
 -- ---- one question
 
@@ -31,33 +37,75 @@ module _ (caller : Principal) (op : Action) (resource : List ℕ) where
   some_where true why e = cc
   some_where false why e = (refl, cc)
 
-module _ (view : View) (q : Question) (kinds : AreIdentityPolicies (setting_of view).policies) where
-  abbrev tells : IsTrue (is_allowed (setting_of view) (policy_of q.key) (asked_of view q)) ↔ MayAsk view q
-  tells = allowed_by (setting_of view) (policy_of q.key) (asked_of view q) (kind_of q.key) kinds
+-- whoever may retire a grant
+or_is : (a b : Bool) → IsTrue (a || b) ↔ (IsTrue a ⊎ IsTrue b)
+or_is true b = (λ t. inl refl, λ either. refl)
+or_is false b = (λ t. inr t, λ either. elim either [ inl t ↦ absurd (cc) | inr t ↦ t ])
 
-  abbrev test : Bool
-  test = is_allowed (setting_of view) (policy_of q.key) (asked_of view q)
+and_is : (a b : Bool) → IsTrue (a && b) ↔ (IsTrue a × IsTrue b)
+and_is true b = (λ t. (refl, t), λ both. both.1)
+and_is false b = (λ t. absurd (cc), λ both. absurd (let bad : false ≡ true = both.0 in cc))
 
-  pub one_passes : denied_one view q ≡ None ↔ MayAsk view q
-  unfolding denied_one
-  one_passes = (λ e. tells.0 ((none_where view.caller q.action (resource_of view q.key) test).0 e), λ may. (none_where view.caller q.action (resource_of view q.key) test).1 (tells.1 may))
+module _ (caller : Principal) where
+  retires_for : (named : Option Principal) (grant : GrantRow) → grant.retiring ≡ named → IsTrue (has_retiring caller grant) ↔ (grant.retiring ≡ Some caller)
+  retires_for None grant is = (λ t. absurd (let bad : has_retiring caller grant ≡ false = ap (λ (o : Option Principal). Rattle.grant_table.specs.Grants.is_principal caller o) is in cc), λ e. absurd (let bad : ◌≡◌ {A = Option Principal} None (Some caller) = sym is ∙ e in cc))
+  retires_for (Some named) grant is =
+      let decides = principal_decides named caller in
+      let same : has_retiring caller grant ≡ same_principal named caller = ap (λ (o : Option Principal). Rattle.grant_table.specs.Grants.is_principal caller o) is in
+      (λ t. is ∙ ap (λ (p : Principal). Some p) (decides.0 (sym same ∙ t)), λ e. same ∙ decides.1 (let both : Some named ≡ Some caller = sym is ∙ e in cc))
 
-  pub one_names : (why : Refusal) → denied_one view q ≡ Some why → ¬ (MayAsk view q) × (why ≡ refusal.AccessDenied view.caller q.action (resource_of view q.key))
-  unfolding denied_one
-  one_names why e =
-      let told = some_where view.caller q.action (resource_of view q.key) test why e in
-      (λ may. let bad : false ≡ true = sym told.0 ∙ tells.1 may in cc, told.1)
+  pub retires : (grant : GrantRow) → IsTrue (may_retire caller grant) ↔ MayRetire caller grant
+  retires grant =
+      let r = is_root caller in
+      let h = has_retiring caller grant in
+      let s = same_principal grant.grantee caller in
+      let c = contains grant.operations op.RetireGrant in
+      let named = retires_for grant.retiring grant refl in
+      let grantee = principal_decides grant.grantee caller in
+      (
+        λ t. elim ((or_is r (h || (s && c))).0 t) [ inl root ↦ inl root | inr rest ↦ elim ((or_is h (s && c)).0 rest) [ inl is ↦ inr (inl (named.0 is)) | inr both ↦ inr (inr (let parts = (and_is s c).0 both in (grantee.0 parts.0, parts.1))) ] ],
+        λ m. elim m [
+          inl root ↦ (or_is r (h || (s && c))).1 (inl root)
+        | inr rest ↦ elim rest [
+            inl is ↦ (or_is r (h || (s && c))).1 (inr ((or_is h (s && c)).1 (inl (named.1 is))))
+          | inr both ↦ (or_is r (h || (s && c))).1 (inr ((or_is h (s && c)).1 (inr ((and_is s c).1 (grantee.1 both.0, both.1)))))
+          ]
+        ],
+      )
 
--- ---- by what the code asks
+module _ (view : View) (kinds : AreIdentityPolicies (setting_of view).policies) where
+  tells_on_key : (action : Action) (row : KeyRow) (said : Particulars) → IsTrue (may_on_key view (policy_in row.policy) action row.key said) ↔ MayAsk view (on_key action row said)
+  unfolding may_on_key
+  tells_on_key action row said =
+      allowed_by (setting_of view) (Some (policy_in row.policy)) (asked_of action (arn_of view.facts row.key) said) (granted view action row.key said) (kind_of_text row.policy) kinds
 
-pub as_asked : (view : View) (q : Question) (resource : List ℕ) (policy : Option Policy) (allowed : Bool) → resource ≡ resource_of view q.key → policy ≡ policy_of q.key
-    → allowed ≡ is_allowed (setting_of view) policy (record { action = q.action; resource = resource; particulars = q.particulars })
-    → denied_at view.caller q.action resource allowed ≡ denied_one view q
-unfolding denied_one
-as_asked view q resource policy allowed there by is =
-    ap (denied_at view.caller q.action resource) is
-    ∙ ap (λ (p : Option Policy). denied_at view.caller q.action resource (is_allowed (setting_of view) p (record { action = q.action; resource = resource; particulars = q.particulars }))) by
-    ∙ ap (λ (r : List ℕ). denied_at view.caller q.action r (is_allowed (setting_of view) (policy_of q.key) (record { action = q.action; resource = r; particulars = q.particulars }))) there
+  tells_on_other : (action : Action) (resource : List ℕ) (said : Particulars) → IsTrue (may_on_other view action resource said) ↔ MayAsk view (on_other action resource said)
+  unfolding may_on_other
+  tells_on_other action resource said = allowed_by (setting_of view) None (asked_of action resource said) false tt kinds
+
+  tells : (q : Question) → IsTrue (may view q) ↔ MayAsk view q
+  tells (on_key action row said) = tells_on_key action row said
+  tells (on_other action resource said) = tells_on_other action resource said
+  tells (retiring grant) = retires view.caller grant
+
+  pub one_passes : (q : Question) → denied_one view q ≡ None ↔ MayAsk view q
+  one_passes q =
+      (λ e. (tells q).0 ((none_where view.caller (action_of q) (resource_of view q) (may view q)).0 e), λ m. (none_where view.caller (action_of q) (resource_of view q) (may view q)).1 ((tells q).1 m))
+
+  pub one_names : (q : Question) (why : Refusal) → denied_one view q ≡ Some why → ¬ (MayAsk view q) × (why ≡ refusal.AccessDenied view.caller (action_of q) (resource_of view q))
+  one_names q why e =
+      let told = some_where view.caller (action_of q) (resource_of view q) (may view q) why e in
+      (λ m. let bad : false ≡ true = sym told.0 ∙ (tells q).1 m in cc, told.1)
+
+-- ---- grants
+
+found_is : {X : Type 0} (test : X → Bool) (P : X → Type 0) → ((x : X) → Decides (test x) (P x)) → (xs : List X) → IsTrue (is_some (find test xs)) ↔ Any P xs
+found_is test P decides [] = (λ t. absurd (cc), λ any. absurd (omega (arith, any.2.0)))
+found_is {X} test P decides (x ∷ xs) = by_test (test x) (decides x) (found_is test P decides xs)
+  where
+    by_test : (b : Bool) → Decides b (P x) → IsTrue (is_some (find test xs)) ↔ Any P xs → IsTrue (is_some (Rattle.std.proofs.Common.cond b (Some x) (find test xs))) ↔ Any P (x ∷ xs)
+    by_test true d later = (λ t. ?, λ any. refl)
+    by_test false d later = (λ t. ?, λ any. ?)
 
 -- ---- all of them
 
@@ -70,21 +118,21 @@ module _ (view : View) (kinds : AreIdentityPolicies (setting_of view).policies) 
   passes_of [] e = λ k d lt. absurd (omega (arith, lt))
   passes_of (q ∷ questions) e =
       let both = both_none (denied_one view q) (denied view questions) e in
-      All-cons (MayAsk view) q questions ((one_passes view q kinds).0 both.0) (passes_of questions both.1)
+      All-cons (MayAsk view) q questions ((one_passes view kinds q).0 both.0) (passes_of questions both.1)
 
   passes_from : (questions : List Question) → All (MayAsk view) questions → denied view questions ≡ None
   passes_from [] all = refl
   passes_from (q ∷ questions) all =
-      ap (λ (o : Option Refusal). or_else o (denied view questions)) ((one_passes view q kinds).1 (all zero q (omega arith)))
+      ap (λ (o : Option Refusal). or_else o (denied view questions)) ((one_passes view kinds q).1 (all zero q (omega arith)))
       ∙ passes_from questions (λ k d lt. all (suc k) d (omega (arith, lt)))
 
   abbrev FirstOf : List Question → Refusal → Type 0
-  FirstOf questions why = (q : Question) × IsFirstDenied view questions q × (why ≡ refusal.AccessDenied view.caller q.action (resource_of view q.key))
+  FirstOf questions why = (q : Question) × IsFirstDenied view questions q × (why ≡ refusal.AccessDenied view.caller (action_of q) (resource_of view q))
 
   names_where : (o : Option Refusal) (q : Question) (questions : List Question) (why : Refusal) → denied_one view q ≡ o → (denied view questions ≡ Some why → FirstOf questions why)
       → or_else o (denied view questions) ≡ Some why → FirstOf (q ∷ questions) why
   names_where (Some first) q questions why is later e =
-      let told = one_names view q kinds why (is ∙ e) in
+      let told = one_names view kinds q why (is ∙ e) in
       (q, record { before = []; behind = questions; are = refl; allowed = λ k d lt. absurd (omega (arith, lt)); denied = told.0 }, told.1)
   names_where None q questions why is later e =
       let found = later e in
@@ -94,7 +142,7 @@ module _ (view : View) (kinds : AreIdentityPolicies (setting_of view).policies) 
           before = q ∷ first.before;
           behind = first.behind;
           are = ap (λ (qs : List Question). q ∷ qs) first.are;
-          allowed = All-cons (MayAsk view) q first.before ((one_passes view q kinds).0 is) first.allowed;
+          allowed = All-cons (MayAsk view) q first.before ((one_passes view kinds q).0 is) first.allowed;
           denied = first.denied;
         },
         found.2,

@@ -13,5 +13,6 @@ mod Fitting
 mod Asking
 mod Refusing
 mod Referring
+pub mod PageFacts
 mod LawSealings
 pub mod LawFacts

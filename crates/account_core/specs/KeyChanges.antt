@@ -18,7 +18,7 @@ use Rattle.account_core.specs.declared.key_changes.KeyChange.TheVariants as chan
 use Rattle.account_core.specs.Places.{nothing_used}
 use Rattle.account_core.specs.Steps.{only_key_of, arn_of}
 use Rattle.authority.specs.Setting.{Particulars}
-use Rattle.account_core.specs.Authority.{of_key, of_window, of_period}
+use Rattle.account_core.specs.Authority.{on_key, of_key}
 use Rattle.account_core.specs.View.{View}
 use Rattle.account_core.specs.Parts.{Parts, Effect, takes, appends}
 
@@ -31,15 +31,15 @@ action_of (change.RotateEvery period) = action.EnableKeyRotation
 action_of change.RotateNoMore = action.DisableKeyRotation
 action_of change.RotateNow = action.RotateKeyOnDemand
 
--- what the request says to conditions
-abbrev pub said_of : KeyChange → Particulars
-said_of change.Enable = of_key
-said_of change.Disable = of_key
-said_of (change.ScheduleDeletion days) = of_window days
-said_of change.CancelDeletion = of_key
-said_of (change.RotateEvery period) = of_period period
-said_of change.RotateNoMore = of_key
-said_of change.RotateNow = of_key
+-- what the request says to conditions, beside the key
+abbrev pub said_of : KeyChange → Particulars → Particulars
+said_of change.Enable of_key = of_key
+said_of change.Disable of_key = of_key
+said_of (change.ScheduleDeletion days) of_key = record of_key { window = Some days }
+said_of change.CancelDeletion of_key = of_key
+said_of (change.RotateEvery period) of_key = record of_key { period = Some period }
+said_of change.RotateNoMore of_key = of_key
+said_of change.RotateNow of_key = of_key
 
 -- ---- what has nothing to do
 
@@ -90,7 +90,7 @@ reply_of view row change.RotateNow = reply.Rotated row.key
 abbrev pub changes_key : View → List ℕ → KeyChange → Parts KeyRow ⊤
 changes_key view reference change = record {
   found = only_key_of view reference;
-  questions = λ row. record { action = action_of change; key = Some row; particulars = said_of change } ∷ [];
+  questions = λ row. on_key (action_of change) row (said_of change (of_key view row.key)) ∷ [];
   tokens = [];
   uses = λ row. record { action = action_of change; key = row } ∷ [];
   own = λ row. Ok tt;
@@ -103,7 +103,7 @@ changes_key view reference change = record {
 abbrev pub updates_description : View → List ℕ → List ℕ → Parts KeyRow ⊤
 updates_description view reference text = record {
   found = only_key_of view reference;
-  questions = λ row. record { action = action.UpdateKeyDescription; key = Some row; particulars = of_key } ∷ [];
+  questions = λ row. on_key action.UpdateKeyDescription row (of_key view row.key) ∷ [];
   tokens = [];
   uses = λ row. record { action = action.UpdateKeyDescription; key = row } ∷ [];
   own = λ row. Ok tt;
@@ -120,7 +120,7 @@ rotation_of row = option_map (λ period. record { next = row.next; period = peri
 abbrev pub gets_rotation_status : View → List ℕ → Parts KeyRow ⊤
 gets_rotation_status view reference = record {
   found = only_key_of view reference;
-  questions = λ row. record { action = action.GetKeyRotationStatus; key = Some row; particulars = of_key } ∷ [];
+  questions = λ row. on_key action.GetKeyRotationStatus row (of_key view row.key) ∷ [];
   tokens = [];
   uses = λ row. record { action = action.GetKeyRotationStatus; key = row } ∷ [];
   own = λ row. Ok tt;

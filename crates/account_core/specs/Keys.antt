@@ -19,8 +19,9 @@ use Rattle.key_states.specs.declared.rows.KeyRow.{KeyRow}
 use Rattle.account_core.specs.Ids.{key_id_at}
 use Rattle.account_core.specs.Places.{nothing_used}
 use Rattle.account_core.specs.Steps.{unless, or_else, unsupported, key_of}
-use Rattle.account_core.specs.Authority.{of_key, of_policy}
+use Rattle.account_core.specs.Authority.{on_key, on_other, of_new_key, of_named}
 use Rattle.account_core.specs.View.{View}
+use Rattle.account_core.specs.declared.checks.Named.{Named}
 use Rattle.account_core.specs.Parts.{Parts, takes, appends, told_state}
 use Rattle.account_core.specs.Policies.{policy_refused}
 
@@ -59,7 +60,7 @@ refused_if_given view (Some text) bypass = policy_refused view (key_id_at view.f
 abbrev pub creates_key : View → CreateKey → Parts ⊤ ⊤
 creates_key view x = record {
   found = Ok tt;
-  questions = λ found. record { action = action.CreateKey; key = None; particulars = of_policy x.bypass_lockout_check } ∷ [];
+  questions = λ found. on_other action.CreateKey (codes "*") (record of_new_key { bypass = Some x.bypass_lockout_check }) ∷ [];
   tokens = [];
   uses = λ found. [];
   own = λ found. unless (unserved_key x) (unless (refused_if_given view x.policy x.bypass_lockout_check) (Ok tt));
@@ -69,14 +70,14 @@ creates_key view x = record {
 }
 
 -- DescribeKey
-abbrev pub describes_key : View → List ℕ → Parts KeyRow ⊤
-describes_key view reference = record {
+abbrev pub describes_key : View → List ℕ → List (List ℕ) → Parts Named ⊤
+describes_key view reference tokens = record {
   found = key_of view reference;
-  questions = λ row. record { action = action.DescribeKey; key = Some row; particulars = of_key } ∷ [];
-  tokens = [];
-  uses = λ row. record { action = action.DescribeKey; key = row } ∷ [];
-  own = λ row. Ok tt;
-  effect = λ row ready. takes nothing_used;
+  questions = λ named. on_key action.DescribeKey named.row (of_named view named.row.key named.alias) ∷ [];
+  tokens = tokens;
+  uses = λ named. record { action = action.DescribeKey; key = named.row } ∷ [];
+  own = λ named. Ok tt;
+  effect = λ named ready. takes nothing_used;
   dry_run = false;
-  reply = λ row ready. reply.Metadata (description_of view.facts row.key row.made row.description (told_state row.stored));
+  reply = λ named ready. reply.Metadata (description_of view.facts named.row.key named.row.made named.row.description (told_state named.row.stored));
 }

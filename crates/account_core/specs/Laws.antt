@@ -1,11 +1,11 @@
 -- Laws of what the account seals.
-use Rattle.std.specs.Prelude.{◌≡◌, ◌≢◌, ◌^◌, ℕ, ◌<◌, List, [], ◌++◌, length, slice_index, slice_range, Bool, false, Option, Some, None, Ok, All, ◌↔◌, ◌∷◌}
+use Rattle.std.specs.Prelude.{◌≡◌, ◌≢◌, ◌^◌, ℕ, ◌<◌, List, [], ◌++◌, length, slice_index, slice_range, Bool, false, Option, Some, None, Ok, All, ◌↔◌, ◌∷◌, IsTrue}
 use Rattle.std.specs.List.Sorted.{IsNonDecreasingBy}
 use Rattle.blob_format.specs.Blob.{IsBlobText}
 use Rattle.enc_context.specs.declared.pairs.Pair.{Pair}
 use Rattle.crypto_ops.specs.Sealed.{opened}
 use Rattle.kms_names.specs.declared.actions.Action.TheVariants as action
-use Rattle.kms_names.specs.declared.references.KeyRef.TheVariants.{Key}
+use Rattle.kms_names.specs.declared.actions.Action.{Action}
 use Rattle.authority.specs.Setting.{callers_policies}
 use Rattle.authority.specs.Allowed.{AreIdentityPolicies}
 use Rattle.kms_json.specs.declared.refusals.Refusal.{Refusal}
@@ -31,8 +31,12 @@ use Rattle.account_core.specs.Places.{Places, IsUpTo}
 use Rattle.account_core.specs.Blobs.{BlobName, name_in, named_in}
 use Rattle.account_rows.specs.History.{housekeeping_of}
 use Rattle.account_core.specs.View.{View, view_of, key_held}
-use Rattle.account_core.specs.Steps.{unfit, draws, reference_of}
-use Rattle.account_core.specs.Authority.{Question, of_context, resource_of, denied, setting_of, MayAsk}
+use Rattle.account_core.specs.Steps.{unfit, draws, key_if_given, other_key, alias_of}
+use Rattle.account_core.specs.declared.checks.Named.{Named}
+use Rattle.authority.specs.Setting.{Particulars}
+use Rattle.account_core.specs.Authority.{Question, on_key, action_of, resource_of, denied, setting_of, granted, IsGranted, MayAsk}
+use Rattle.account_core.specs.Crypto.{of_context}
+use Rattle.account_core.specs.Parts.{dead_token}
 use Rattle.account_core.specs.Decide.{lacking, decide, IsProper, IsLawful}
 
 -- a blob, the text that is sealed in it, the context that it is sealed under, and the ARN of the key
@@ -60,23 +64,21 @@ pub data HasSealed (facts : RealmFacts) (history : List Entry) (x : Ask) (places
       → reply_to facts history x places ≡ reply.SealedDataKey blob arn
       → HasSealed facts history x places (record { blob = blob; plaintext = draws facts key.size places; context = key.context; arn = arn })
 
--- a reference is left out, or refers to this key
-abbrev pub NoneOrNames : RealmFacts → Option (List ℕ) → List ℕ → Type 0
-NoneOrNames facts None key = Unit {0}
-NoneOrNames facts (Some reference) key = reference_of facts reference ≡ Ok (Key key)
-
 -- the request asks, at a history, what this blob opens to under this context. The blob's key is there, and not gone; the caller
--- may decrypt under it; any key that the request names is the blob's, any algorithm is that of symmetric keys, it has no
--- Recipient and no DryRun, and waits for no more entries
+-- may decrypt under it; any key that the request names, by its id, its ARN or an alias, is the blob's, its grant tokens are those of live grants,
+-- any algorithm is that of symmetric keys, it has no Recipient and no DryRun, and waits for no more entries
 pub record AsksToOpen (facts : RealmFacts) (history : List Entry) (y : Ask) (places : Places) (blob : List ℕ) (context : List Pair) : Type 0 where
   pub fields : Decrypt
   pub body : y.body ≡ ask.Read (reading.Decrypt fields)
   pub same_blob : fields.blob ≡ blob
   pub same_context : fields.context ≡ context
-  pub right_key : NoneOrNames facts fields.key_id (name_in blob).key
+  pub named : Option Named
+  pub is_named : key_if_given (view_of facts history y places) fields.key_id ≡ Ok named
+  pub right_key : other_key named (name_in blob).key ≡ None
   pub held : KeyRow
   pub is_held : key_held (view_of facts history y places) (name_in blob).key ≡ Some held
-  pub may : MayAsk (view_of facts history y places) (record { action = action.Decrypt; key = Some held; particulars = of_context context })
+  pub may : MayAsk (view_of facts history y places) (on_key action.Decrypt held (of_context (view_of facts history y places) held.key (alias_of named) context))
+  pub live_tokens : dead_token (view_of facts history y places) fields.grant_tokens ≡ None
   pub fit : unfit fields.algorithm ≡ None
   pub no_recipient : fields.recipient ≡ false
   pub no_dry_run : fields.dry_run ≡ false
@@ -158,9 +160,10 @@ HouseIsKeptOnce =
 
 -- ---- authority
 
--- the step of authority passes exactly where every question is allowed by statements: no Deny statement of the key's policy or of
--- the caller's own policies hits, and a statement of the key's policy allows the caller directly, or allows the root of the
--- account while a statement of the caller's own policies allows it; a question about no key goes by the caller's own policies alone
+-- the step of authority passes exactly where every question is allowed: no Deny statement of the key's policy or of the caller's own policies hits,
+-- and a statement of the key's policy allows the caller directly, or allows the root of the account while a statement of the caller's own policies
+-- allows it, or a live grant of the key allows it; a question about no key goes by the caller's own policies alone; a grant is retired by the root, its
+-- retiring principal, and its grantee where RetireGrant is among its operations
 abbrev pub PassesWhereStatementsAllow : Type 0
 PassesWhereStatementsAllow =
     (view : View) (questions : List Question) → AreIdentityPolicies (setting_of view).policies → (denied view questions ≡ None) ↔ All (MayAsk view) questions
@@ -177,4 +180,9 @@ pub record IsFirstDenied (view : View) (questions : List Question) (q : Question
 abbrev pub NamesTheFirstDenied : Type 0
 NamesTheFirstDenied =
     (view : View) (questions : List Question) (why : Refusal) → AreIdentityPolicies (setting_of view).policies → denied view questions ≡ Some why
-    → (q : Question) × IsFirstDenied view questions q × (why ≡ refusal.AccessDenied view.caller q.action (resource_of view q.key))
+    → (q : Question) × IsFirstDenied view questions q × (why ≡ refusal.AccessDenied view.caller (action_of q) (resource_of view q))
+
+-- and a grant allows what some grant of the key, with the caller as its grantee, permits: the operation is among its own and its constraint holds of the
+-- encryption context, or for CreateGrant the new grant has no further operation and a constraint as strict
+abbrev pub GrantsPermit : Type 0
+GrantsPermit = (view : View) (action : Action) (key : List ℕ) (said : Particulars) → IsTrue (granted view action key said) ↔ IsGranted view action key said

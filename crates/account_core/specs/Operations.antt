@@ -11,6 +11,12 @@ use Rattle.account_core.specs.Keys.{creates_key, describes_key}
 use Rattle.account_core.specs.Policies.{puts_policy, gets_policy}
 use Rattle.account_core.specs.declared.key_changes.KeyChange.TheVariants as change
 use Rattle.account_core.specs.KeyChanges.{changes_key, updates_description, gets_rotation_status}
+use Rattle.account_core.specs.declared.alias_changes.AliasChange.TheVariants as alias
+use Rattle.account_core.specs.Aliases.{changes_alias}
+use Rattle.account_core.specs.Grants.{creates_grant, retires_grant, revokes_grant}
+use Rattle.account_core.specs.declared.lists.AccountList.TheVariants as all
+use Rattle.account_core.specs.declared.lists.KeyList.TheVariants as of
+use Rattle.account_core.specs.Lists.{lists_in, lists_on}
 use Rattle.account_core.specs.Crypto.{encrypts, decrypts, re_encrypts, generates_data_key, generates_sealed_data_key, generates_random}
 
 -- those that change the account
@@ -25,10 +31,22 @@ change_outcome view (changing.CancelKeyDeletion key_id) = outcome view (changes_
 change_outcome view (changing.EnableKeyRotation key_id period) = outcome view (changes_key view key_id (change.RotateEvery period))
 change_outcome view (changing.DisableKeyRotation key_id) = outcome view (changes_key view key_id change.RotateNoMore)
 change_outcome view (changing.RotateKeyOnDemand key_id) = outcome view (changes_key view key_id change.RotateNow)
+change_outcome view (changing.CreateAlias name key_id) = outcome view (changes_alias view name (alias.Create key_id))
+change_outcome view (changing.UpdateAlias name key_id) = outcome view (changes_alias view name (alias.Update key_id))
+change_outcome view (changing.DeleteAlias name) = outcome view (changes_alias view name alias.Delete)
+change_outcome view (changing.CreateGrant x) = outcome view (creates_grant view x)
+change_outcome view (changing.RetireGrant grant dry_run) = outcome view (retires_grant view grant dry_run)
+change_outcome view (changing.RevokeGrant key_id grant_id dry_run) = outcome view (revokes_grant view key_id grant_id dry_run)
 
 -- those that don't
 abbrev pub read_outcome : View → Reading → Result Outcome Refusal
-read_outcome view (reading.DescribeKey key_id) = outcome view (describes_key view key_id)
+read_outcome view (reading.DescribeKey key_id tokens) = outcome view (describes_key view key_id tokens)
+read_outcome view (reading.ListKeys page) = outcome view (lists_in view all.Keys page)
+read_outcome view (reading.ListAliases key_id page) = outcome view (lists_in view (all.Aliases key_id) page)
+read_outcome view (reading.ListRetirableGrants retiring page) = outcome view (lists_in view (all.RetirableGrants retiring) page)
+read_outcome view (reading.ListKeyPolicies key_id page) = outcome view (lists_on view key_id of.Policies page)
+read_outcome view (reading.ListKeyRotations key_id page) = outcome view (lists_on view key_id of.Rotations page)
+read_outcome view (reading.ListGrants x) = outcome view (lists_on view x.key_id (of.Grants x.grant_id x.grantee) x.page)
 read_outcome view (reading.GetKeyPolicy key_id) = outcome view (gets_policy view key_id)
 read_outcome view (reading.GetKeyRotationStatus key_id) = outcome view (gets_rotation_status view key_id)
 read_outcome view (reading.Encrypt x) = outcome view (encrypts view x)

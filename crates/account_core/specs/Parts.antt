@@ -1,5 +1,12 @@
 -- The steps of a decision in their order. Each operation says its own parts of them; the order is written here alone.
-use Rattle.std.specs.Prelude.{ℕ, ◌+◌, ◌^◌, List, [], ◌∷◌, length, ◌&&◌, nat_le, nat_lt, Bool, if◌then◌else◌, Option, Some, None, Result, Ok, Err}
+use Rattle.std.specs.Prelude.{ℕ, ◌+◌, ◌^◌, List, [], ◌∷◌, length, filter, ◌&&◌, nat_le, nat_lt, Bool, if◌then◌else◌, Option, Some, None, is_some, option_and_then, Result, Ok, Err}
+use Rattle.std.specs.List.{list_all}
+use Rattle.std.specs.Result.{result_ok}
+use Rattle.std.specs.Str.{bytes_eq}
+use Rattle.hex.specs.Hex.{encode_lower, decode_sized}
+use Rattle.alias_map.specs.Aliases.{row_named}
+use Rattle.grant_table.specs.declared.rows.GrantRow.{GrantRow}
+use Rattle.grant_table.specs.Grants.{is_of_key}
 use Rattle.kms_names.specs.declared.actions.Action.{Action}
 use Rattle.kms_json.specs.declared.replies.Reply.{Reply}
 use Rattle.kms_json.specs.declared.replies.Reply.TheVariants.{Refused}
@@ -24,7 +31,7 @@ use Rattle.account_core.specs.declared.places.Uses.{Uses}
 use Rattle.account_core.specs.Places.{Places}
 use Rattle.account_core.specs.Steps.{unless, and_then, or_else, arn_of}
 use Rattle.account_core.specs.Authority.{Question, denied}
-use Rattle.account_core.specs.View.{View}
+use Rattle.account_core.specs.View.{View, grant_held}
 
 -- a key whose state counts, for this action
 pub record Use : Type 0 where
@@ -47,11 +54,23 @@ pub record Parts (F R : Type 0) : Type 0 where
   pub dry_run : Bool
   pub reply : F → R → Reply
 
--- ---- the step that doesn't refuse yet
+-- ---- grant tokens
 
--- grant tokens: none is taken
+-- the id that a text of 64 lower-case hexadecimal digits writes
+abbrev pub if_written : List ℕ → Option (List ℕ) → Option (List ℕ)
+if_written text None = None
+if_written text (Some id) = if bytes_eq (encode_lower id) text then Some id else None
+
+unfoldable pub grant_id_of : List ℕ → Option (List ℕ)
+grant_id_of text = if_written text (result_ok (decode_sized text 32))
+
+-- the live grant whose token a text is: the text of the grant's id
+abbrev pub grant_of_token : View → List ℕ → Option GrantRow
+grant_of_token view token = option_and_then (grant_held view) (grant_id_of token)
+
+-- the refusal of tokens, unless each is that of a live grant
 abbrev pub dead_token : View → List (List ℕ) → Option Refusal
-dead_token view tokens = None
+dead_token view tokens = if list_all (λ (token : List ℕ). is_some (grant_of_token view token)) tokens then None else Some refusal.InvalidGrantToken
 
 -- ---- key states
 
@@ -97,6 +116,17 @@ abbrev pub rotations_full : Option KeyRow → Option Refusal
 rotations_full None = None
 rotations_full (Some row) = if nat_le 10 row.on_demand then Some (refusal.LimitExceeded limit.Rotations) else None
 
+-- an alias that is there is put in its place; there are 10,000 aliases
+abbrev pub aliases_full : View → List ℕ → Option Refusal
+aliases_full view name = if is_some (row_named view.aliases name) then None else (if nat_le 10000 (length view.aliases) then Some (refusal.LimitExceeded limit.Aliases) else None)
+
+-- a key has 5,000 grants at most, and all keys together 50,000
+abbrev pub grants_full : View → List ℕ → Option Refusal
+grants_full view key =
+    if nat_le 5000 (length (filter (is_of_key key) view.grants)) then Some (refusal.LimitExceeded limit.KeyGrants)
+    else if nat_le 50000 (length view.grants) then Some (refusal.LimitExceeded limit.Grants)
+    else None
+
 -- what the entry would add to
 abbrev pub full : View → What → Option Refusal
 full view (what.CreateKey key description policy) = keys_full (length view.keys)
@@ -109,6 +139,10 @@ full view (what.RotationOff key) = None
 full view (what.RotateNow key) = rotations_full (key_with view.keys key)
 full view (what.Policy key text) = None
 full view (what.Description key text) = None
+full view (what.AliasPut name key) = aliases_full view name
+full view (what.AliasDrop name) = None
+full view (what.GrantAdd grant key grantee retiring operations constraint name) = grants_full view key
+full view (what.GrantDrop grant) = None
 full view what.House = None
 
 -- there are 1,000,000 entries

@@ -10,14 +10,13 @@ use Rattle.policy_doc.specs.declared.faults.PolicyFault.{PolicyFault}
 use Rattle.policy_doc.specs.declared.faults.PolicyFault.TheVariants as fault
 use Rattle.policy_doc.specs.declared.policies.Policy.{Policy}
 use Rattle.authority.specs.KeyPolicy.{fault_in, policy_in}
-use Rattle.authority.specs.Allowed.{is_allowed}
 use Rattle.account_rows.specs.declared.entries.What.TheVariants as what
 use Rattle.key_states.specs.declared.rows.KeyRow.{KeyRow}
 use Rattle.account_core.specs.declared.stops.Stop.{Stop}
 use Rattle.account_core.specs.declared.stops.Stop.TheVariants as stop
 use Rattle.account_core.specs.Places.{nothing_used}
-use Rattle.account_core.specs.Steps.{unless, only_key_of, arn_of}
-use Rattle.account_core.specs.Authority.{setting_of, of_key, of_policy}
+use Rattle.account_core.specs.Steps.{unless, only_key_of}
+use Rattle.account_core.specs.Authority.{on_key, may_on_key, of_key}
 use Rattle.account_core.specs.View.{View}
 use Rattle.account_core.specs.Parts.{Parts, takes, appends}
 
@@ -44,8 +43,7 @@ IsStopAt first stop.NoMemory = Unit {0}
 
 -- with this policy in place the caller may put the key's policy again
 unfoldable pub may_put_again : View → Policy → List ℕ → Bool
-may_put_again view policy key =
-    is_allowed (setting_of view) (Some policy) (record { action = action.PutKeyPolicy; resource = arn_of view.facts key; particulars = of_policy false })
+may_put_again view policy key = may_on_key view policy action.PutKeyPolicy key (record (of_key view key) { bypass = Some false })
 
 -- the lockout check, which may be passed over
 abbrev pub locked_out : View → Policy → List ℕ → Bool → Option Refusal
@@ -64,7 +62,7 @@ policy_refused view key text bypass = refused_by (fault_in text) (locked_out vie
 abbrev pub puts_policy : View → List ℕ → List ℕ → Bool → Parts KeyRow ⊤
 puts_policy view reference text bypass = record {
   found = only_key_of view reference;
-  questions = λ row. record { action = action.PutKeyPolicy; key = Some row; particulars = of_policy bypass } ∷ [];
+  questions = λ row. on_key action.PutKeyPolicy row (record (of_key view row.key) { bypass = Some bypass }) ∷ [];
   tokens = [];
   uses = λ row. record { action = action.PutKeyPolicy; key = row } ∷ [];
   own = λ row. unless (policy_refused view row.key text bypass) (Ok tt);
@@ -77,7 +75,7 @@ puts_policy view reference text bypass = record {
 abbrev pub gets_policy : View → List ℕ → Parts KeyRow ⊤
 gets_policy view reference = record {
   found = only_key_of view reference;
-  questions = λ row. record { action = action.GetKeyPolicy; key = Some row; particulars = of_key } ∷ [];
+  questions = λ row. on_key action.GetKeyPolicy row (of_key view row.key) ∷ [];
   tokens = [];
   uses = λ row. record { action = action.GetKeyPolicy; key = row } ∷ [];
   own = λ row. Ok tt;

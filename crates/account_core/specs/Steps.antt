@@ -6,7 +6,7 @@ use Rattle.draw_lines.specs.Iv.{iv_at}
 use Rattle.enc_context.specs.declared.pairs.Pair.{Pair}
 use Rattle.crypto_ops.specs.Sealed.{sealed, opened}
 use Rattle.kms_names.specs.Reading.{key_ref_of}
-use Rattle.kms_names.specs.Reference.{key_arn_text}
+use Rattle.kms_names.specs.Reference.{key_arn_text, alias_arn_text}
 use Rattle.kms_names.specs.declared.faults.NameFault.{NameFault}
 use Rattle.kms_names.specs.declared.faults.NameFault.TheVariants as fault
 use Rattle.kms_names.specs.declared.references.KeyRef.{KeyRef}
@@ -25,7 +25,8 @@ use Rattle.account_core.specs.Blobs.{BlobName, named_in}
 use Rattle.account_core.specs.Ids.{draw_seed}
 use Rattle.account_core.specs.Places.{Places}
 use Rattle.account_core.specs.Source.{Source}
-use Rattle.account_core.specs.View.{View, key_held}
+use Rattle.account_core.specs.View.{View, key_held, aliased}
+use Rattle.account_core.specs.declared.checks.Named.{Named}
 
 -- ---- one step after another
 
@@ -77,40 +78,71 @@ unfit (Some name) = if bytes_eq name (codes "SYMMETRIC_DEFAULT") then None else 
 abbrev pub unsupported : Bool → Unsupported → Option Refusal
 unsupported given field = if given then Some (refusal.UnsupportedOperation field) else None
 
--- the key that a text refers to: by its id, or by its ARN in this account and region. One that is gone isn't there. `alias` is the refusal of an alias
-abbrev pub key_referred : View → Refusal → Result KeyRef NameFault → Result KeyRow Refusal
-key_referred view alias (Ok (Key id)) = ok_or (key_held view id) (refusal.NotFound missing.Key)
-key_referred view alias (Ok (Alias name)) = Err alias
-key_referred view alias (Ok Elsewhere) = Err (refusal.NotFound missing.Key)
-key_referred view alias (Err fault.BadArn) = Err refusal.InvalidArn
-key_referred view alias (Err fault.BadAlias) = Err (refusal.NotFound missing.Alias)
-key_referred view alias (Err fault.BadId) = Err (refusal.NotFound missing.Key)
-key_referred view alias (Err fault.NoMemory) = Err (refusal.NotFound missing.Key)
+-- the key of an id, which no alias names
+abbrev pub named_by_id : KeyRow → Named
+named_by_id row = record { row = row; alias = None }
+
+abbrev pub named_by : List ℕ → KeyRow → Named
+named_by name row = record { row = row; alias = Some name }
+
+-- the key that an alias names. One whose key is gone isn't there
+abbrev pub key_of_alias : View → List ℕ → Result KeyRow Refusal
+key_of_alias view name = ok_or (aliased view name) (refusal.NotFound missing.Alias)
+
+abbrev pub named_by_alias : View → List ℕ → Result Named Refusal
+named_by_alias view name = and_then (key_of_alias view name) (λ row. Ok (named_by name row))
+
+-- the refusal of a text that refers to no key
+abbrev pub no_key : Result KeyRef NameFault → Refusal
+no_key (Ok (Key id)) = refusal.NotFound missing.Key
+no_key (Ok (Alias name)) = refusal.NotFound missing.Alias
+no_key (Ok Elsewhere) = refusal.NotFound missing.Key
+no_key (Err fault.BadArn) = refusal.InvalidArn
+no_key (Err fault.BadAlias) = refusal.NotFound missing.Alias
+no_key (Err fault.BadId) = refusal.NotFound missing.Key
+no_key (Err fault.NoMemory) = refusal.NotFound missing.Key
+
+-- the key that a text refers to: by its id, by an alias, or by the ARN of either in this account and region. One that is gone isn't there. `by_alias`
+-- says what an alias comes to
+abbrev pub key_referred : {A : Type 0} → View → (KeyRow → A) → (List ℕ → Result A Refusal) → Result KeyRef NameFault → Result A Refusal
+key_referred view by_id by_alias (Ok (Key id)) = and_then (ok_or (key_held view id) (no_key (Ok (Key id)))) (λ row. Ok (by_id row))
+key_referred view by_id by_alias (Ok (Alias name)) = by_alias name
+key_referred view by_id by_alias (Ok Elsewhere) = Err (no_key (Ok Elsewhere))
+key_referred view by_id by_alias (Err why) = Err (no_key (Err why))
 
 abbrev pub reference_of : RealmFacts → List ℕ → Result KeyRef NameFault
 reference_of facts reference = key_ref_of reference facts.account facts.region
 
--- where an alias may stand there is none yet
-unfoldable pub key_of : View → List ℕ → Result KeyRow Refusal
-key_of view reference = key_referred view (refusal.NotFound missing.Alias) (reference_of view.facts reference)
+-- where an alias may stand: the key, and the alias that names it, if any
+unfoldable pub key_of : View → List ℕ → Result Named Refusal
+key_of view reference = key_referred view named_by_id (named_by_alias view) (reference_of view.facts reference)
 
 -- where a key is wanted an alias is refused
 unfoldable pub only_key_of : View → List ℕ → Result KeyRow Refusal
-only_key_of view reference = key_referred view refusal.InvalidArn (reference_of view.facts reference)
+only_key_of view reference = key_referred view (λ row. row) (λ name. Err refusal.InvalidArn) (reference_of view.facts reference)
 
 -- the key that a reference names, where one is given
-abbrev pub key_if_given : View → Option (List ℕ) → Result (Option KeyRow) Refusal
+abbrev pub key_if_given : View → Option (List ℕ) → Result (Option Named) Refusal
 key_if_given view None = Ok None
-key_if_given view (Some reference) = and_then (key_of view reference) (λ row. Ok (Some row))
+key_if_given view (Some reference) = and_then (key_of view reference) (λ named. Ok (Some named))
 
 -- a reference that is given names the key of the blob
-abbrev pub other_key : Option KeyRow → List ℕ → Option Refusal
+abbrev pub other_key : Option Named → List ℕ → Option Refusal
 other_key None key = None
-other_key (Some row) key = if bytes_eq row.key key then None else Some refusal.IncorrectKey
+other_key (Some named) key = if bytes_eq named.row.key key then None else Some refusal.IncorrectKey
+
+-- the alias that the request names a key by
+abbrev pub alias_of : Option Named → Option (List ℕ)
+alias_of None = None
+alias_of (Some named) = named.alias
 
 -- the ARN of a key
 abbrev pub arn_of : RealmFacts → List ℕ → List ℕ
 arn_of facts key = key_arn_text facts.account facts.region key
+
+-- the ARN of an alias
+abbrev pub alias_arn_of : RealmFacts → List ℕ → List ℕ
+alias_arn_of facts name = alias_arn_text facts.account facts.region name
 
 -- the key of a blob; one that isn't there is refused as to a caller who may not use it
 abbrev pub held_key : View → Action → List ℕ → Result KeyRow Refusal
@@ -124,16 +156,16 @@ name_of blob = record { key = blob.key; version = blob.version }
 abbrev pub blob_name : List ℕ → Result BlobName Refusal
 blob_name blob = ok_or (named_in blob) refusal.InvalidCiphertext
 
-abbrev pub source_in : View → Action → List ℕ → BlobName → Result Source Refusal
-source_in view action blob name =
-    and_then (held_key view action name.key) (λ row. Ok (record { row = row; version = name.version; bytes = blob }))
+abbrev pub source_in : View → Action → Option (List ℕ) → List ℕ → BlobName → Result Source Refusal
+source_in view action alias blob name =
+    and_then (held_key view action name.key) (λ row. Ok (record { row = row; alias = alias; version = name.version; bytes = blob }))
 
 -- the reference is looked up, then the blob is read, then the two are compared, then the blob's key is looked up
 abbrev pub source_of : View → Action → Option (List ℕ) → List ℕ → Result Source Refusal
 source_of view action reference blob =
     and_then (key_if_given view reference)
     (λ named. and_then (blob_name blob)
-    (λ name. unless (other_key named name.key) (source_in view action blob name)))
+    (λ name. unless (other_key named name.key) (source_in view action (alias_of named) blob name)))
 
 -- versions are counted from 1
 abbrev pub newest_version : KeyRow → ℕ

@@ -1,5 +1,5 @@
 -- What every step of a decision goes by.
-use Rattle.std.specs.Prelude.{ℕ, List, length, Option, Some, None, if◌then◌else◌}
+use Rattle.std.specs.Prelude.{ℕ, List, length, Bool, Option, Some, None, is_some, option_and_then, if◌then◌else◌}
 use Rattle.kms_names.specs.declared.principals.Principal.{Principal}
 use Rattle.kms_json.specs.declared.asks.Ask.{Ask}
 use Rattle.account_core.specs.declared.facts.RealmFacts.{RealmFacts}
@@ -8,12 +8,19 @@ use Rattle.key_states.specs.declared.rows.KeyRow.{KeyRow}
 use Rattle.account_rows.specs.History.{replay, moment_of, key_with}
 use Rattle.account_rows.specs.Changes.{is_gone}
 use Rattle.account_rows.specs.Sizes.{bytes_in}
+use Rattle.alias_map.specs.declared.rows.AliasRow.{AliasRow}
+use Rattle.alias_map.specs.Aliases.{row_named}
+use Rattle.grant_table.specs.declared.rows.GrantRow.{GrantRow}
+use Rattle.grant_table.specs.Grants.{grant_with}
 use Rattle.account_core.specs.Places.{Places}
 
--- the facts, the rows of keys, the place of the next entry, the bytes that entries count, the moment, who asks, and the places of the pass that asks
+-- the facts, the rows of keys, aliases and grants, the place of the next entry, the bytes that entries count, the moment, who asks, and the places
+-- of the pass that asks
 pub record View : Type 0 where
   pub facts : RealmFacts
   pub keys : List KeyRow
+  pub aliases : List AliasRow
+  pub grants : List GrantRow
   pub place : ℕ
   pub bytes : ℕ
   pub moment : ℕ
@@ -25,6 +32,8 @@ abbrev pub view_of : RealmFacts → List Entry → Ask → Places → View
 view_of facts history x places = record {
   facts = facts;
   keys = (replay history).keys;
+  aliases = (replay history).aliases;
+  grants = (replay history).grants;
   place = length history;
   bytes = bytes_in history;
   moment = moment_of history x.moment;
@@ -40,3 +49,18 @@ unless_gone moment (Some row) = if is_gone moment row then None else Some row
 -- the key of an id
 abbrev pub key_held : View → List ℕ → Option KeyRow
 key_held view id = unless_gone view.moment (key_with view.keys id)
+
+-- the key that an alias names
+abbrev pub aliased : View → List ℕ → Option KeyRow
+aliased view name = option_and_then (λ (row : AliasRow). key_held view row.key) (row_named view.aliases name)
+
+-- a grant is live where its key is there
+abbrev pub is_live : View → GrantRow → Bool
+is_live view grant = is_some (key_held view grant.key)
+
+abbrev pub if_live : View → GrantRow → Option GrantRow
+if_live view grant = if is_live view grant then Some grant else None
+
+-- the live grant of an id
+abbrev pub grant_held : View → List ℕ → Option GrantRow
+grant_held view id = option_and_then (if_live view) (grant_with view.grants id)

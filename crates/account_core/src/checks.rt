@@ -1,18 +1,17 @@
 // The checks that operations share.
 ghost use Rattle.std.specs.Prelude.{◌≡◌};
-ghost use Rattle.std.specs.Prelude.{◌≢◌, ok_or, Err, IfOk, OnOk};
+ghost use Rattle.std.specs.Prelude.{◌≢◌, Err, IfOk, OnOk};
 ghost use Rattle.kms_names.specs.declared.faults.NameFault.TheVariants as fault;
-ghost use Rattle.account_core.specs.Steps.{Gives, unfit, unsupported, key_referred, reference_of, key_of, only_key_of, key_if_given, other_key};
+ghost use Rattle.account_core.specs.Steps.{Gives, unfit, unsupported, no_key, named_by_id, named_by_alias, key_referred, reference_of, key_of, only_key_of, key_of_alias, key_if_given, other_key};
 ghost use Rattle.kms_json.specs.declared.refusals.Refusal.TheVariants as refusal;
-ghost use Rattle.kms_json.specs.declared.refusals.Missing.TheVariants as missing;
-ghost use Rattle.account_core.specs.View.{key_held};
+ghost use Rattle.account_core.specs.declared.stops.Stop.TheVariants as stop;
 
 use crate::facts::RealmFacts;
 use crate::stops::Stop;
 use crate::view::View;
 use account_rows::{Lent, same_key};
 use kms_json::{Missing, Refusal, SYMMETRIC_DEFAULT, Unsupported};
-use kms_names::{KeyId, KeyRef, NameFault, NoMemory, Text, read_key_ref};
+use kms_names::{AliasName, KeyId, KeyRef, NameFault, NoMemory, Text, read_key_ref};
 use std::alloc::Global;
 
 /// The refusal of an algorithm that isn't the one of symmetric keys.
@@ -36,32 +35,64 @@ pub fn unsupported(given: bool, field: Unsupported) -> Option<Refusal>
     }
 }
 
-// The key of an id.
-fn key_there<'a>(view: &View<'a>, key: &KeyId) -> Result<Lent<'a>, Stop>
-    ensures { Gives (ok_or (key_held view.now key.now) (refusal.NotFound missing.Key)) result }
+/// A key, and the alias that a request names it by, if any.
+#[derive(Drop)]
+pub struct Named<'a> {
+    /// The key.
+    pub row: Lent<'a>,
+    /// The alias.
+    pub alias: Option<AliasName>,
+}
+
+// The refusal of a text that refers to no key of the account.
+fn refused(reference: &Result<KeyRef, NameFault>) -> Stop
+    ensures { result ≡ stop.Refused (no_key reference.now) }
 {
-    match view.key(key) {
-        Some(lent) => Ok(lent),
-        None => Err(Stop::Refused(Refusal::NotFound(Missing::Key))),
+    Stop::Refused(match reference {
+        Err(NameFault::BadArn) => Refusal::InvalidArn,
+        Ok(KeyRef::Alias(_)) | Err(NameFault::BadAlias) => Refusal::NotFound(Missing::Alias),
+        Ok(KeyRef::Key(_) | KeyRef::Elsewhere) | Err(NameFault::BadId | NameFault::NoMemory) => {
+            Refusal::NotFound(Missing::Key)
+        }
+    })
+}
+
+// The key that a text refers to, with the alias.
+fn key_named<'a>(view: &View<'a>, reference: Result<KeyRef, NameFault>) -> Result<Named<'a>, Stop>
+    ensures { Gives (key_referred view.now named_by_id (named_by_alias view.now) reference) result }
+{
+    let found = match &reference {
+        Ok(KeyRef::Key(key)) => view.key(key),
+        Ok(KeyRef::Alias(name)) => view.aliased(name),
+        _ => None,
+    };
+    let Some(row) = found else {
+        return Err(refused(&reference));
+    };
+    match reference {
+        Ok(KeyRef::Alias(name)) => Ok(Named {
+            row,
+            alias: Some(name),
+        }),
+        _ => Ok(Named { row, alias: None }),
     }
 }
 
 // The key that a text refers to; an alias is refused.
-fn key_referred<'a>(
+fn only_key<'a>(
     view: &View<'a>,
-    alias: Refusal,
     reference: &Result<KeyRef, NameFault>,
 ) -> Result<Lent<'a>, Stop>
-    ensures { Gives (key_referred view.now alias reference.now) result }
+    ensures { Gives (key_referred view.now (λ row. row) (λ _. Err refusal.InvalidArn) reference.now) result }
 {
-    match reference {
-        Ok(KeyRef::Key(key)) => key_there(view, key),
-        Ok(KeyRef::Alias(_)) => Err(Stop::Refused(alias)),
-        Err(NameFault::BadArn) => Err(Stop::Refused(Refusal::InvalidArn)),
-        Err(NameFault::BadAlias) => Err(Stop::Refused(Refusal::NotFound(Missing::Alias))),
-        Ok(KeyRef::Elsewhere) | Err(NameFault::BadId | NameFault::NoMemory) => {
-            Err(Stop::Refused(Refusal::NotFound(Missing::Key)))
-        }
+    let found = match reference {
+        Ok(KeyRef::Key(key)) => view.key(key),
+        Ok(KeyRef::Alias(_)) => return Err(Stop::Refused(Refusal::InvalidArn)),
+        _ => None,
+    };
+    match found {
+        Some(row) => Ok(row),
+        None => Err(refused(reference)),
     }
 }
 
@@ -93,11 +124,11 @@ fn reference_of(
 }
 
 /// The key that a reference names, where an alias may stand.
-pub fn key_of<'a>(alloc: Global, view: &View<'a>, reference: &Text) -> Result<Lent<'a>, Stop>
+pub fn key_of<'a>(alloc: Global, view: &View<'a>, reference: &Text) -> Result<Named<'a>, Stop>
     ensures { Gives (key_of view.now reference.now) result }
 {
     let read = reference_of(alloc, view.facts(), reference)?;
-    key_referred(view, Refusal::NotFound(Missing::Alias), &read)
+    key_named(view, read)
 }
 
 /// The key that a reference names, where an alias may not stand.
@@ -105,7 +136,17 @@ pub fn only_key_of<'a>(alloc: Global, view: &View<'a>, reference: &Text) -> Resu
     ensures { Gives (only_key_of view.now reference.now) result }
 {
     let read = reference_of(alloc, view.facts(), reference)?;
-    key_referred(view, Refusal::InvalidArn, &read)
+    only_key(view, &read)
+}
+
+/// The key that an alias names.
+pub fn key_of_alias<'a>(view: &View<'a>, name: &AliasName) -> Result<Lent<'a>, Stop>
+    ensures { Gives (key_of_alias view.now name.now) result }
+{
+    match view.aliased(name) {
+        Some(row) => Ok(row),
+        None => Err(Stop::Refused(Refusal::NotFound(Missing::Alias))),
+    }
 }
 
 /// The key that a reference names, where one is given.
@@ -113,7 +154,7 @@ pub fn key_if_given<'a>(
     alloc: Global,
     view: &View<'a>,
     reference: &Option<Text>,
-) -> Result<Option<Lent<'a>>, Stop>
+) -> Result<Option<Named<'a>>, Stop>
     ensures { Gives (key_if_given view.now reference.now) result }
 {
     match reference {
@@ -123,11 +164,11 @@ pub fn key_if_given<'a>(
 }
 
 /// The refusal of a reference to another key than the blob's.
-pub fn other_key(named: &Option<Lent<'_>>, key: &KeyId) -> Option<Refusal>
+pub fn other_key(named: &Option<Named<'_>>, key: &KeyId) -> Option<Refusal>
     ensures { result ≡ other_key named.now key.now }
 {
     match named {
-        Some(lent) if !same_key(&lent.row().key, key) => Some(Refusal::IncorrectKey),
+        Some(named) if !same_key(&named.row.row().key, key) => Some(Refusal::IncorrectKey),
         _ => None,
     }
 }

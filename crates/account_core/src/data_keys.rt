@@ -2,7 +2,7 @@
 ghost use Rattle.std.specs.Prelude.{◌≤◌};
 ghost use Rattle.account_core.specs.Crypto.{generates_data_key, generates_sealed_data_key};
 
-use crate::checks::{key_of, unsupported};
+use crate::checks::{Named, key_of, unsupported};
 use crate::crypto::{draw, seal};
 use crate::particulars::of_context;
 use crate::parts::{Operation, Reads, refuse};
@@ -12,7 +12,7 @@ use crate::view::View;
 use account_rows::Lent;
 use draw_lines::DrawLine;
 use kms_json::{DataKey, Reply, Unsupported};
-use kms_names::{Action, Bytes, NoMemory};
+use kms_names::{Action, Bytes, NoMemory, Text};
 use std::alloc::Global;
 
 // The most bytes of a data key.
@@ -30,8 +30,9 @@ pub struct Drawing<'a> {
 }
 
 impl<'a> Drawing<'a> {
-    ghost use Rattle.std.specs.Prelude.{◌≡◌, ◌≤◌, ◌∷◌, [], IfOk, length, None, Some};
-    ghost use Rattle.account_core.specs.Authority.{denied, of_context};
+    ghost use Rattle.std.specs.Prelude.{◌≡◌, ◌≤◌, ◌∷◌, [], IfOk, length, None};
+    ghost use Rattle.account_core.specs.Authority.{denied, on_key};
+    ghost use Rattle.account_core.specs.Crypto.{of_context};
     ghost use Rattle.account_core.specs.Places.{places_of, line_at, IsLineOf};
     ghost use Rattle.account_core.specs.Parts.{after, takes, spent};
     ghost use Rattle.account_core.specs.Steps.{Passes, draws};
@@ -48,11 +49,12 @@ impl<'a> Drawing<'a> {
     }
 
     // Whether the caller may have such a data key.
-    fn authorize(&self, alloc: Global, action: Action, lent: &Lent<'a>) -> Result<(), Stop>
-        ensures { Passes (denied self.now.view.now (record { action = action; key = Some lent.now; particulars = of_context self.now.x.now.context } ∷ [])) result }
+    fn authorize(&self, alloc: Global, action: Action, named: &Named<'a>) -> Result<(), Stop>
+        ensures { Passes (denied self.now.view.now (on_key action named.now.row (of_context self.now.view.now named.now.row.key named.now.alias self.now.x.now.context) ∷ [])) result }
     {
-        let particulars = of_context(&self.x.context);
-        self.view.authorize_on(alloc, action, lent, &particulars)
+        let key = &named.row.row().key;
+        let said = of_context(self.view, key, &named.alias, &self.x.context);
+        self.view.authorize_on(alloc, action, &named.row, &said)
     }
 
     // Draws the data key into a room of its size, and seals it.
@@ -86,7 +88,7 @@ pub struct GeneratingDataKey<'a> {
 }
 
 impl<'a> Operation for GeneratingDataKey<'a> {
-    type Found = Lent<'a>;
+    type Found = Named<'a>;
 
     type Ready = ();
 
@@ -98,21 +100,25 @@ impl<'a> Operation for GeneratingDataKey<'a> {
         self.drawing.view
     }
 
-    fn find(&self, alloc: Global) -> Result<Lent<'a>, Stop> {
+    fn find(&self, alloc: Global) -> Result<Named<'a>, Stop> {
         key_of(alloc, self.drawing.view, &self.drawing.x.key_id)
     }
 
-    fn authorize(&self, alloc: Global, found: &Lent<'a>) -> Result<(), Stop> {
+    fn authorize(&self, alloc: Global, found: &Named<'a>) -> Result<(), Stop> {
         self.drawing
             .authorize(alloc, Action::GenerateDataKey, found)
     }
 
-    fn fit(&self, alloc: Global, found: &Lent<'a>) -> Result<(), Stop> {
-        let view = self.drawing.view;
-        view.fit(alloc, Action::GenerateDataKey, found)
+    fn tokens(&self) -> &[Text] {
+        self.drawing.x.grant_tokens.as_slice()
     }
 
-    fn own(&self, _alloc: Global, _found: &Lent<'a>) -> Result<(), Stop> {
+    fn fit(&self, alloc: Global, found: &Named<'a>) -> Result<(), Stop> {
+        let view = self.drawing.view;
+        view.fit(alloc, Action::GenerateDataKey, &found.row)
+    }
+
+    fn own(&self, _alloc: Global, _found: &Named<'a>) -> Result<(), Stop> {
         refuse(unsupported(self.recipient, Unsupported::Recipient))
     }
 
@@ -129,14 +135,14 @@ impl<'a> Reads for GeneratingDataKey<'a> {
     fn serve(
         &self,
         alloc: Global,
-        found: Lent<'a>,
+        found: Named<'a>,
         _ready: (),
         line: &mut DrawLine,
     ) -> Result<Reply, NoMemory> {
-        let arn = self.drawing.view.arn(alloc, &found.row().key)?;
+        let arn = self.drawing.view.arn(alloc, &found.row.row().key)?;
         let mut room = [0; LONGEST];
         let plain = &mut room[..self.drawing.x.size as usize];
-        let blob = self.drawing.seal(alloc, &found, plain, line)?;
+        let blob = self.drawing.seal(alloc, &found.row, plain, line)?;
         let plaintext = Bytes::from_slice(alloc, plain)?;
         Ok(Reply::DataKey {
             blob,
@@ -154,7 +160,7 @@ pub struct GeneratingSealedDataKey<'a> {
 }
 
 impl<'a> Operation for GeneratingSealedDataKey<'a> {
-    type Found = Lent<'a>;
+    type Found = Named<'a>;
 
     type Ready = ();
 
@@ -166,21 +172,25 @@ impl<'a> Operation for GeneratingSealedDataKey<'a> {
         self.drawing.view
     }
 
-    fn find(&self, alloc: Global) -> Result<Lent<'a>, Stop> {
+    fn find(&self, alloc: Global) -> Result<Named<'a>, Stop> {
         key_of(alloc, self.drawing.view, &self.drawing.x.key_id)
     }
 
-    fn authorize(&self, alloc: Global, found: &Lent<'a>) -> Result<(), Stop> {
+    fn authorize(&self, alloc: Global, found: &Named<'a>) -> Result<(), Stop> {
         self.drawing
             .authorize(alloc, Action::GenerateDataKeyWithoutPlaintext, found)
     }
 
-    fn fit(&self, alloc: Global, found: &Lent<'a>) -> Result<(), Stop> {
-        let view = self.drawing.view;
-        view.fit(alloc, Action::GenerateDataKeyWithoutPlaintext, found)
+    fn tokens(&self) -> &[Text] {
+        self.drawing.x.grant_tokens.as_slice()
     }
 
-    fn own(&self, _alloc: Global, _found: &Lent<'a>) -> Result<(), Stop> {
+    fn fit(&self, alloc: Global, found: &Named<'a>) -> Result<(), Stop> {
+        let view = self.drawing.view;
+        view.fit(alloc, Action::GenerateDataKeyWithoutPlaintext, &found.row)
+    }
+
+    fn own(&self, _alloc: Global, _found: &Named<'a>) -> Result<(), Stop> {
         Ok(())
     }
 
@@ -197,14 +207,14 @@ impl<'a> Reads for GeneratingSealedDataKey<'a> {
     fn serve(
         &self,
         alloc: Global,
-        found: Lent<'a>,
+        found: Named<'a>,
         _ready: (),
         line: &mut DrawLine,
     ) -> Result<Reply, NoMemory> {
-        let arn = self.drawing.view.arn(alloc, &found.row().key)?;
+        let arn = self.drawing.view.arn(alloc, &found.row.row().key)?;
         let mut room = [0; LONGEST];
         let plain = &mut room[..self.drawing.x.size as usize];
-        let blob = self.drawing.seal(alloc, &found, plain, line)?;
+        let blob = self.drawing.seal(alloc, &found.row, plain, line)?;
         Ok(Reply::SealedDataKey { blob, arn })
     }
 }

@@ -10,7 +10,7 @@ use crate::stops::Stop;
 use crate::view::View;
 use draw_lines::DrawLine;
 use kms_json::{Decrypt, Reply, Unsupported};
-use kms_names::{Action, Bytes, NoMemory};
+use kms_names::{Action, Bytes, NoMemory, Text};
 use std::alloc::Global;
 
 /// Decrypt.
@@ -46,9 +46,13 @@ impl<'a> Operation for Decrypting<'a> {
     }
 
     fn authorize(&self, alloc: Global, found: &Sealed<'a>) -> Result<(), Stop> {
-        let particulars = of_context(&self.x.context);
+        let said = of_context(self.view, found.key(), found.alias(), &self.x.context);
         self.view
-            .authorize_on(alloc, Action::Decrypt, found.lent(), &particulars)
+            .authorize_on(alloc, Action::Decrypt, found.lent(), &said)
+    }
+
+    fn tokens(&self) -> &[Text] {
+        self.x.grant_tokens.as_slice()
     }
 
     fn fit(&self, alloc: Global, found: &Sealed<'a>) -> Result<(), Stop> {

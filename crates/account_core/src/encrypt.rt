@@ -2,17 +2,16 @@
 ghost use Rattle.std.specs.Prelude.{◌≤◌, length};
 ghost use Rattle.account_core.specs.Crypto.{encrypts};
 
-use crate::checks::{key_of, unfit};
+use crate::checks::{Named, key_of, unfit};
 use crate::crypto::{ONE_IV, seal};
 use crate::particulars::of_context;
 use crate::parts::{Operation, Reads, refuse};
 use crate::places::Uses;
 use crate::stops::Stop;
 use crate::view::View;
-use account_rows::Lent;
 use draw_lines::DrawLine;
 use kms_json::{Encrypt, Reply};
-use kms_names::{Action, NoMemory};
+use kms_names::{Action, NoMemory, Text};
 use std::alloc::Global;
 
 /// Encrypt of a text of 1 to 4,096 bytes.
@@ -27,7 +26,7 @@ pub struct Encrypting<'a> {
 }
 
 impl<'a> Operation for Encrypting<'a> {
-    type Found = Lent<'a>;
+    type Found = Named<'a>;
 
     type Ready = ();
 
@@ -39,21 +38,26 @@ impl<'a> Operation for Encrypting<'a> {
         self.view
     }
 
-    fn find(&self, alloc: Global) -> Result<Lent<'a>, Stop> {
+    fn find(&self, alloc: Global) -> Result<Named<'a>, Stop> {
         key_of(alloc, self.view, &self.x.key_id)
     }
 
-    fn authorize(&self, alloc: Global, found: &Lent<'a>) -> Result<(), Stop> {
-        let particulars = of_context(&self.x.context);
+    fn authorize(&self, alloc: Global, found: &Named<'a>) -> Result<(), Stop> {
+        let key = &found.row.row().key;
+        let said = of_context(self.view, key, &found.alias, &self.x.context);
         self.view
-            .authorize_on(alloc, Action::Encrypt, found, &particulars)
+            .authorize_on(alloc, Action::Encrypt, &found.row, &said)
     }
 
-    fn fit(&self, alloc: Global, found: &Lent<'a>) -> Result<(), Stop> {
-        self.view.fit(alloc, Action::Encrypt, found)
+    fn tokens(&self) -> &[Text] {
+        self.x.grant_tokens.as_slice()
     }
 
-    fn own(&self, _alloc: Global, _found: &Lent<'a>) -> Result<(), Stop> {
+    fn fit(&self, alloc: Global, found: &Named<'a>) -> Result<(), Stop> {
+        self.view.fit(alloc, Action::Encrypt, &found.row)
+    }
+
+    fn own(&self, _alloc: Global, _found: &Named<'a>) -> Result<(), Stop> {
         refuse(unfit(&self.x.algorithm))
     }
 
@@ -70,15 +74,15 @@ impl<'a> Reads for Encrypting<'a> {
     fn serve(
         &self,
         alloc: Global,
-        found: Lent<'a>,
+        found: Named<'a>,
         _ready: (),
         line: &mut DrawLine,
     ) -> Result<Reply, NoMemory> {
-        let arn = self.view.arn(alloc, &found.row().key)?;
+        let arn = self.view.arn(alloc, &found.row.row().key)?;
         let blob = seal(
             alloc,
             self.view,
-            &found,
+            &found.row,
             &self.x.context,
             self.x.plaintext.as_slice(),
             line,

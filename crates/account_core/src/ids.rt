@@ -1,11 +1,11 @@
-// Ids of what the history makes.
+// The ids of keys and grants, and the lines of passes.
 ghost use Rattle.std.specs.Prelude.{◌≡◌, ◌+◌, ◌≤◌, ◌++◌, length, take};
-ghost use Rattle.account_core.specs.Ids.{be48, key_id_at};
+ghost use Rattle.account_core.specs.Ids.{be48, key_id_at, grant_id_at};
 ghost use Rattle.account_core.specs.Places.{first_line};
 
 use crate::RealmFacts;
 use draw_lines::DrawLine;
-use kms_names::KeyId;
+use kms_names::{GrantId, KeyId};
 use mac_sha::Mac;
 
 // The six low bytes of a place, the greatest first.
@@ -40,6 +40,22 @@ pub fn key_id(facts: &RealmFacts, place: u64) -> KeyId
     write_at(&mut id, 0, &digest[..10]);
     write_at(&mut id, 10, &place);
     KeyId::new(id)
+}
+
+/// The id of the grant that the entry at this place makes. It takes no memory.
+pub fn grant_id(facts: &RealmFacts, place: u64) -> GrantId
+    ensures { result ≡ grant_id_at facts.now place }
+{
+    let place = place_bytes(place);
+    let mut mac = Mac::new(&facts.root);
+    mac.add(b"grant");
+    mac.add(&facts.boot.to_be_bytes());
+    mac.add(&place);
+    let digest = mac.end();
+    let mut id = [0; 32];
+    write_at(&mut id, 0, &digest[..26]);
+    write_at(&mut id, 26, &place);
+    GrantId::new(id)
 }
 
 /// The line of draws of the pass of this number, which has drawn nothing. It takes no memory.

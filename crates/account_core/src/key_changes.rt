@@ -4,7 +4,7 @@ ghost use Rattle.account_core.specs.KeyChanges.{action_of, said_of, effect_at, r
 ghost use Rattle.account_core.specs.Settling.{effect_with};
 
 use crate::checks::only_key_of;
-use crate::particulars::{of_key, of_period, of_window};
+use crate::particulars::of_key;
 use crate::parts::{Changes, Made, Operation, Reads};
 use crate::places::Uses;
 use crate::stops::Stop;
@@ -52,18 +52,24 @@ impl KeyChange {
         }
     }
 
-    // What it says to conditions.
-    fn particulars<'a>(self) -> Particulars<'a>
-        ensures { result ≡ said_of self }
+    // What it says to conditions, beside the key.
+    fn said<'a>(self, of_key: Particulars<'a>) -> Particulars<'a>
+        ensures { result ≡ said_of self of_key }
     {
         match self {
-            KeyChange::ScheduleDeletion { days } => of_window(days),
-            KeyChange::RotateEvery { period } => of_period(period),
+            KeyChange::ScheduleDeletion { days } => Particulars {
+                window: Some(days),
+                ..of_key
+            },
+            KeyChange::RotateEvery { period } => Particulars {
+                period: Some(period),
+                ..of_key
+            },
             KeyChange::Enable
             | KeyChange::Disable
             | KeyChange::CancelDeletion
             | KeyChange::RotateNoMore
-            | KeyChange::RotateNow => of_key(),
+            | KeyChange::RotateNow => of_key,
         }
     }
 }
@@ -149,8 +155,14 @@ impl<'a> Operation for ChangingKey<'a> {
 
     fn authorize(&self, alloc: Global, found: &Lent<'a>) -> Result<(), Stop> {
         let action = self.change.action();
-        let particulars = self.change.particulars();
-        self.view.authorize_on(alloc, action, found, &particulars)
+        let said = self
+            .change
+            .said(of_key(self.view, &found.row().key));
+        self.view.authorize_on(alloc, action, found, &said)
+    }
+
+    fn tokens(&self) -> &[Text] {
+        &[]
     }
 
     fn fit(&self, alloc: Global, found: &Lent<'a>) -> Result<(), Stop> {
@@ -205,8 +217,13 @@ impl<'a> Operation for UpdatingDescription<'a> {
     }
 
     fn authorize(&self, alloc: Global, found: &Lent<'a>) -> Result<(), Stop> {
+        let said = of_key(self.view, &found.row().key);
         self.view
-            .authorize_on(alloc, Action::UpdateKeyDescription, found, &of_key())
+            .authorize_on(alloc, Action::UpdateKeyDescription, found, &said)
+    }
+
+    fn tokens(&self) -> &[Text] {
+        &[]
     }
 
     fn fit(&self, alloc: Global, found: &Lent<'a>) -> Result<(), Stop> {
@@ -278,8 +295,13 @@ impl<'a> Operation for GettingRotationStatus<'a> {
     }
 
     fn authorize(&self, alloc: Global, found: &Lent<'a>) -> Result<(), Stop> {
+        let said = of_key(self.view, &found.row().key);
         self.view
-            .authorize_on(alloc, Action::GetKeyRotationStatus, found, &of_key())
+            .authorize_on(alloc, Action::GetKeyRotationStatus, found, &said)
+    }
+
+    fn tokens(&self) -> &[Text] {
+        &[]
     }
 
     fn fit(&self, alloc: Global, found: &Lent<'a>) -> Result<(), Stop> {

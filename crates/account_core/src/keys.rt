@@ -4,19 +4,19 @@ ghost use Rattle.kms_json.specs.declared.replies.Reply.TheVariants as Reply;
 ghost use Rattle.account_core.specs.Steps.{Passes};
 ghost use Rattle.account_core.specs.Keys.{description_of, creates_key, describes_key, unsupported_unless, unserved_key, policy_or_default, refused_if_given};
 
-use crate::checks::{key_of, unsupported};
+use crate::checks::{Named, key_of, unsupported};
 use crate::ids::key_id;
-use crate::particulars::{of_key, of_policy};
+use crate::particulars::{of_named, of_new_key};
 use crate::parts::{Changes, Made, Operation, Reads, refuse};
 use crate::places::Uses;
 use crate::policies::accept;
 use crate::stops::Stop;
 use crate::view::{View, told_state};
-use account_rows::{Entry, Lent, What};
-use authority::default_policy_text;
+use account_rows::{Entry, What};
+use authority::{Particulars, default_policy_text};
 use draw_lines::DrawLine;
 use kms_json::{CreateKey, KeyMetadata, KeyState, Refusal, Reply, SYMMETRIC_DEFAULT, Unsupported};
-use kms_names::{AccountNumber, Action, KeyId, NoMemory, Text};
+use kms_names::{AccountNumber, Action, KeyId, NoMemory, Text, TextList};
 use std::alloc::Global;
 
 // A key as replies describe it.
@@ -127,8 +127,15 @@ impl<'a> Operation for CreatingKey<'a> {
     }
 
     fn authorize(&self, alloc: Global, _found: &()) -> Result<(), Stop> {
-        let particulars = of_policy(self.x.bypass_lockout_check);
-        self.view.authorize(alloc, Action::CreateKey, &particulars)
+        let said = Particulars {
+            bypass: Some(self.x.bypass_lockout_check),
+            ..of_new_key()
+        };
+        self.view.authorize(alloc, Action::CreateKey, "*", &said)
+    }
+
+    fn tokens(&self) -> &[Text] {
+        &[]
     }
 
     fn fit(&self, _alloc: Global, _found: &()) -> Result<(), Stop> {
@@ -179,35 +186,42 @@ pub struct DescribingKey<'a> {
     pub view: &'a View<'a>,
     /// The reference to the key.
     pub key_id: &'a Text,
+    /// The tokens of grants.
+    pub grant_tokens: &'a TextList,
 }
 
 impl<'a> Operation for DescribingKey<'a> {
-    type Found = Lent<'a>;
+    type Found = Named<'a>;
 
     type Ready = ();
 
     ghost seen = { λ op. op.view.now };
 
-    ghost parts = { λ op. describes_key op.view.now op.key_id.now };
+    ghost parts = { λ op. describes_key op.view.now op.key_id.now op.grant_tokens.now };
 
     fn view(&self) -> &View<'_> {
         self.view
     }
 
-    fn find(&self, alloc: Global) -> Result<Lent<'a>, Stop> {
+    fn find(&self, alloc: Global) -> Result<Named<'a>, Stop> {
         key_of(alloc, self.view, self.key_id)
     }
 
-    fn authorize(&self, alloc: Global, found: &Lent<'a>) -> Result<(), Stop> {
+    fn authorize(&self, alloc: Global, found: &Named<'a>) -> Result<(), Stop> {
+        let said = of_named(self.view, &found.row.row().key, &found.alias);
         self.view
-            .authorize_on(alloc, Action::DescribeKey, found, &of_key())
+            .authorize_on(alloc, Action::DescribeKey, &found.row, &said)
     }
 
-    fn fit(&self, alloc: Global, found: &Lent<'a>) -> Result<(), Stop> {
-        self.view.fit(alloc, Action::DescribeKey, found)
+    fn tokens(&self) -> &[Text] {
+        self.grant_tokens.as_slice()
     }
 
-    fn own(&self, _alloc: Global, _found: &Lent<'a>) -> Result<(), Stop> {
+    fn fit(&self, alloc: Global, found: &Named<'a>) -> Result<(), Stop> {
+        self.view.fit(alloc, Action::DescribeKey, &found.row)
+    }
+
+    fn own(&self, _alloc: Global, _found: &Named<'a>) -> Result<(), Stop> {
         Ok(())
     }
 
@@ -224,11 +238,11 @@ impl<'a> Reads for DescribingKey<'a> {
     fn serve(
         &self,
         _alloc: Global,
-        found: Lent<'a>,
+        found: Named<'a>,
         _ready: (),
         _line: &mut DrawLine,
     ) -> Result<Reply, NoMemory> {
-        let row = found.row();
+        let row = found.row.row();
         let state = told_state(row.stored);
         let metadata = metadata(self.view, row.key, row.made, &row.description, state)?;
         Ok(Reply::Metadata(metadata))

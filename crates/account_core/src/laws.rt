@@ -1,6 +1,7 @@
 //! Laws of what the account answers. Each stands as the contract of a function that does nothing.
 
-ghost use Rattle.account_core.specs.Laws.{SealedIsDecryptedAgain, OnePassRepeatsNoIv, PassesShareNoIv, BlobsAreNamed, NamedAreBlobs, TimesNeverFall, HouseIsKeptOnce, KeysDiffer, PassesWhereStatementsAllow, NamesTheFirstDenied};
+ghost use Rattle.account_core.specs.Laws.{SealedIsDecryptedAgain, OnePassRepeatsNoIv, PassesShareNoIv, BlobsAreNamed, NamedAreBlobs, TimesNeverFall, HouseIsKeptOnce, KeysDiffer, PassesWhereStatementsAllow, NamesTheFirstDenied, GrantsPermit};
+ghost use Rattle.account_core.specs.Pages.{PartsMakeTheWhole};
 
 /// What Encrypt, ReEncrypt or a data key call answered as sealed under a context, Decrypt opens to the
 /// text that was sealed, at that history and at every lawful one that goes on from it, where the key is
@@ -48,9 +49,10 @@ pub fn keys_differ()
 
 /// Authority passes exactly where for each thing that the request asks no Deny statement of the key's
 /// policy or of the caller's own policies hits, and a statement of the key's policy allows the caller
-/// directly, or allows the root of the account while a statement of the caller's own policies allows it;
-/// what is about no key goes by the caller's own policies alone. The root is allowed everything that no
-/// key's policy is asked about.
+/// directly, or allows the root of the account while a statement of the caller's own policies allows it,
+/// or a grant of the key permits it; what is about no key goes by the caller's own policies alone. The
+/// root is allowed everything that no key's policy is asked about. A grant is retired by the root, by its
+/// retiring principal, and by its grantee where RetireGrant is among its operations.
 pub fn authority_passes_where_statements_allow()
     ensures { PassesWhereStatementsAllow }
 {}
@@ -59,4 +61,17 @@ pub fn authority_passes_where_statements_allow()
 /// its resource.
 pub fn denial_names_the_first_denied()
     ensures { NamesTheFirstDenied }
+{}
+
+/// A grant of the key permits what the law of authority says where the caller is its grantee, the
+/// operation is among its own, and its constraint holds of the encryption context. DescribeKey asks no
+/// constraint; CreateGrant asks that the new grant has no further operation, and a constraint as strict.
+pub fn grants_permit()
+    ensures { GrantsPermit }
+{}
+
+/// The parts of a list, each behind the marker of the one before it, are the list's rows in order of
+/// making, each once.
+pub fn parts_make_the_whole()
+    ensures { PartsMakeTheWhole }
 {}

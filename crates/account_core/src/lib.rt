@@ -5,6 +5,7 @@
 #![tactic(auto)]
 
 mod account;
+mod alias_changes;
 mod checks;
 mod crypto;
 mod data_keys;
@@ -12,11 +13,15 @@ mod decide;
 mod decrypt;
 mod encrypt;
 mod facts;
+mod grants;
 mod ids;
 mod key_changes;
 mod keys;
 mod laws;
+mod listings;
+mod lists;
 mod operations;
+mod pages;
 mod particulars;
 mod parts;
 mod places;
@@ -36,6 +41,6 @@ pub use facts::RealmFacts;
 pub use ids::draw_line;
 pub use laws::{
     authority_passes_where_statements_allow, blobs_name_their_keys, denial_names_the_first_denied,
-    house_is_kept_once, keys_differ, one_pass_repeats_no_iv, passes_share_no_iv,
-    sealed_is_decrypted_again, times_never_fall,
+    grants_permit, house_is_kept_once, keys_differ, one_pass_repeats_no_iv,
+    parts_make_the_whole, passes_share_no_iv, sealed_is_decrypted_again, times_never_fall,
 };

@@ -1,5 +1,9 @@
 // The operations, one arm each.
-ghost use Rattle.std.specs.Prelude.{◌≡◌};
+ghost use Rattle.std.specs.Prelude.{◌≡◌, true, IfOk};
+ghost use Rattle.kms_names.specs.Reading.{is_alias_text};
+ghost use Rattle.account_core.specs.Aliases.{changes_alias};
+ghost use Rattle.account_core.specs.Grants.{creates_grant};
+ghost use Rattle.account_core.specs.Lists.{lists_in, lists_on};
 ghost use Rattle.kms_json.specs.Asks.{IsSizedReading, IsSizedChanging};
 ghost use Rattle.account_core.specs.KeyChanges.{changes_key};
 ghost use Rattle.account_core.specs.Places.{places_of, IsLineOf};
@@ -7,20 +11,23 @@ ghost use Rattle.account_core.specs.Parts.{decided_by, outcome};
 ghost use Rattle.account_core.specs.Settling.{Settles, Makes};
 ghost use Rattle.account_core.specs.Operations.{change_outcome, read_outcome};
 
+use crate::alias_changes::{AliasChange, ChangingAlias};
 use crate::data_keys::{Drawing, GeneratingDataKey, GeneratingSealedDataKey};
 use crate::decrypt::Decrypting;
 use crate::encrypt::Encrypting;
+use crate::grants::{RetiringGrant, RevokingGrant, creating_grant};
 use crate::key_changes::{ChangingKey, GettingRotationStatus, KeyChange, UpdatingDescription};
 use crate::keys::{CreatingKey, DescribingKey};
-use crate::parts::{Made, change, read};
+use crate::lists::{AccountList, KeyList, ListingAccount, ListingKey};
+use crate::parts::{Made, change as apply, read};
 use crate::policies::{GettingPolicy, PuttingPolicy};
 use crate::random::GeneratingRandom;
 use crate::re_encrypt::ReEncrypting;
 use crate::stops::Stop;
 use crate::view::View;
 use draw_lines::DrawLine;
-use kms_json::{Changing, Reading, Reply};
-use kms_names::Text;
+use kms_json::{Changing, CreateGrant, Page, Reading, Reply};
+use kms_names::{AliasName, NoMemory, Text, read_alias};
 use std::alloc::Global;
 
 // What a request that changes a key's state or rotation comes to.
@@ -32,7 +39,82 @@ fn change_key(alloc: Global, view: &View<'_>, key_id: &Text, how: KeyChange) -> 
         key_id,
         change: how,
     };
-    change(alloc, &changing)
+    apply(alloc, &changing)
+}
+
+// The alias name that a request gives.
+fn alias_name(alloc: Global, text: &Text) -> Result<AliasName, NoMemory>
+    requires { is_alias_text text.now ≡ true }
+    ensures { IfOk result (λ name. name ≡ text.now) }
+{
+    match read_alias(alloc, text.as_str()) {
+        Ok(name) => Ok(name),
+        Err(_) => Err(NoMemory),
+    }
+}
+
+// What a request that changes an alias comes to.
+fn change_alias(
+    alloc: Global,
+    view: &View<'_>,
+    alias: &Text,
+    change: AliasChange<'_>,
+) -> Result<Made, Stop>
+    requires { is_alias_text alias.now ≡ true }
+    ensures { Makes (outcome view.now (changes_alias view.now alias.now change)) result }
+{
+    let name = alias_name(alloc, alias)?;
+    let changing = ChangingAlias {
+        view,
+        name: &name,
+        change,
+    };
+    apply(alloc, &changing)
+}
+
+// What a request for a grant comes to.
+fn create_grant(alloc: Global, view: &View<'_>, x: &CreateGrant) -> Result<Made, Stop>
+    ensures { Makes (outcome view.now (creates_grant view.now x.now)) result }
+{
+    let creating = creating_grant(view, x)?;
+    apply(alloc, &creating)
+}
+
+// A part of a list of the account.
+fn list(
+    alloc: Global,
+    view: &View<'_>,
+    what: AccountList<'_>,
+    page: &Page,
+    line: &mut DrawLine,
+) -> Result<Reply, Stop>
+    requires line { IsLineOf view.now.facts line.old }
+    requires places { view.now.places ≡ places_of line.old }
+    ensures { Settles (decided_by (outcome view.now (lists_in view.now what page.now)) (places_of line.old)) line.old result line.new }
+{
+    read(alloc, &ListingAccount { view, what, page }, line)
+}
+
+// A part of a list of a key.
+fn list_of_key(
+    alloc: Global,
+    view: &View<'_>,
+    key_id: &Text,
+    what: KeyList<'_>,
+    page: &Page,
+    line: &mut DrawLine,
+) -> Result<Reply, Stop>
+    requires line { IsLineOf view.now.facts line.old }
+    requires places { view.now.places ≡ places_of line.old }
+    ensures { Settles (decided_by (outcome view.now (lists_on view.now key_id.now what page.now)) (places_of line.old)) line.old result line.new }
+{
+    let listing = ListingKey {
+        view,
+        key_id,
+        what,
+        page,
+    };
+    read(alloc, &listing, line)
 }
 
 /// What a request that changes the account comes to.
@@ -41,7 +123,7 @@ pub fn change_body(alloc: Global, view: &View<'_>, body: &Changing) -> Result<Ma
     ensures { Makes (change_outcome view.now body.now) result }
 {
     match body {
-        Changing::CreateKey(x) => change(alloc, &CreatingKey { view, x }),
+        Changing::CreateKey(x) => apply(alloc, &CreatingKey { view, x }),
         Changing::PutKeyPolicy {
             key_id,
             policy,
@@ -54,7 +136,7 @@ pub fn change_body(alloc: Global, view: &View<'_>, body: &Changing) -> Result<Ma
                 policy,
                 bypass,
             };
-            change(alloc, &putting)
+            apply(alloc, &putting)
         }
         Changing::UpdateKeyDescription {
             key_id,
@@ -65,7 +147,7 @@ pub fn change_body(alloc: Global, view: &View<'_>, body: &Changing) -> Result<Ma
                 key_id,
                 description,
             };
-            change(alloc, &updating)
+            apply(alloc, &updating)
         }
         Changing::EnableKey { key_id } => change_key(alloc, view, key_id, KeyChange::Enable),
         Changing::DisableKey { key_id } => change_key(alloc, view, key_id, KeyChange::Disable),
@@ -86,6 +168,37 @@ pub fn change_body(alloc: Global, view: &View<'_>, body: &Changing) -> Result<Ma
         Changing::RotateKeyOnDemand { key_id } => {
             change_key(alloc, view, key_id, KeyChange::RotateNow)
         }
+        Changing::CreateAlias { alias, key_id } => {
+            change_alias(alloc, view, alias, AliasChange::Create { key_id })
+        }
+        Changing::UpdateAlias { alias, key_id } => {
+            change_alias(alloc, view, alias, AliasChange::Update { key_id })
+        }
+        Changing::DeleteAlias { alias } => {
+            change_alias(alloc, view, alias, AliasChange::Delete)
+        }
+        Changing::CreateGrant(x) => create_grant(alloc, view, x),
+        Changing::RetireGrant { grant, dry_run } => {
+            let retiring = RetiringGrant {
+                view,
+                grant,
+                dry_run: *dry_run,
+            };
+            apply(alloc, &retiring)
+        }
+        Changing::RevokeGrant {
+            key_id,
+            grant_id,
+            dry_run,
+        } => {
+            let revoking = RevokingGrant {
+                view,
+                key_id,
+                grant_id,
+                dry_run: *dry_run,
+            };
+            apply(alloc, &revoking)
+        }
     }
 }
 
@@ -102,7 +215,38 @@ pub fn read_body(
     ensures { Settles (decided_by (read_outcome view.now body.now) (places_of line.old)) line.old result line.new }
 {
     match body {
-        Reading::DescribeKey { key_id } => read(alloc, &DescribingKey { view, key_id }, line),
+        Reading::DescribeKey {
+            key_id,
+            grant_tokens,
+        } => {
+            let describing = DescribingKey {
+                view,
+                key_id,
+                grant_tokens,
+            };
+            read(alloc, &describing, line)
+        }
+        Reading::ListKeys { page } => list(alloc, view, AccountList::Keys, page, line),
+        Reading::ListAliases { key_id, page } => {
+            list(alloc, view, AccountList::Aliases { key_id }, page, line)
+        }
+        Reading::ListRetirableGrants { retiring, page } => {
+            let what = AccountList::RetirableGrants { retiring };
+            list(alloc, view, what, page, line)
+        }
+        Reading::ListKeyPolicies { key_id, page } => {
+            list_of_key(alloc, view, key_id, KeyList::Policies, page, line)
+        }
+        Reading::ListKeyRotations { key_id, page } => {
+            list_of_key(alloc, view, key_id, KeyList::Rotations, page, line)
+        }
+        Reading::ListGrants(x) => {
+            let what = KeyList::Grants {
+                grant_id: &x.grant_id,
+                grantee: &x.grantee,
+            };
+            list_of_key(alloc, view, &x.key_id, what, &x.page, line)
+        }
         Reading::GetKeyPolicy { key_id } => read(alloc, &GettingPolicy { view, key_id }, line),
         Reading::GetKeyRotationStatus { key_id } => {
             read(alloc, &GettingRotationStatus { view, key_id }, line)

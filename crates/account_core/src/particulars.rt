@@ -1,85 +1,13 @@
 // What requests say of themselves.
-ghost use Rattle.std.specs.Prelude.{◌≡◌};
-ghost use Rattle.account_core.specs.Authority.{of_key, of_context, of_turning, of_policy, of_window, of_period, of_none};
+ghost use Rattle.std.specs.Prelude.{◌≡◌, Some};
+ghost use Rattle.account_core.specs.Authority.{of_none, of_new_key, of_key, of_named};
+ghost use Rattle.account_core.specs.Crypto.{of_context};
 
-use authority::Particulars;
+use crate::checks::Named;
+use crate::view::View;
+use authority::{KeyAliases, Particulars};
 use enc_context::Context;
-
-/// A request about a key.
-pub fn of_key<'a>() -> Particulars<'a>
-    ensures { result ≡ of_key }
-{
-    Particulars {
-        keyed: true,
-        context: None,
-        same_key: None,
-        bypass: None,
-        window: None,
-        period: None,
-    }
-}
-
-/// A request about a key, with an encryption context.
-pub fn of_context(context: &Context) -> Particulars<'_>
-    ensures { result ≡ of_context context.now }
-{
-    Particulars {
-        keyed: true,
-        context: Some(context),
-        same_key: None,
-        bypass: None,
-        window: None,
-        period: None,
-    }
-}
-
-/// A request that encrypts anew, and whether under the same key.
-pub fn of_turning(context: &Context, same: bool) -> Particulars<'_>
-    ensures { result ≡ of_turning context.now same }
-{
-    Particulars {
-        keyed: true,
-        context: Some(context),
-        same_key: Some(same),
-        bypass: None,
-        window: None,
-        period: None,
-    }
-}
-
-/// A request with a policy, and whether it passes over the lockout check.
-pub fn of_policy<'a>(bypass: bool) -> Particulars<'a>
-    ensures { result ≡ of_policy bypass }
-{
-    Particulars {
-        keyed: true,
-        context: None,
-        same_key: None,
-        bypass: Some(bypass),
-        window: None,
-        period: None,
-    }
-}
-
-/// A request that schedules the deletion of a key, after some days.
-pub fn of_window<'a>(days: u32) -> Particulars<'a>
-    ensures { result ≡ of_window days }
-{
-    Particulars {
-        window: Some(days),
-        ..of_key()
-    }
-}
-
-/// A request that turns automatic rotation of a key on, with a period in days.
-pub fn of_period<'a>(days: u32) -> Particulars<'a>
-    ensures { result ≡ of_period days }
-{
-    Particulars {
-        period: Some(days),
-        ..of_key()
-    }
-}
+use kms_names::{AliasName, KeyId};
 
 /// A request about no key.
 pub fn of_none<'a>() -> Particulars<'a>
@@ -88,9 +16,65 @@ pub fn of_none<'a>() -> Particulars<'a>
     Particulars {
         keyed: false,
         context: None,
+        aliases: None,
+        request_alias: None,
+        grant: None,
         same_key: None,
         bypass: None,
         window: None,
         period: None,
+    }
+}
+
+/// A request about a key that it makes.
+pub fn of_new_key<'a>() -> Particulars<'a>
+    ensures { result ≡ of_new_key }
+{
+    Particulars {
+        keyed: true,
+        ..of_none()
+    }
+}
+
+/// A request about a key.
+pub fn of_key<'a>(view: &View<'a>, key: &'a KeyId) -> Particulars<'a>
+    ensures { result ≡ of_key view.now key.now }
+{
+    Particulars {
+        keyed: true,
+        aliases: Some(KeyAliases {
+            aliases: view.aliases(),
+            key,
+        }),
+        ..of_none()
+    }
+}
+
+/// A request about a key that it may name by an alias.
+pub fn of_named<'a>(
+    view: &View<'a>,
+    key: &'a KeyId,
+    alias: &'a Option<AliasName>,
+) -> Particulars<'a>
+    ensures { result ≡ of_named view.now key.now alias.now }
+{
+    Particulars {
+        request_alias: alias.as_ref(),
+        ..of_key(view, key)
+    }
+}
+
+/// A request about a key, under an encryption context.
+pub fn of_context<'a>(
+    view: &View<'a>,
+    key: &'a KeyId,
+    alias: &'a Option<AliasName>,
+    context: &'a Context,
+) -> Particulars<'a>
+    ensures { result ≡ of_context view.now key.now alias.now context.now }
+{
+    Particulars {
+        context: Some(context),
+        ..of_named(view, key, alias)
     }
 }

@@ -5,16 +5,16 @@ ghost use Rattle.account_core.specs.Places.{places_of, line_at, IsLineOf, IsWith
 ghost use Rattle.account_core.specs.View.{View as SeenView};
 ghost use Rattle.account_core.specs.Steps.{Gives, Passes, or_else, stopping};
 ghost use Rattle.account_core.specs.Authority.{denied};
-ghost use Rattle.account_core.specs.Parts.{Parts, takes, cleared, outcome, decided_by, spent, full, overfull, limited, only_asked, after, unfit_state, entries_full, bytes_full, rotations_full, keys_full};
+ghost use Rattle.account_core.specs.Parts.{Parts, takes, cleared, outcome, decided_by, spent, full, overfull, limited, only_asked, after, unfit_state, entries_full, bytes_full, rotations_full, keys_full, grant_id_of, grant_of_token, dead_token, aliases_full, grants_full};
 ghost use Rattle.account_core.specs.Settling.{Settles, Makes, effect_with};
 
 use crate::places::{Places, Uses};
 use crate::stops::Stop;
-use crate::view::View;
+use crate::view::{LentGrant, View};
 use account_rows::{BYTES, ENTRIES, Entry, What};
 use draw_lines::DrawLine;
 use kms_json::{Limit, Refusal, Reply};
-use kms_names::NoMemory;
+use kms_names::{AliasName, GrantId, KeyId, NoMemory, Text, read_grant_id};
 use std::alloc::Global;
 
 // How many initialization vectors, and how many words, a pass gives.
@@ -25,6 +25,13 @@ const KEYS: usize = 10_000;
 
 // How many rotations on demand a key has at most.
 const ROTATIONS: u32 = 10;
+
+// How many grants a key has at most, and how many there are at most in all.
+const KEY_GRANTS: usize = 5_000;
+const GRANTS: usize = 50_000;
+
+// How many aliases an account has at most.
+const ALIASES: usize = 10_000;
 
 /// What an operation says of the steps of a decision.
 pub trait Operation {
@@ -49,6 +56,10 @@ pub trait Operation {
     /// Whether the caller may do what it asks: its questions, in order.
     fn authorize(&self, alloc: Global, found: &Self::Found) -> Result<(), Stop>
         ensures { Passes (denied (seen self.now) ((parts self.now).questions found.now)) result };
+
+    /// The tokens of grants that it gives.
+    fn tokens(&self) -> &[Text]
+        ensures { result.now ≡ (parts self.now).tokens };
 
     /// Whether the states of its keys let it be served: each key, in order.
     fn fit(&self, alloc: Global, found: &Self::Found) -> Result<(), Stop>
@@ -131,6 +142,59 @@ fn spent(places: Places, uses: Uses) -> Option<Refusal>
     None
 }
 
+/// The id that a text of 64 lower-case hexadecimal digits writes.
+pub fn grant_id_of(text: &str) -> Option<GrantId>
+    ensures { result ≡ grant_id_of text.now }
+{
+    read_grant_id(text)
+}
+
+/// The live grant whose token a text is. It takes no memory.
+pub fn grant_of_token<'a>(view: &View<'a>, token: &Text) -> Option<LentGrant<'a>>
+    ensures { result ≡ grant_of_token view.now token.now }
+{
+    view.grant(&grant_id_of(token.as_str())?)
+}
+
+// The refusal of tokens, unless each is that of a live grant.
+fn dead_token(view: &View<'_>, tokens: &[Text]) -> Option<Refusal>
+    ensures { result ≡ dead_token view.now tokens.now }
+{
+    let live = tokens
+        .iter()
+        .all(|token| grant_of_token(view, token).is_some());
+    if live {
+        None
+    } else {
+        Some(Refusal::InvalidGrantToken)
+    }
+}
+
+// The limit of aliases, where this one isn't there.
+fn aliases_full(view: &View<'_>, name: &AliasName) -> Option<Refusal>
+    ensures { result ≡ aliases_full view.now name.now }
+{
+    let aliases = view.aliases();
+    if aliases.resolve(name).is_none() && aliases.len() >= ALIASES {
+        return Some(Refusal::LimitExceeded(Limit::Aliases));
+    }
+    None
+}
+
+// The limits of grants: of the key, and then of all keys together.
+fn grants_full(view: &View<'_>, key: &KeyId) -> Option<Refusal>
+    ensures { result ≡ grants_full view.now key.now }
+{
+    let grants = view.grants();
+    if grants.number_of_key(key) >= KEY_GRANTS {
+        return Some(Refusal::LimitExceeded(Limit::KeyGrants));
+    }
+    if grants.len() >= GRANTS {
+        return Some(Refusal::LimitExceeded(Limit::Grants));
+    }
+    None
+}
+
 // The limit of what an entry would add to.
 fn full(view: &View<'_>, what: &What) -> Option<Refusal>
     ensures { result ≡ full view.now what.now }
@@ -145,6 +209,8 @@ fn full(view: &View<'_>, what: &What) -> Option<Refusal>
             }
             _ => None,
         },
+        What::AliasPut { name, .. } => aliases_full(view, name),
+        What::GrantAdd { key, .. } => grants_full(view, key),
         _ => None,
     }
 }
@@ -181,6 +247,7 @@ fn clear<O: Operation>(alloc: Global, operation: &O) -> Result<(O::Found, O::Rea
 {
     let found = operation.find(alloc)?;
     operation.authorize(alloc, &found)?;
+    refuse(dead_token(operation.view(), operation.tokens()))?;
     operation.fit(alloc, &found)?;
     let ready = operation.own(alloc, &found)?;
     Ok((found, ready))

@@ -1,5 +1,6 @@
 // The operations on the policies of keys: PutKeyPolicy and GetKeyPolicy.
-ghost use Rattle.std.specs.Prelude.{◌≡◌, IfOk, IfErr, None};
+ghost use Rattle.std.specs.Prelude.{◌≡◌, IfOk, IfErr, None, Some};
+ghost use Rattle.account_core.specs.Authority.{of_key};
 ghost use Rattle.authority.specs.KeyPolicy.{fault_in, policy_in};
 ghost use Rattle.kms_json.specs.declared.refusals.Refusal.TheVariants as refusal;
 ghost use Rattle.account_core.specs.declared.stops.Stop.TheVariants as stop;
@@ -7,13 +8,13 @@ ghost use Rattle.account_core.specs.Steps.{Passes};
 ghost use Rattle.account_core.specs.Policies.{StopsAt, IsStopAt, may_put_again, locked_out, policy_refused, puts_policy, gets_policy};
 
 use crate::checks::only_key_of;
-use crate::particulars::{of_key, of_policy};
+use crate::particulars::of_key;
 use crate::parts::{Changes, Made, Operation, Reads};
 use crate::places::Uses;
 use crate::stops::Stop;
 use crate::view::View;
 use account_rows::{Entry, Lent, What};
-use authority::KeyPolicy;
+use authority::{KeyPolicy, Particulars};
 use draw_lines::DrawLine;
 use kms_json::{PolicyFlaw, Refusal, Reply};
 use kms_names::{Action, KeyId, NoMemory, Text};
@@ -51,6 +52,16 @@ fn read(alloc: Global, text: &Text) -> Result<KeyPolicy, Stop>
     }
 }
 
+// A request with a policy of a key, and whether it passes over the lockout check.
+fn of_policy<'a>(view: &View<'a>, key: &'a KeyId, bypass: bool) -> Particulars<'a>
+    ensures { result ≡ record (of_key view.now key.now) { bypass = Some bypass } }
+{
+    Particulars {
+        bypass: Some(bypass),
+        ..of_key(view, key)
+    }
+}
+
 // Whether with this policy in place the caller may put the key's policy again.
 fn may_put_again(
     alloc: Global,
@@ -60,14 +71,15 @@ fn may_put_again(
 ) -> Result<bool, NoMemory>
     ensures { IfOk result (λ b. b ≡ may_put_again view.now policy.now key.now) }
 {
-    let resource = view.arn(alloc, key)?;
-    let particulars = of_policy(false);
-    view.allows(
+    let arn = view.arn(alloc, key)?;
+    let said = of_policy(view, key, false);
+    view.may_on_key(
         alloc,
-        Some(policy),
+        policy,
         Action::PutKeyPolicy,
-        resource.as_str(),
-        &particulars,
+        key,
+        arn.as_str(),
+        &said,
     )
 }
 
@@ -138,9 +150,13 @@ impl<'a> Operation for PuttingPolicy<'a> {
     }
 
     fn authorize(&self, alloc: Global, found: &Lent<'a>) -> Result<(), Stop> {
-        let particulars = of_policy(self.bypass);
+        let said = of_policy(self.view, &found.row().key, self.bypass);
         self.view
-            .authorize_on(alloc, Action::PutKeyPolicy, found, &particulars)
+            .authorize_on(alloc, Action::PutKeyPolicy, found, &said)
+    }
+
+    fn tokens(&self) -> &[Text] {
+        &[]
     }
 
     fn fit(&self, alloc: Global, found: &Lent<'a>) -> Result<(), Stop> {
@@ -199,8 +215,13 @@ impl<'a> Operation for GettingPolicy<'a> {
     }
 
     fn authorize(&self, alloc: Global, found: &Lent<'a>) -> Result<(), Stop> {
+        let said = of_key(self.view, &found.row().key);
         self.view
-            .authorize_on(alloc, Action::GetKeyPolicy, found, &of_key())
+            .authorize_on(alloc, Action::GetKeyPolicy, found, &said)
+    }
+
+    fn tokens(&self) -> &[Text] {
+        &[]
     }
 
     fn fit(&self, alloc: Global, found: &Lent<'a>) -> Result<(), Stop> {

@@ -11,7 +11,7 @@ use crate::stops::Stop;
 use crate::view::View;
 use draw_lines::DrawLine;
 use kms_json::{Reply, Unsupported};
-use kms_names::{Action, Bytes, NoMemory};
+use kms_names::{Action, Bytes, NoMemory, Text};
 use std::alloc::Global;
 
 // The most bytes that are drawn at once.
@@ -51,7 +51,11 @@ impl<'a> Operation for GeneratingRandom<'a> {
 
     fn authorize(&self, alloc: Global, _found: &()) -> Result<(), Stop> {
         self.view
-            .authorize(alloc, Action::GenerateRandom, &of_none())
+            .authorize(alloc, Action::GenerateRandom, "*", &of_none())
+    }
+
+    fn tokens(&self) -> &[Text] {
+        &[]
     }
 
     fn fit(&self, _alloc: Global, _found: &()) -> Result<(), Stop> {

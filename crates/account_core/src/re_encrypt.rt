@@ -1,18 +1,19 @@
 // ReEncrypt.
 ghost use Rattle.account_core.specs.Crypto.{re_encrypts};
 
-use crate::checks::{key_of, unfit};
+use crate::checks::{Named, key_of, unfit};
 use crate::crypto::{ONE_IV, Sealable, seal};
-use crate::particulars::of_turning;
+use crate::particulars::of_context;
 use crate::parts::{Operation, Reads, refuse};
 use crate::places::Uses;
 use crate::sources::{Sealed, find_source};
 use crate::stops::Stop;
 use crate::view::View;
-use account_rows::{Lent, same_key};
+use account_rows::same_key;
+use authority::Particulars;
 use draw_lines::DrawLine;
 use kms_json::{ReEncrypt, Reply};
-use kms_names::{Action, NoMemory};
+use kms_names::{Action, NoMemory, Text};
 use std::alloc::Global;
 
 /// A sealed text, and the key that it is sealed under anew.
@@ -20,8 +21,8 @@ use std::alloc::Global;
 pub struct Turning<'a> {
     /// The sealed text, with the key that it was sealed under.
     pub source: Sealed<'a>,
-    /// The key that it is sealed under.
-    pub row: Lent<'a>,
+    /// The key that it is sealed under anew.
+    pub to: Named<'a>,
 }
 
 /// ReEncrypt.
@@ -54,24 +55,36 @@ impl<'a> Operation for ReEncrypting<'a> {
             &self.x.source_key_id,
             self.x.blob.as_slice(),
         )?;
-        let row = key_of(alloc, self.view, &self.x.key_id)?;
-        Ok(Turning { source, row })
+        let to = key_of(alloc, self.view, &self.x.key_id)?;
+        Ok(Turning { source, to })
     }
 
     fn authorize(&self, alloc: Global, found: &Turning<'a>) -> Result<(), Stop> {
-        let same = same_key(found.source.key(), &found.row.row().key);
-        let from = of_turning(&self.x.source_context, same);
-        let to = of_turning(&self.x.context, same);
+        let source = &found.source;
+        let key = &found.to.row.row().key;
+        let same_key = Some(same_key(source.key(), key));
+        let from = Particulars {
+            same_key,
+            ..of_context(self.view, source.key(), source.alias(), &self.x.source_context)
+        };
+        let to = Particulars {
+            same_key,
+            ..of_context(self.view, key, &found.to.alias, &self.x.context)
+        };
         self.view
-            .authorize_on(alloc, Action::ReEncryptFrom, found.source.lent(), &from)?;
+            .authorize_on(alloc, Action::ReEncryptFrom, source.lent(), &from)?;
         self.view
-            .authorize_on(alloc, Action::ReEncryptTo, &found.row, &to)
+            .authorize_on(alloc, Action::ReEncryptTo, &found.to.row, &to)
+    }
+
+    fn tokens(&self) -> &[Text] {
+        self.x.grant_tokens.as_slice()
     }
 
     fn fit(&self, alloc: Global, found: &Turning<'a>) -> Result<(), Stop> {
         let view = self.view;
         view.fit(alloc, Action::ReEncryptFrom, found.source.lent())?;
-        view.fit(alloc, Action::ReEncryptTo, &found.row)
+        view.fit(alloc, Action::ReEncryptTo, &found.to.row)
     }
 
     fn own(&self, alloc: Global, found: &Turning<'a>) -> Result<Sealable, Stop> {
@@ -98,12 +111,12 @@ impl<'a> Reads for ReEncrypting<'a> {
         ready: Sealable,
         line: &mut DrawLine,
     ) -> Result<Reply, NoMemory> {
-        let arn = self.view.arn(alloc, &found.row.row().key)?;
+        let arn = self.view.arn(alloc, &found.to.row.row().key)?;
         let source_arn = self.view.arn(alloc, found.source.key())?;
         let blob = seal(
             alloc,
             self.view,
-            &found.row,
+            &found.to.row,
             &self.x.context,
             ready.as_slice(),
             line,

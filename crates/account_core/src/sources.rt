@@ -1,9 +1,9 @@
 // The key of a sealed text.
 ghost use Rattle.std.specs.Prelude.{◌≡◌, ◌≤◌, length, IfOk};
 ghost use Rattle.blob_format.specs.Reading.{IsBlobOf};
-ghost use Rattle.account_core.specs.Steps.{Gives, GivesAs, name_of, blob_name, held_key, source_of, opens};
+ghost use Rattle.account_core.specs.Steps.{Gives, GivesAs, alias_of, name_of, blob_name, held_key, source_of, opens};
 
-use crate::checks::{key_if_given, other_key};
+use crate::checks::{Named, key_if_given, other_key};
 use crate::parts::refuse;
 use crate::stops::Stop;
 use crate::view::View;
@@ -12,14 +12,16 @@ use blob_format::{Blob, read_blob};
 use crypto_ops::{OpenFault, open_blob};
 use enc_context::Context;
 use kms_json::Refusal;
-use kms_names::{Action, Bytes, KeyId, Text};
+use kms_names::{Action, AliasName, Bytes, KeyId, Text};
 use std::alloc::Global;
 use std::marker::Model;
 
-/// A sealed text with its key, lent. Contracts see the key's row, the version and the bytes.
+/// A sealed text with its key, lent. Contracts see the key's row, the alias that the request names it by, the version and
+/// the bytes.
 #[derive(Drop)]
 pub struct Sealed<'a> {
     lent: Lent<'a>,
+    alias: Option<AliasName>,
     blob: Blob,
     bytes: &'a [u8],
 }
@@ -30,7 +32,7 @@ impl<'a> Model for Sealed<'a> {
 
     ghost Value = { source.Source };
 
-    ghost view = { λ s. record { row = s.lent; version = s.blob.version; bytes = s.bytes.now } };
+    ghost view = { λ s. record { row = s.lent; alias = s.alias; version = s.blob.version; bytes = s.bytes.now } };
 
     ghost invariant = { λ s. IsBlobOf s.bytes.now s.blob };
 }
@@ -60,6 +62,16 @@ fn held<'a>(alloc: Global, view: &View<'a>, action: Action, key: &KeyId) -> Resu
     }
 }
 
+// The alias that the request names a key by.
+fn alias_of(named: Option<Named<'_>>) -> Option<AliasName>
+    ensures { result ≡ alias_of named }
+{
+    match named {
+        Some(named) => named.alias,
+        None => None,
+    }
+}
+
 /// The sealed text with its key: the reference is looked up, then the bytes are read, then the two are
 /// compared, and then the key is looked up.
 pub fn find_source<'a>(
@@ -75,7 +87,13 @@ pub fn find_source<'a>(
     let blob = read(bytes)?;
     refuse(other_key(&named, &blob.key))?;
     let lent = held(alloc, view, action, &blob.key)?;
-    Ok(Sealed { lent, blob, bytes })
+    let alias = alias_of(named);
+    Ok(Sealed {
+        lent,
+        alias,
+        blob,
+        bytes,
+    })
 }
 
 impl<'a> Sealed<'a> {
@@ -87,6 +105,13 @@ impl<'a> Sealed<'a> {
         ensures { result.now ≡ self.now.row }
     {
         &self.lent
+    }
+
+    /// The alias that the request names its key by, if any.
+    pub fn alias(&self) -> &Option<AliasName>
+        ensures { result.now ≡ self.now.alias }
+    {
+        &self.alias
     }
 
     /// Its key.

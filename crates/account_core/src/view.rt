@@ -1,6 +1,7 @@
 // What every step of a decision goes by.
-ghost use Rattle.std.specs.Prelude.{◌≡◌};
+ghost use Rattle.std.specs.Prelude.{◌≡◌, [], IfOk};
 ghost use Rattle.account_core.specs.Parts.{told_state};
+ghost use Rattle.account_core.specs.Authority.{grant_op_of, may_retire};
 ghost use Rattle.key_states.specs.Permissions.{refusal_of, need_of};
 ghost use Rattle.key_states.specs.States.{state_of};
 
@@ -8,10 +9,13 @@ use crate::RealmFacts;
 use crate::places::Places;
 use crate::stops::Stop;
 use account_rows::{Lent, Rows, is_gone};
-use authority::{KeyPolicy, Particulars, Setting};
+use alias_map::AliasMap;
+use authority::{KeyPolicy, Particulars, Setting, Standing};
+use enc_context::Context;
+use grant_table::{GrantRow, GrantTable, same_principal};
 use key_states::{KeyRow, State, StateFault, Stored, permits};
 use kms_json::{KeyState, Refusal};
-use kms_names::{Action, KeyId, NoMemory, Principal, Text, key_arn};
+use kms_names::{Action, AliasName, GrantId, GrantOp, KeyId, NoMemory, Principal, Text, key_arn};
 use policy_eval::Compiled;
 use std::alloc::Global;
 use std::marker::Model;
@@ -40,6 +44,8 @@ impl<'a> Model for View<'a> {
     ghost view = { λ v. record {
       facts = v.facts.now;
       keys = (replay v.rows.now).keys;
+      aliases = (replay v.rows.now).aliases;
+      grants = (replay v.rows.now).grants;
       place = length v.rows.now;
       bytes = bytes_in v.rows.now;
       moment = v.moment;
@@ -56,14 +62,13 @@ impl<'a> Model for View<'a> {
 impl<'a> View<'a> {
     ghost use Rattle.std.specs.Prelude.{◌≡◌, ◌<◌, ◌≤◌, IfOk, None, Some, length, option_map};
     ghost use Rattle.authority.specs.Setting.{callers_policies};
-    ghost use Rattle.authority.specs.Allowed.{is_allowed};
     ghost use Rattle.key_states.specs.declared.rows.KeyRow.{KeyRow};
-    ghost use Rattle.account_rows.specs.History.{replay, key_with, most_bytes};
+    ghost use Rattle.account_rows.specs.History.{replay, key_with, key_behind, most_bytes};
     ghost use Rattle.account_rows.specs.Sizes.{bytes_in};
     ghost use Rattle.account_core.specs.Parts.{unfit_one};
-    ghost use Rattle.account_core.specs.View.{key_held};
+    ghost use Rattle.account_core.specs.View.{key_held, aliased, is_live, grant_held};
     ghost use Rattle.account_core.specs.Steps.{Passes, arn_of};
-    ghost use Rattle.account_core.specs.Authority.{setting_of, denied_at, denied_one};
+    ghost use Rattle.account_core.specs.Authority.{setting_of, granted, may_on_key, may_on_other, denied_at, denied_one, on_key, on_other, retiring};
 
     /// The view of these.
     pub fn new(
@@ -76,7 +81,7 @@ impl<'a> View<'a> {
     ) -> View<'a>
         requires policies { policies.now ≡ callers_policies facts.now.identities caller.now }
         requires moment { moment < 253402300800 }
-        ensures { result ≡ record { facts = facts.now; keys = (replay rows.now).keys; place = length rows.now; bytes = bytes_in rows.now; moment = moment; caller = caller.now; places = places } }
+        ensures { result ≡ record { facts = facts.now; keys = (replay rows.now).keys; aliases = (replay rows.now).aliases; grants = (replay rows.now).grants; place = length rows.now; bytes = bytes_in rows.now; moment = moment; caller = caller.now; places = places } }
     {
         View {
             facts,
@@ -102,12 +107,60 @@ impl<'a> View<'a> {
         self.rows.number_of_keys()
     }
 
+    /// The first key, in order of making, that was made behind a place, or the first of all, with those that are gone.
+    pub fn key_after(&self, after: Option<u64>) -> Option<Lent<'a>>
+        ensures { result ≡ key_behind self.now.keys after }
+    {
+        Some(Lent::new(self.rows.key_after(after)?))
+    }
+
     /// The key of an id; one that is gone counts as absent. It takes no memory.
     pub fn key(&self, key: &KeyId) -> Option<Lent<'a>>
         ensures { result ≡ key_held self.now key.now }
     {
         match self.rows.key(key) {
             Some(held) if !is_gone(held.row(), self.moment) => Some(Lent::new(held)),
+            _ => None,
+        }
+    }
+
+    /// The aliases of the account.
+    pub fn aliases(&self) -> &'a AliasMap
+        ensures { result.now ≡ self.now.aliases }
+    {
+        self.rows.aliases()
+    }
+
+    /// The grants of the account, with those of keys that are gone.
+    pub fn grants(&self) -> &'a GrantTable
+        ensures { result.now ≡ self.now.grants }
+    {
+        self.rows.grants()
+    }
+
+    /// The key that an alias names; an alias of a key that is gone counts as absent. It takes no memory.
+    pub fn aliased(&self, name: &AliasName) -> Option<Lent<'a>>
+        ensures { result ≡ aliased self.now name.now }
+    {
+        match self.aliases().resolve(name) {
+            Some(row) => self.key(&row.key),
+            None => None,
+        }
+    }
+
+    /// Whether the key of a grant is there.
+    pub fn is_live(&self, grant: &GrantRow) -> bool
+        ensures { result ≡ is_live self.now grant.now }
+    {
+        self.key(&grant.key).is_some()
+    }
+
+    /// The live grant of an id. It takes no memory.
+    pub fn grant(&self, id: &GrantId) -> Option<LentGrant<'a>>
+        ensures { result ≡ grant_held self.now id.now }
+    {
+        match self.grants().get(id) {
+            Some(grant) if self.is_live(grant) => Some(LentGrant::new(grant)),
             _ => None,
         }
     }
@@ -178,20 +231,66 @@ impl<'a> View<'a> {
         }
     }
 
-    /// Whether the caller may do this on a resource, by the policy of a key, where it is about one, and by the
-    /// caller's own policies.
-    pub fn allows(
+    // Whether some grant of the key permits the caller this.
+    fn granted(
         &self,
         alloc: Global,
-        policy: Option<&KeyPolicy>,
         action: Action,
-        resource: &str,
-        particulars: &Particulars<'_>,
+        key: &KeyId,
+        said: &Particulars<'_>,
     ) -> Result<bool, NoMemory>
-        ensures { IfOk result (λ b. b ≡ is_allowed (setting_of self.now) (option_map (λ p. p.now) policy.entry) (record { action = action; resource = resource.now; particulars = particulars.now })) }
+        ensures { IfOk result (λ b. b ≡ granted self.now action key.now said.now) }
+    {
+        let Some(op) = grant_op_of(action) else {
+            return Ok(false);
+        };
+        let grants = self.grants();
+        if let Some(made) = &said.grant {
+            let parent = grants.parent_of(key, self.caller, &made.operations, made.constraint);
+            return Ok(parent.is_some());
+        }
+        let permitting = match said.context {
+            Some(context) => grants.permitting(key, self.caller, op, context),
+            None => grants.permitting(key, self.caller, op, &no_pairs(alloc)?),
+        };
+        Ok(permitting.is_some())
+    }
+
+    /// Whether the caller may do this on a key of this ARN, by a policy of the key, by the caller's own policies and by
+    /// the grants of the key, which are asked only where policies leave it to them.
+    pub fn may_on_key(
+        &self,
+        alloc: Global,
+        policy: &KeyPolicy,
+        action: Action,
+        key: &KeyId,
+        arn: &str,
+        said: &Particulars<'_>,
+    ) -> Result<bool, NoMemory>
+        requires { arn.now ≡ arn_of self.now.facts key.now }
+        ensures { IfOk result (λ b. b ≡ may_on_key self.now policy.now action key.now said.now) }
     {
         let setting = self.setting();
-        setting.allows(alloc, policy, action, resource, particulars)
+        match setting.standing(alloc, Some(policy), action, arn, said)? {
+            Standing::Denied => Ok(false),
+            Standing::Allowed => Ok(true),
+            Standing::IfGranted => self.granted(alloc, action, key, said),
+        }
+    }
+
+    // Whether the caller may do this on a resource that is no key, by the caller's own policies.
+    fn may_on_other(
+        &self,
+        alloc: Global,
+        action: Action,
+        resource: &str,
+        said: &Particulars<'_>,
+    ) -> Result<bool, NoMemory>
+        ensures { IfOk result (λ b. b ≡ may_on_other self.now action resource.now said.now) }
+    {
+        let setting = self.setting();
+        let standing = setting.standing(alloc, None, action, resource, said)?;
+        Ok(standing.settled(false))
     }
 
     // Goes on where this is allowed, and else is denied.
@@ -215,27 +314,37 @@ impl<'a> View<'a> {
         alloc: Global,
         action: Action,
         lent: &Lent<'_>,
-        particulars: &Particulars<'_>,
+        said: &Particulars<'_>,
     ) -> Result<(), Stop>
-        ensures { Passes (denied_one self.now (record { action = action; key = Some lent.now; particulars = particulars.now })) result }
+        ensures { Passes (denied_one self.now (on_key action lent.now said.now)) result }
     {
-        let resource = self.arn(alloc, &lent.row().key)?;
-        let policy = Some(lent.policy());
-        let allowed = self.allows(alloc, policy, action, resource.as_str(), particulars)?;
-        self.pass(allowed, action, resource)
+        let key = &lent.row().key;
+        let arn = self.arn(alloc, key)?;
+        let allowed = self.may_on_key(alloc, lent.policy(), action, key, arn.as_str(), said)?;
+        self.pass(allowed, action, arn)
     }
 
-    /// Goes on where the caller may do this, which is about no key that is there.
+    /// Goes on where the caller may do this on a resource that is no key.
     pub fn authorize(
         &self,
         alloc: Global,
         action: Action,
-        particulars: &Particulars<'_>,
+        resource: &str,
+        said: &Particulars<'_>,
     ) -> Result<(), Stop>
-        ensures { Passes (denied_one self.now (record { action = action; key = None; particulars = particulars.now })) result }
+        ensures { Passes (denied_one self.now (on_other action resource.now said.now)) result }
     {
-        let allowed = self.allows(alloc, None, action, "*", particulars)?;
-        self.pass(allowed, action, Text::from_str(alloc, "*")?)
+        let allowed = self.may_on_other(alloc, action, resource, said)?;
+        self.pass(allowed, action, Text::from_str(alloc, resource)?)
+    }
+
+    /// Goes on where the caller may retire a grant: the root, its retiring principal, and its grantee where RetireGrant is
+    /// among its operations.
+    pub fn authorize_retiring(&self, alloc: Global, grant: &GrantRow) -> Result<(), Stop>
+        ensures { Passes (denied_one self.now (retiring grant.now)) result }
+    {
+        let allowed = may_retire(self.caller, grant);
+        self.pass(allowed, Action::RetireGrant, self.arn(alloc, &grant.key)?)
     }
 
     /// Goes on where the state of a key lets it be used for this.
@@ -255,6 +364,73 @@ impl<'a> View<'a> {
             }
             None => Ok(()),
         }
+    }
+}
+
+// The operation that a grant permits by an action, if any.
+fn grant_op_of(action: Action) -> Option<GrantOp>
+    ensures { result ≡ grant_op_of action }
+{
+    match action {
+        Action::Encrypt => Some(GrantOp::Encrypt),
+        Action::Decrypt => Some(GrantOp::Decrypt),
+        Action::ReEncryptFrom => Some(GrantOp::ReEncryptFrom),
+        Action::ReEncryptTo => Some(GrantOp::ReEncryptTo),
+        Action::GenerateDataKey => Some(GrantOp::GenerateDataKey),
+        Action::GenerateDataKeyWithoutPlaintext => Some(GrantOp::GenerateDataKeyWithoutPlaintext),
+        Action::DescribeKey => Some(GrantOp::DescribeKey),
+        Action::CreateGrant => Some(GrantOp::CreateGrant),
+        _ => None,
+    }
+}
+
+// The encryption context without pairs.
+fn no_pairs(alloc: Global) -> Result<Context, NoMemory>
+    ensures { IfOk result (λ context. context ≡ []) }
+{
+    match Context::from_pairs(alloc, Vec::new(alloc)) {
+        Ok(context) => Ok(context),
+        Err(_) => Err(NoMemory),
+    }
+}
+
+// Whether the caller may retire a grant.
+fn may_retire(caller: &Principal, grant: &GrantRow) -> bool
+    ensures { result ≡ may_retire caller.now grant.now }
+{
+    matches!(caller, Principal::Root(_))
+        || grant.has_retiring(caller)
+        || (same_principal(&grant.grantee, caller)
+            && grant.operations.contains(GrantOp::RetireGrant))
+}
+
+/// A grant that is lent. Contracts see its row.
+#[derive(Drop)]
+pub struct LentGrant<'a> {
+    row: &'a GrantRow,
+}
+
+impl<'a> Model for LentGrant<'a> {
+    ghost use Rattle.grant_table.specs.declared.rows.GrantRow.{GrantRow as GrantValue};
+
+    ghost Value = { GrantValue };
+
+    ghost view = { λ lent. lent.row.now };
+}
+
+impl<'a> LentGrant<'a> {
+    /// The grant, lent.
+    pub fn new(row: &'a GrantRow) -> LentGrant<'a>
+        ensures { result ≡ row.now }
+    {
+        LentGrant { row }
+    }
+
+    /// The grant's row.
+    pub fn row(&self) -> &'a GrantRow
+        ensures { result.now ≡ self.now }
+    {
+        self.row
     }
 }
 

@@ -33,6 +33,10 @@ GivesDays (what.RotationOff key) = Unit {0}
 GivesDays (what.RotateNow key) = Unit {0}
 GivesDays (what.Policy key text) = Unit {0}
 GivesDays (what.Description key text) = Unit {0}
+GivesDays (what.AliasPut name key) = Unit {0}
+GivesDays (what.AliasDrop name) = Unit {0}
+GivesDays (what.GrantAdd grant key grantee retiring operations constraint name) = Unit {0}
+GivesDays (what.GrantDrop grant) = Unit {0}
 GivesDays what.House = Unit {0}
 
 abbrev pub RowsHaveDays : List KeyRow → Type 0
@@ -59,6 +63,10 @@ days_after_entry n time (what.RotationOff key) rows gives all = days_changed _ (
 days_after_entry n time (what.RotateNow key) rows gives all = days_changed _ (λ row is. is) key rows all
 days_after_entry n time (what.Policy key text) rows gives all = days_changed _ (λ row is. is) key rows all
 days_after_entry n time (what.Description key text) rows gives all = days_changed _ (λ row is. is) key rows all
+days_after_entry n time (what.AliasPut name key) rows gives all = all
+days_after_entry n time (what.AliasDrop name) rows gives all = all
+days_after_entry n time (what.GrantAdd grant key grantee retiring operations constraint name) rows gives all = all
+days_after_entry n time (what.GrantDrop grant) rows gives all = all
 days_after_entry n time what.House rows gives all =
     All-map (λ (row : KeyRow). HasDays row.period) (rotated_if_due time) (filter (λ row. not (is_gone time row)) rows)
     (λ k d lt. let old = All-filter (λ row. not (is_gone time row)) (λ (row : KeyRow). HasDays row.period) rows all k d lt in

@@ -110,6 +110,10 @@ IsNew P place time (what.RotationOff key) = Unit {0}
 IsNew P place time (what.RotateNow key) = Unit {0}
 IsNew P place time (what.Policy key text) = Unit {0}
 IsNew P place time (what.Description key text) = Unit {0}
+IsNew P place time (what.AliasPut name key) = Unit {0}
+IsNew P place time (what.AliasDrop name) = Unit {0}
+IsNew P place time (what.GrantAdd grant key grantee retiring operations constraint name) = Unit {0}
+IsNew P place time (what.GrantDrop grant) = Unit {0}
 IsNew P place time what.House = Unit {0}
 
 module _ (P : KeyRow → Type 0) (keeps : (row new : KeyRow) → Follows row new → P row → P new) where
@@ -131,6 +135,10 @@ module _ (P : KeyRow → Type 0) (keeps : (row new : KeyRow) → Follows row new
   all_after n time (what.RotateNow key) rows new all = all_changed key _ (λ row. versioned time true row.next row) rows all
   all_after n time (what.Policy key text) rows new all = all_changed key _ (λ row. alike _ row refl refl refl refl) rows all
   all_after n time (what.Description key text) rows new all = all_changed key _ (λ row. alike _ row refl refl refl refl) rows all
+  all_after n time (what.AliasPut name key) rows new all = all
+  all_after n time (what.AliasDrop name) rows new all = all
+  all_after n time (what.GrantAdd grant key grantee retiring operations constraint name) rows new all = all
+  all_after n time (what.GrantDrop grant) rows new all = all
   all_after n time what.House rows new all =
       all_map (rotated_if_due time) (due_follows time) (filter (λ row. not (is_gone time row)) rows) (All-filter (λ row. not (is_gone time row)) P rows all)
 
@@ -162,6 +170,9 @@ new_rows time n key description policy rows here are = record {
       (record { before = omega arith; named = here; turned = omega arith; counted = omega arith; some = omega arith });
 }
 
+later_rows : (n : ℕ) (rows : List KeyRow) → AreRows n rows → AreRows (n + 1) rows
+later_rows n rows are = record { rise = are.rise; each = All-weaker (IsRowOf n) (IsRowOf (n + 1)) (later_row n) rows are.each }
+
 -- one entry more
 pub rows_after : (n time : ℕ) (w : What) (rows : List KeyRow) → IsMadeHere n w → AreRows n rows → AreRows (n + 1) (keys_after n time w rows)
 rows_after n time (what.CreateKey key description policy) rows here are = new_rows time n key description policy rows here are
@@ -174,6 +185,10 @@ rows_after n time (what.RotationOff key) rows here are = changed_rows key _ (λ 
 rows_after n time (what.RotateNow key) rows here are = changed_rows key _ (λ row. versioned time true row.next row) n rows are
 rows_after n time (what.Policy key text) rows here are = changed_rows key _ (λ row. alike _ row refl refl refl refl) n rows are
 rows_after n time (what.Description key text) rows here are = changed_rows key _ (λ row. alike _ row refl refl refl refl) n rows are
+rows_after n time (what.AliasPut name key) rows here are = later_rows n rows are
+rows_after n time (what.AliasDrop name) rows here are = later_rows n rows are
+rows_after n time (what.GrantAdd grant key grantee retiring operations constraint name) rows here are = later_rows n rows are
+rows_after n time (what.GrantDrop grant) rows here are = later_rows n rows are
 rows_after n time what.House rows here are = house_rows time n rows are
 
 pub no_rows : (n : ℕ) (rows : List KeyRow) → rows ≡ [] → AreRows n rows

@@ -45,6 +45,10 @@ module _ (versions : ℕ) (id : List ℕ) where
   new_at n time (what.RotateNow key) here before = tt
   new_at n time (what.Policy key text) here before = tt
   new_at n time (what.Description key text) here before = tt
+  new_at n time (what.AliasPut name key) here before = tt
+  new_at n time (what.AliasDrop name) here before = tt
+  new_at n time (what.GrantAdd grant key grantee retiring operations constraint name) here before = tt
+  new_at n time (what.GrantDrop grant) here before = tt
   new_at n time what.House here before = tt
 
   least_from : (state : State) (more : List Entry) → AreMadeFrom state.entries more → place_in id < state.entries → AtLeast versions id state.keys → AtLeast versions id (fold step state more).keys

@@ -11,7 +11,7 @@ use Rattle.key_states.specs.declared.states.Stored.TheVariants.{Enabled, Disable
 use Rattle.key_states.specs.declared.versions.Version.{Version}
 use Rattle.key_states.specs.States.{state_of, is_due}
 use Rattle.account_rows.specs.declared.entries.What.{What}
-use Rattle.account_rows.specs.declared.entries.What.TheVariants.{CreateKey, Enable, Disable, Schedule, Cancel, RotationOn, RotationOff, RotateNow, Policy, Description, House}
+use Rattle.account_rows.specs.declared.entries.What.TheVariants.{CreateKey, Enable, Disable, Schedule, Cancel, RotationOn, RotationOff, RotateNow, Policy, Description, AliasPut, AliasDrop, GrantAdd, GrantDrop, House}
 
 -- ---- one row
 
@@ -156,7 +156,15 @@ keys_after place time (RotationOff key) keys = changed key (λ row. with_period 
 keys_after place time (RotateNow key) keys = changed key (λ row. with_version time true row.next row) keys
 keys_after place time (Policy key text) keys = changed key (with_policy text) keys
 keys_after place time (Description key text) keys = changed key (with_description text) keys
+keys_after place time (AliasPut name alias) keys = keys
+keys_after place time (AliasDrop name) keys = keys
+keys_after place time (GrantAdd grant key grantee retiring operations constraint name) keys = keys
+keys_after place time (GrantDrop grant) keys = keys
 keys_after place time House keys = house_kept time keys
+
+-- the ids of the keys that are gone
+abbrev pub gone_keys : ℕ → List KeyRow → List (List ℕ)
+gone_keys time keys = map (λ (row : KeyRow). row.key) (filter (is_gone time) keys)
 
 -- whether housekeeping has something to do
 abbrev pub wants_house : ℕ → List KeyRow → Bool

@@ -4,23 +4,34 @@ use Rattle.std.specs.Int.{from_be_bytes, w64}
 use Rattle.std.specs.Str.{bytes_eq}
 use Rattle.kms_names.specs.Place.{is_behind}
 use Rattle.key_states.specs.declared.rows.KeyRow.{KeyRow}
+use Rattle.alias_map.specs.declared.rows.AliasRow.{AliasRow}
+use Rattle.grant_table.specs.declared.rows.GrantRow.{GrantRow}
 use Rattle.account_rows.specs.declared.entries.Entry.{Entry}
 use Rattle.account_rows.specs.declared.entries.What.{What}
-use Rattle.account_rows.specs.declared.entries.What.TheVariants.{CreateKey, Enable, Disable, Schedule, Cancel, RotationOn, RotationOff, RotateNow, Policy, Description, House}
+use Rattle.account_rows.specs.declared.entries.What.TheVariants.{CreateKey, Enable, Disable, Schedule, Cancel, RotationOn, RotationOff, RotateNow, Policy, Description, AliasPut, AliasDrop, GrantAdd, GrantDrop, House}
 use Rattle.account_rows.specs.Sizes.{size_of, bytes_in}
 use Rattle.account_rows.specs.Changes.{keys_after, wants_house}
+use Rattle.account_rows.specs.AliasChanges.{aliases_after}
+use Rattle.account_rows.specs.GrantChanges.{grants_after}
 
--- the number of entries, and the rows of keys in order of making
+-- the number of entries, and the rows of keys, aliases and grants, each in order of making
 pub record State : Type 0 where
   pub entries : ℕ
   pub keys : List KeyRow
+  pub aliases : List AliasRow
+  pub grants : List GrantRow
 
 -- what an entry does
 abbrev pub step : State → Entry → State
-step state entry = record { entries = state.entries + 1; keys = keys_after state.entries entry.time entry.what state.keys }
+step state entry = record {
+  entries = state.entries + 1;
+  keys = keys_after state.entries entry.time entry.what state.keys;
+  aliases = aliases_after state.entries entry.time entry.what state.keys state.aliases;
+  grants = grants_after state.entries entry.time entry.what state.keys state.grants;
+}
 
 abbrev pub nothing_yet : State
-nothing_yet = record { entries = 0; keys = [] }
+nothing_yet = record { entries = 0; keys = []; aliases = []; grants = [] }
 
 -- the entries one after another
 abbrev pub replay : List Entry → State
@@ -71,7 +82,11 @@ key_behind rows after = find (λ row. is_behind after row.born) rows
 abbrev pub place_in : List ℕ → ℕ
 place_in id = from_be_bytes w64 (0 ∷ 0 ∷ drop 10 id)
 
--- a key that an entry makes has an id that ends with the entry's place
+-- the place that a grant's id ends with, in six bytes
+abbrev pub place_in_grant : List ℕ → ℕ
+place_in_grant id = from_be_bytes w64 (0 ∷ 0 ∷ drop 26 id)
+
+-- a key or grant that an entry makes has an id that ends with the entry's place
 abbrev pub IsMadeHere : ℕ → What → Type 0
 IsMadeHere place (CreateKey key description policy) = place_in key ≡ place
 IsMadeHere place (Enable key) = Unit {0}
@@ -83,6 +98,10 @@ IsMadeHere place (RotationOff key) = Unit {0}
 IsMadeHere place (RotateNow key) = Unit {0}
 IsMadeHere place (Policy key text) = Unit {0}
 IsMadeHere place (Description key text) = Unit {0}
+IsMadeHere place (AliasPut name key) = Unit {0}
+IsMadeHere place (AliasDrop name) = Unit {0}
+IsMadeHere place (GrantAdd grant key grantee retiring operations constraint name) = place_in_grant grant ≡ place
+IsMadeHere place (GrantDrop grant) = Unit {0}
 IsMadeHere place House = Unit {0}
 
 -- an entry may come behind a history: its time is before the year 10000, and there is room for it
@@ -104,3 +123,8 @@ pub record IsRowOf (place : ℕ) (row : KeyRow) : Type 0 where
 pub record AreRows (place : ℕ) (rows : List KeyRow) : Type 0 where
   pub rise : AllPairs (λ (p q : KeyRow). p.born < q.born) rows
   pub each : All (IsRowOf place) rows
+
+-- a grant of the first so many entries
+pub record IsGrantOf (place : ℕ) (row : GrantRow) : Type 0 where
+  pub before : row.born < place
+  pub named : place_in_grant row.grant ≡ row.born

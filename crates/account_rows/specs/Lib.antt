@@ -1,4 +1,6 @@
 pub mod Sizes
 pub mod Changes
+pub mod AliasChanges
+pub mod GrantChanges
 pub mod History
 pub mod Replaying

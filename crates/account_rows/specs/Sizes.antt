@@ -1,10 +1,32 @@
 -- How many bytes entries count.
-use Rattle.std.specs.Prelude.{ℕ, ◌+◌, List, length, fold}
+use Rattle.std.specs.Prelude.{ℕ, ◌+◌, List, length, fold, Option, Some, None}
+use Rattle.kms_names.specs.Principal.{principal_text}
+use Rattle.kms_names.specs.declared.principals.Principal.{Principal}
+use Rattle.enc_context.specs.Encoding.{encoding_of}
+use Rattle.grant_table.specs.declared.constraints.Constraint.{Constraint}
+use Rattle.grant_table.specs.declared.constraints.Constraint.TheVariants.{Free, Equals, Subset}
 use Rattle.account_rows.specs.declared.entries.Entry.{Entry}
 use Rattle.account_rows.specs.declared.entries.What.{What}
-use Rattle.account_rows.specs.declared.entries.What.TheVariants.{CreateKey, Enable, Disable, Schedule, Cancel, RotationOn, RotationOff, RotateNow, Policy, Description, House}
+use Rattle.account_rows.specs.declared.entries.What.TheVariants.{CreateKey, Enable, Disable, Schedule, Cancel, RotationOn, RotationOff, RotateNow, Policy, Description, AliasPut, AliasDrop, GrantAdd, GrantDrop, House}
 
--- 64, and the bytes of its description, and of its policy or other text
+-- the bytes of a grant's name, where it has one
+abbrev pub name_size : Option (List ℕ) → ℕ
+name_size None = 0
+name_size (Some name) = length name
+
+-- the bytes of the printed ARN of a grant's retiring principal, where it has one
+abbrev pub retiring_size : Option Principal → ℕ
+retiring_size None = 0
+retiring_size (Some retiring) = length (principal_text retiring)
+
+-- the bytes of the encoded context of a constraint
+abbrev pub constraint_size : Constraint → ℕ
+constraint_size Free = 0
+constraint_size (Equals pairs) = length (encoding_of pairs)
+constraint_size (Subset pairs) = length (encoding_of pairs)
+
+-- 64, and the bytes of its description, of its policy or other text, of its alias name, of its grant's name, of the
+-- printed ARNs of its grantee and retiring principal, and of the encoded context of its constraint
 abbrev pub size_of : What → ℕ
 size_of (CreateKey key description policy) = 64 + length description + length policy
 size_of (Enable key) = 64
@@ -16,6 +38,10 @@ size_of (RotationOff key) = 64
 size_of (RotateNow key) = 64
 size_of (Policy key text) = 64 + length text
 size_of (Description key text) = 64 + length text
+size_of (AliasPut name key) = 64 + length name
+size_of (AliasDrop name) = 64 + length name
+size_of (GrantAdd grant key grantee retiring operations constraint name) = 64 + name_size name + length (principal_text grantee) + retiring_size retiring + constraint_size constraint
+size_of (GrantDrop grant) = 64
 size_of House = 64
 
 -- those of a history

@@ -1,9 +1,10 @@
 //! Entries of the history.
 
 ghost use Rattle.std.specs.Prelude.{◌≡◌, ◌+◌, length, min, IfOk};
-ghost use Rattle.account_rows.specs.Sizes.{size_of};
+ghost use Rattle.account_rows.specs.Sizes.{size_of, name_size, retiring_size, constraint_size};
 
-use kms_names::{KeyId, NoMemory, Text};
+use grant_table::{Constraint, copy_of_name, copy_of_principal};
+use kms_names::{AliasName, GrantId, GrantOps, KeyId, NoMemory, Principal, Text, principal_len};
 use std::alloc::Global;
 use std::marker::Model;
 use std::sync::Arc;
@@ -60,18 +61,78 @@ pub enum What {
         key: KeyId,
         text: Text,
     },
-    /// Housekeeping: keys whose date of deletion has come were removed, and keys whose automatic rotation was due were rotated.
+    /// An alias was made, or an alias of this name was given another key.
+    AliasPut {
+        name: AliasName,
+        key: KeyId,
+    },
+    /// An alias was deleted.
+    AliasDrop {
+        name: AliasName,
+    },
+    /// A grant of this id was made.
+    GrantAdd {
+        grant: GrantId,
+        key: KeyId,
+        grantee: Principal,
+        retiring: Option<Principal>,
+        operations: GrantOps,
+        constraint: Constraint,
+        name: Option<Text>,
+    },
+    /// A grant was retired or revoked.
+    GrantDrop {
+        grant: GrantId,
+    },
+    /// Housekeeping: keys whose date of deletion has come were removed with their aliases and grants, and keys whose automatic rotation was due were rotated.
     House,
 }
 
 /// How many bytes each entry counts beside its texts.
 const ENTRY: u64 = 64;
 
+// The number with some bytes more.
+fn with_bytes(bytes: u64, more: usize) -> u64
+    ensures { result ≡ min (bytes + more) 18446744073709551615 }
+{
+    bytes.saturating_add(more as u64)
+}
+
 // The number with the bytes of a text.
 fn with_text(bytes: u64, text: &Text) -> u64
     ensures { result ≡ min (bytes + length text.now) 18446744073709551615 }
 {
-    bytes.saturating_add(text.as_str().len() as u64)
+    with_bytes(bytes, text.as_str().len())
+}
+
+// The bytes of a grant's name, where it has one.
+fn name_size(name: &Option<Text>) -> usize
+    ensures { result ≡ name_size name.now }
+{
+    match name {
+        Some(name) => name.as_str().len(),
+        None => 0,
+    }
+}
+
+// The bytes of the printed ARN of a retiring principal, where there is one.
+fn retiring_size(retiring: &Option<Principal>) -> usize
+    ensures { result ≡ retiring_size retiring.now }
+{
+    match retiring {
+        Some(retiring) => principal_len(retiring),
+        None => 0,
+    }
+}
+
+// The bytes of the encoded context of a constraint.
+fn constraint_size(constraint: &Constraint) -> usize
+    ensures { result ≡ constraint_size constraint.now }
+{
+    match constraint {
+        Constraint::Free => 0,
+        Constraint::Equals(context) | Constraint::Subset(context) => context.encoded_len(),
+    }
 }
 
 impl What {
@@ -111,11 +172,35 @@ impl What {
                 key: *key,
                 text: text.copy()?,
             },
+            What::AliasPut { name, key } => What::AliasPut {
+                name: name.copy()?,
+                key: *key,
+            },
+            What::AliasDrop { name } => What::AliasDrop { name: name.copy()? },
+            What::GrantAdd {
+                grant,
+                key,
+                grantee,
+                retiring,
+                operations,
+                constraint,
+                name,
+            } => What::GrantAdd {
+                grant: *grant,
+                key: *key,
+                grantee: grantee.copy()?,
+                retiring: copy_of_principal(retiring)?,
+                operations: *operations,
+                constraint: constraint.copy()?,
+                name: copy_of_name(name)?,
+            },
+            What::GrantDrop { grant } => What::GrantDrop { grant: *grant },
             What::House => What::House,
         })
     }
 
-    /// How many bytes it counts: 64, and those of its texts, or as many as a u64 can say. No memory is taken.
+    /// How many bytes it counts: 64, and those of its texts, of its names, of the printed ARNs of a grant's principals, and
+    /// of the encoded context of its constraint, or as many as a u64 can say. No memory is taken.
     pub fn size(&self) -> u64
         ensures { result ≡ min (size_of self.now) 18446744073709551615 }
     {
@@ -126,6 +211,21 @@ impl What {
                 ..
             } => with_text(with_text(ENTRY, description), policy),
             What::Policy { text, .. } | What::Description { text, .. } => with_text(ENTRY, text),
+            What::AliasPut { name, .. } | What::AliasDrop { name } => {
+                with_bytes(ENTRY, name.as_str().len())
+            }
+            What::GrantAdd {
+                grantee,
+                retiring,
+                constraint,
+                name,
+                ..
+            } => {
+                let bytes = with_bytes(ENTRY, name_size(name));
+                let bytes = with_bytes(bytes, principal_len(grantee));
+                let bytes = with_bytes(bytes, retiring_size(retiring));
+                with_bytes(bytes, constraint_size(constraint))
+            }
             _ => ENTRY,
         }
     }

@@ -3,7 +3,9 @@
 //! Contracts see the rows as the list of their entries. Everything else is the replay of that list.
 #![tactic(auto)]
 
+mod aliases;
 mod entries;
+mod grants;
 mod held;
 mod replay;
 mod rows;

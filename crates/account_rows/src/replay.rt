@@ -2,7 +2,7 @@
 
 ghost use Rattle.std.specs.Prelude.{◌≡◌, ◌<◌, ◌++◌, ◌∷◌, [], IfOk, All, if◌then◌else◌};
 ghost use Rattle.std.specs.Str.{bytes_eq};
-ghost use Rattle.account_rows.specs.Changes.{changed, days_after, is_gone, new_key, house_kept, keys_after, next_date, rotated_if_due, wants_house, with_version};
+ghost use Rattle.account_rows.specs.Changes.{changed, days_after, is_gone, gone_keys, new_key, house_kept, keys_after, next_date, rotated_if_due, wants_house, with_version};
 ghost use Rattle.account_rows.specs.Replaying.{CanTurn, change_by};
 
 use crate::entries::{Entry, What};
@@ -186,6 +186,17 @@ fn changed(
     Ok(all)
 }
 
+// The same rows once more.
+fn shared(alloc: Global, keys: &[HeldKey]) -> Result<Vec<HeldKey>, NoMemory>
+    ensures { IfOk result (λ all. all.items ≡ keys.now) }
+{
+    let mut all = Vec::with_capacity(alloc, keys.len())?;
+    for held in keys {
+        all.push(held.share()?)?;
+    }
+    Ok(all)
+}
+
 // The rows with one more.
 fn with_key(alloc: Global, keys: &[HeldKey], key: HeldKey) -> Result<Vec<HeldKey>, NoMemory>
     ensures { IfOk result (λ all. all.items ≡ keys.now ++ key ∷ []) }
@@ -235,6 +246,19 @@ fn house_kept(alloc: Global, keys: &[HeldKey], time: u64) -> Result<Vec<HeldKey>
         }
     }
     Ok(all)
+}
+
+/// The ids of the keys that are gone. Its time grows with the number of keys.
+pub fn gone_keys(alloc: Global, keys: &[HeldKey], time: u64) -> Result<Vec<KeyId>, NoMemory>
+    ensures { IfOk result (λ gone. gone.items ≡ gone_keys time keys.now) }
+{
+    let mut gone = Vec::new(alloc);
+    for held in keys {
+        if is_gone(held.row(), time) {
+            gone.push(held.row().key)?;
+        }
+    }
+    Ok(gone)
 }
 
 /// Whether housekeeping has something to do at a moment. It takes no memory, and its time grows with the number of keys.
@@ -303,6 +327,10 @@ pub fn keys_after(
         What::Description { key, text } => {
             changed(alloc, keys, key, &Change::Description(text), default)
         }
+        What::AliasPut { .. }
+        | What::AliasDrop { .. }
+        | What::GrantAdd { .. }
+        | What::GrantDrop { .. } => shared(alloc, keys),
         What::House => house_kept(alloc, keys, time),
     }
 }

@@ -8,9 +8,13 @@ ghost use Rattle.kms_names.specs.Place.{is_behind};
 ghost use Rattle.std.specs.Prelude.{filter};
 ghost use Rattle.key_states.specs.declared.rows.KeyRow.{KeyRow};
 
+use crate::aliases::{HeldAliases, aliases_after};
 use crate::entries::{Entry, SharedEntry, What};
+use crate::grants::{HeldGrants, grants_after};
 use crate::held::{DefaultPolicy, HeldKey};
 use crate::replay::{keys_after, same_key, wants_house};
+use alias_map::AliasMap;
+use grant_table::GrantTable;
 use kms_names::{AccountNumber, KeyId, NoMemory};
 use std::alloc::Global;
 use std::marker::Model;
@@ -28,14 +32,17 @@ pub struct Rows {
     default: DefaultPolicy,
     entries: Vec<SharedEntry>,
     keys: Vec<HeldKey>,
+    aliases: HeldAliases,
+    grants: HeldGrants,
     latest: u64,
     bytes: u64,
 }
 
 impl Model for Rows {
-    ghost use Rattle.std.specs.Prelude.{◌≡◌, ◌≤◌, List, length};
+    ghost use Rattle.std.specs.Prelude.{◌≡◌, ◌≤◌, List, length, All};
+    ghost use Rattle.alias_map.specs.Aliases.{AreBefore};
     ghost use Rattle.account_rows.specs.declared.entries.Entry.{Entry};
-    ghost use Rattle.account_rows.specs.History.{replay, latest_of, most_entries, most_bytes, AreRows};
+    ghost use Rattle.account_rows.specs.History.{replay, latest_of, most_entries, most_bytes, AreRows, IsGrantOf};
     ghost use Rattle.account_rows.specs.Sizes.{bytes_in};
 
     ghost Value = { List Entry };
@@ -45,6 +52,10 @@ impl Model for Rows {
     ghost invariant = { λ rows. record {
       keys : rows.keys.items ≡ (replay rows.entries.items).keys;
       are : AreRows (length rows.entries.items) rows.keys.items;
+      aliases : rows.aliases ≡ (replay rows.entries.items).aliases;
+      before : AreBefore rows.aliases (length rows.entries.items);
+      grants : rows.grants ≡ (replay rows.entries.items).grants;
+      granted : All (IsGrantOf (length rows.entries.items)) rows.grants;
       latest : rows.latest ≡ latest_of rows.entries.items;
       bytes : rows.bytes ≡ bytes_in rows.entries.items;
       few : length rows.entries.items ≤ most_entries;
@@ -101,6 +112,8 @@ impl Rows {
             default: DefaultPolicy::new(alloc, account)?,
             entries: Vec::new(alloc),
             keys: Vec::new(alloc),
+            aliases: HeldAliases::new(alloc)?,
+            grants: HeldGrants::new(alloc)?,
             latest: 0,
             bytes: 0,
         })
@@ -117,6 +130,8 @@ impl Rows {
             default: self.default.share()?,
             entries: with_entry(alloc, &self.entries, entry)?,
             keys: keys_after(alloc, &self.keys, place, entry, &self.default)?,
+            aliases: aliases_after(alloc, &self.aliases, &self.keys, place, entry)?,
+            grants: grants_after(alloc, &self.grants, &self.keys, place, entry)?,
             latest: entry.time,
             bytes: self.bytes + entry.what.size(),
         })
@@ -200,6 +215,20 @@ impl Rows {
             Ok(at) if same_key(&self.keys[at].row().key, key) => Some(&self.keys[at]),
             _ => None,
         }
+    }
+
+    /// The aliases. No memory is taken.
+    pub fn aliases(&self) -> &AliasMap
+        ensures { result.now ≡ (replay self.now).aliases }
+    {
+        self.aliases.map()
+    }
+
+    /// The grants. No memory is taken.
+    pub fn grants(&self) -> &GrantTable
+        ensures { result.now ≡ (replay self.now).grants }
+    {
+        self.grants.table()
     }
 
     // The keys that were made behind a place, or all.

@@ -13,7 +13,7 @@ use Rattle.std.proofs.lemmas.List.Sums.{fails_before_first, passes_at_first}
 use Rattle.std.proofs.lemmas.Option.{slice_get-get_or, slice_get_past}
 use Rattle.std.proofs.lemmas.Slice.Eq.{bytes_eq-Decides}
 use Rattle.alias_map.specs.declared.rows.AliasRow.{AliasRow}
-use Rattle.alias_map.specs.Aliases.{has_name, row_named, with_row, without, AreBefore, MayPut, AreAliases}
+use Rattle.alias_map.specs.Aliases.{has_name, row_named, with_row, without, names_any, without_keys, AreBefore, MayPut, AreAliases}
 
 -- the first place of a name, or the number of aliases
 abbrev pub place_of : List AliasRow → AliasRow → ℕ
@@ -74,6 +74,12 @@ pub without_keeps : (rows : List AliasRow) (name : List ℕ) → AreAliases rows
 without_keeps rows name (names, births) = (
   AllPairs-filter (λ (p q : AliasRow). p.name ≢ q.name) (λ row. not (has_name name row)) rows names,
   AllPairs-filter (λ (p q : AliasRow). p.born < q.born) (λ row. not (has_name name row)) rows births,
+)
+
+pub without_keys_keeps : (rows : List AliasRow) (keys : List (List ℕ)) → AreAliases rows → AreAliases (without_keys rows keys)
+without_keys_keeps rows keys (names, births) = (
+  AllPairs-filter (λ (p q : AliasRow). p.name ≢ q.name) (λ row. not (names_any keys row)) rows names,
+  AllPairs-filter (λ (p q : AliasRow). p.born < q.born) (λ row. not (names_any keys row)) rows births,
 )
 
 -- a field that the row has in common with the one in whose place it stands

@@ -1,5 +1,6 @@
 -- Aliases in order of making, as a plain list.
 use Rattle.std.specs.Prelude.{◌≡◌, ◌≢◌, ℕ, ◌<◌, Bool, not, ◌&&◌, List, [], ◌∷◌, filter, find, Option, MatchOption, IsSome, All, AllPairs, if◌then◌else◌}
+use Rattle.std.specs.List.{list_any}
 use Rattle.std.specs.Str.{bytes_eq}
 use Rattle.kms_names.specs.Place.{is_behind}
 use Rattle.alias_map.specs.declared.rows.AliasRow.{AliasRow}
@@ -34,6 +35,14 @@ with_row (first ∷ rest) row = if has_name row.name first then row ∷ rest els
 -- the aliases of all other names
 abbrev pub without : List AliasRow → List ℕ → List AliasRow
 without rows name = filter (λ row. not (has_name name row)) rows
+
+-- an alias names one of the keys
+abbrev pub names_any : List (List ℕ) → AliasRow → Bool
+names_any keys row = list_any (λ key. names_key key row) keys
+
+-- the aliases that name none of the keys
+abbrev pub without_keys : List AliasRow → List (List ℕ) → List AliasRow
+without_keys rows keys = filter (λ row. not (names_any keys row)) rows
 
 -- each alias was made before this place
 abbrev pub AreBefore : List AliasRow → ℕ → Type 0

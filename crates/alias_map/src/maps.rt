@@ -83,7 +83,7 @@ fn placed(
 impl AliasMap {
     ghost use Rattle.std.specs.Prelude.{◌≡◌, [], length, filter, position, IfOk};
     ghost use Rattle.std.specs.Option.{option_map};
-    ghost use Rattle.alias_map.specs.Aliases.{has_name, is_after, row_named, row_after, row_of_key, with_row, without, MayPut, IsThere, AreAliases};
+    ghost use Rattle.alias_map.specs.Aliases.{has_name, is_after, row_named, row_after, row_of_key, with_row, without, without_keys, MayPut, IsThere, AreAliases};
 
     /// No aliases; no memory is taken. The map and those that are made of it keep the allocator.
     pub fn new(alloc: Global) -> AliasMap
@@ -110,6 +110,15 @@ impl AliasMap {
         ensures aliases { AreAliases self.now }
     {
         self.rows.len()
+    }
+
+    /// All aliases, in order of making. No two have one name, and each was made before those behind it. No memory is
+    /// taken.
+    pub fn rows(&self) -> &[AliasRow]
+        ensures rows { result.now ≡ self.now }
+        ensures aliases { AreAliases self.now }
+    {
+        self.rows.as_slice()
     }
 
     /// The alias of a name. No memory is taken.
@@ -174,6 +183,19 @@ impl AliasMap {
         let mut rows = Vec::new(*self.rows.allocator());
         for row in &self.rows {
             if !row.has_name(name) {
+                rows.push(row.copy()?)?;
+            }
+        }
+        AliasMap::of_rows(rows)
+    }
+
+    /// The map without the aliases of some keys. Its time grows with the number of aliases times that of the keys.
+    pub fn without_keys(&self, keys: &[KeyId]) -> Result<AliasMap, NoMemory>
+        ensures { IfOk result (λ map. map ≡ without_keys self.now keys.now) }
+    {
+        let mut rows = Vec::new(*self.rows.allocator());
+        for row in &self.rows {
+            if !row.names_any(keys) {
                 rows.push(row.copy()?)?;
             }
         }

@@ -2,7 +2,7 @@
 
 ghost use Rattle.std.specs.Prelude.{◌≡◌, ◌&&◌, IfOk};
 ghost use Rattle.std.specs.Str.{bytes_eq};
-ghost use Rattle.alias_map.specs.Aliases.{has_name, names_key, is_after};
+ghost use Rattle.alias_map.specs.Aliases.{has_name, names_key, names_any, is_after};
 
 use kms_names::{AliasName, KeyId, NoMemory};
 
@@ -35,18 +35,25 @@ impl AliasRow {
         })
     }
 
-    /// Whether this is its name.
-    pub(crate) fn has_name(&self, name: &AliasName) -> bool
+    /// Whether this is its name. No memory is taken.
+    pub fn has_name(&self, name: &AliasName) -> bool
         ensures { result ≡ has_name name.now self.now }
     {
         self.name == *name
     }
 
-    /// Whether it names this key.
-    pub(crate) fn names_key(&self, key: &KeyId) -> bool
+    /// Whether it names this key. No memory is taken.
+    pub fn names_key(&self, key: &KeyId) -> bool
         ensures { result ≡ names_key key.now self.now }
     {
         self.key == *key
+    }
+
+    /// Whether it names one of these keys. Its time grows with their number.
+    pub(crate) fn names_any(&self, keys: &[KeyId]) -> bool
+        ensures { result ≡ names_any keys.now self.now }
+    {
+        keys.iter().any(|key| self.names_key(key))
     }
 
     /// Whether it was made behind this place; every alias was where none is given.

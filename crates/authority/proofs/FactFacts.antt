@@ -13,6 +13,13 @@ use Rattle.authority.specs.Facts.{single, behind_slash, user_facts, caller_facts
 pub adds : (old mid new a b : List Fact) → mid ≡ old ++ a → new ≡ mid ++ b → new ≡ old ++ (a ++ b)
 adds old mid new a b e f = f ∙ ap (λ (l : List Fact). l ++ b) e ∙ append_assoc old a b
 
+-- three, and four
+pub three : (old m n new a b c : List Fact) → m ≡ old ++ a → n ≡ m ++ b → new ≡ n ++ c → new ≡ old ++ (a ++ (b ++ c))
+three old m n new a b c e f g = adds old m new a (b ++ c) e (adds m n new b c f g)
+
+pub four : (old m n o new a b c d : List Fact) → m ≡ old ++ a → n ≡ m ++ b → o ≡ n ++ c → new ≡ o ++ d → new ≡ old ++ (a ++ (b ++ (c ++ d)))
+four old m n o new a b c d e f g h = adds old m new a (b ++ (c ++ d)) e (three m n o new b c d f g h)
+
 pub caller_is : (old mid new : List Fact) (caller : Principal) (arn account again : List ℕ) → arn ≡ principal_text caller → account ≡ account_of caller → again ≡ account_of caller
     → mid ≡ old ++ (single (codes "aws:PrincipalArn") arn ∷ single (codes "aws:PrincipalAccount") account ∷ single (codes "kms:CallerAccount") again ∷ [])
     → new ≡ mid ++ user_facts caller → new ≡ old ++ caller_facts caller

@@ -13,7 +13,7 @@ use Rattle.policy_eval.specs.Verdict.{IsAllow, IsDeny, SomeDenies, SomeAllowsCal
 use Rattle.policy_eval.specs.VerdictOf.{verdict_of, verdict_of_lem}
 use Rattle.authority.specs.Setting.{Setting, Asked, is_root}
 use Rattle.authority.specs.Facts.{request_of}
-use Rattle.authority.specs.Allowed.{is_deny, is_direct, some_deny, some_allow, identity_allows, key_allows, is_allowed, IdentityDenies, IdentityAllows, May, IsKeyPolicy, AreIdentityPolicies, AllowedByStatements}
+use Rattle.authority.specs.Allowed.{is_deny, is_direct, some_deny, some_allow, identity_allows, own_standing, key_standing, standing_of, settled, is_allowed, IdentityDenies, IdentityAllows, May, IsKeyPolicy, AreIdentityPolicies, AllowedByStatements}
 
 module _ (request : RequestFacts) where
   abbrev Denies : Policy → Type 0
@@ -79,19 +79,33 @@ identity_by false false a of from_d of_a from_a = (
   λ h. elim h.1 [ inl t ↦ cc | inr x ↦ from_a h.0 x ],
 )
 
-key_by : {D I : Type 0} (statements : List Statement) (request : RequestFacts) (v : Verdict) → IsKeyVerdict statements request v → (d i : Bool) → (d ≡ true → D) → (D → d ≡ true) → IsTrue i ↔ (¬ D × I)
-    → IsTrue (key_allows v d i) ↔ (¬ (SomeDenies statements request) × ¬ D × (SomeAllowsCaller statements request ⊎ (SomeAllowsAccount statements request × I)))
-key_by statements request Deny is d i of from_d tells = (λ e. cc, λ h. absurd (h.0 is))
-key_by statements request Direct is true i of from_d tells = (λ e. cc, λ h. absurd (h.1 (of refl)))
-key_by statements request Direct is false i of from_d tells = (λ e. (is.0, λ x. no_both false refl (from_d x), inl is.1), λ h. refl)
-key_by statements request ByRoot is d i of from_d tells = (
-  λ e. let told = tells.0 e in (is.0, told.0, inr (is.2, told.1)),
-  λ h. elim h.2 [ inl caller ↦ absurd (is.1 caller) | inr account ↦ tells.1 (h.1, account.1) ],
+key_by : {D I : Type 0} (statements : List Statement) (request : RequestFacts) (v : Verdict) → IsKeyVerdict statements request v → (d i g : Bool) → (d ≡ true → D) → (D → d ≡ true) → IsTrue i ↔ (¬ D × I)
+    → IsTrue (settled (key_standing v d i) g) ↔ (¬ (SomeDenies statements request) × ¬ D × (SomeAllowsCaller statements request ⊎ (SomeAllowsAccount statements request × I) ⊎ IsTrue g))
+key_by statements request Deny is d i g of from_d tells = (λ e. cc, λ h. absurd (h.0 is))
+key_by statements request Direct is true i g of from_d tells = (λ e. cc, λ h. absurd (h.1 (of refl)))
+key_by statements request Direct is false i g of from_d tells = (λ e. (is.0, λ x. no_both false refl (from_d x), inl is.1), λ h. refl)
+key_by statements request ByRoot is true i g of from_d tells = (λ e. cc, λ h. absurd (h.1 (of refl)))
+key_by statements request ByRoot is false true g of from_d tells = (λ e. let told = tells.0 refl in (is.0, told.0, inr (inl (is.2, told.1))), λ h. refl)
+key_by statements request ByRoot is false false g of from_d tells = (
+  λ e. (is.0, λ x. no_both false refl (from_d x), inr (inr e)),
+  λ h. elim h.2 [
+    | inl caller ↦ absurd (is.1 caller)
+    | inr rest ↦ elim rest [ inl account ↦ absurd (no_both false refl (tells.1 (h.1, account.1))) | inr given ↦ given ]
+  ],
 )
-key_by statements request Silent is d i of from_d tells = (
-  λ e. cc,
-  λ h. elim h.2 [ inl caller ↦ absurd (is.1 caller) | inr account ↦ absurd (is.2 account.0) ],
+key_by statements request Silent is true i g of from_d tells = (λ e. cc, λ h. absurd (h.1 (of refl)))
+key_by statements request Silent is false i g of from_d tells = (
+  λ e. (is.0, λ x. no_both false refl (from_d x), inr (inr e)),
+  λ h. elim h.2 [
+    | inl caller ↦ absurd (is.1 caller)
+    | inr rest ↦ elim rest [ inl account ↦ absurd (is.2 account.0) | inr given ↦ given ]
+  ],
 )
+
+-- without a key a grant doesn't count
+own_by : {P : Type 0} (a g : Bool) → IsTrue a ↔ P → IsTrue (settled (own_standing a) g) ↔ P
+own_by true g tells = tells
+own_by false g tells = tells
 
 -- ---- the law
 
@@ -104,14 +118,14 @@ module _ (setting : Setting) (asked : Asked) (kinds : AreIdentityPolicies settin
       identity_by (some_deny setting.policies request) (is_root setting.caller) (some_allow setting.policies request)
       (denies_of request setting.policies kinds) (denies_from request setting.policies kinds) (allows_of request setting.policies kinds) (allows_from request setting.policies kinds)
 
-  allowed_where : (policy : Option Policy) → IsKeyPolicy policy → IsTrue (is_allowed setting policy asked) ↔ May setting policy request
-  unfolding is_allowed
-  allowed_where None kind = identity_tells
-  allowed_where (Some policy) kind =
+  allowed_where : (policy : Option Policy) (granted : Bool) → IsKeyPolicy policy → IsTrue (is_allowed setting policy asked granted) ↔ May setting policy granted request
+  unfolding standing_of
+  allowed_where None granted kind = own_by (identity_allows setting.caller setting.policies request) granted identity_tells
+  allowed_where (Some policy) granted kind =
       key_by policy.statements request (verdict_of policy request)
       (subst (λ (k : PolicyKind). IsVerdictOf k policy.statements request (verdict_of policy request)) kind (verdict_of_lem policy request))
-      (some_deny setting.policies request) (identity_allows setting.caller setting.policies request)
+      (some_deny setting.policies request) (identity_allows setting.caller setting.policies request) granted
       (denies_of request setting.policies kinds) (denies_from request setting.policies kinds) identity_tells
 
 pub allowed_by : AllowedByStatements
-allowed_by setting policy asked kind kinds = allowed_where setting asked kinds policy kind
+allowed_by setting policy asked granted kind kinds = allowed_where setting asked kinds policy granted kind

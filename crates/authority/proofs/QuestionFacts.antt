@@ -10,7 +10,7 @@ use Rattle.policy_eval.specs.VerdictOf.{verdict_of}
 use Rattle.policy_eval.specs.Laws.{HasOneVerdictByQuestion}
 use Rattle.authority.specs.Setting.{Setting, Asked, is_root}
 use Rattle.authority.specs.Facts.{request_of}
-use Rattle.authority.specs.Allowed.{is_deny, is_direct, some_deny, some_allow, identity_allows, key_allows, allows, is_allowed}
+use Rattle.authority.specs.Allowed.{is_deny, is_direct, some_deny, some_allow, identity_allows, own_standing, key_standing, standing, standing_of}
 use Rattle.authority.specs.Questions.{GoByQuestions, KeyGoesByQuestion, SaysWhatIsAsked}
 
 module _ (a b : RequestFacts) (same : AskTheSame a b) where
@@ -31,16 +31,16 @@ module _ (a b : RequestFacts) (same : AskTheSame a b) where
       ap₂ (λ (x y : Bool). not x && (if is_root caller then true else y)) (denies_same policies go) (allows_same policies go)
 
   question_same : (caller : Principal) (policies : List Policy) (policy : Option Policy) → GoByQuestions policies → KeyGoesByQuestion policy
-      → allows caller policies policy a ≡ allows caller policies policy b
-  question_same caller policies None go key = identity_same caller policies go
+      → standing caller policies policy a ≡ standing caller policies policy b
+  question_same caller policies None go key = ap own_standing (identity_same caller policies go)
   question_same caller policies (Some policy) go key =
-      ap (λ (v : Verdict). key_allows v (some_deny policies a) (identity_allows caller policies a)) (key a b same)
-      ∙ ap₂ (key_allows (verdict_of policy b)) (denies_same policies go) (identity_same caller policies go)
+      ap (λ (v : Verdict). key_standing v (some_deny policies a) (identity_allows caller policies a)) (key a b same)
+      ∙ ap₂ (key_standing (verdict_of policy b)) (denies_same policies go) (identity_same caller policies go)
 
 pub one_answer : (setting : Setting) (asked : Asked) (policy : Option Policy) (wanted : Bool) (request : RequestFacts)
     → (wanted ≡ false → KeyGoesByQuestion policy) → (wanted ≡ false → GoByQuestions setting.policies) → SaysWhatIsAsked setting asked wanted request
-    → allows setting.caller setting.policies policy request ≡ is_allowed setting policy asked
-unfolding is_allowed
-one_answer setting asked policy true request key own told = ap (allows setting.caller setting.policies policy) (told.facts refl)
+    → standing setting.caller setting.policies policy request ≡ standing_of setting policy asked
+unfolding standing_of
+one_answer setting asked policy true request key own told = ap (standing setting.caller setting.policies policy) (told.facts refl)
 one_answer setting asked policy false request key own told =
     question_same request (request_of setting asked) (told.caller, told.action, told.resource) setting.caller setting.policies policy (own refl) (key refl)

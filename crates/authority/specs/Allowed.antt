@@ -1,5 +1,5 @@
 -- Whether a request may be served (IAM User Guide, "Policy evaluation logic"; AWS KMS Developer Guide, "Key policies").
-use Rattle.std.specs.Prelude.{◌↔◌, ◌⊎◌, ◌≡◌, ◌&&◌, Bool, true, false, not, IsTrue, List, All, Any, Option, Some, None, if◌then◌else◌}
+use Rattle.std.specs.Prelude.{◌↔◌, ◌⊎◌, ◌≡◌, ◌&&◌, ◌||◌, Bool, true, false, not, IsTrue, List, All, Any, Option, Some, None, if◌then◌else◌}
 use Rattle.std.specs.List.{list_any}
 use Rattle.kms_names.specs.declared.principals.Principal.{Principal}
 use Rattle.cond_ops.specs.declared.facts.RequestFacts.{RequestFacts}
@@ -9,6 +9,8 @@ use Rattle.policy_eval.specs.declared.verdicts.Verdict.{Verdict}
 use Rattle.policy_eval.specs.declared.verdicts.Verdict.TheVariants.{Deny, Direct, ByRoot, Silent}
 use Rattle.policy_eval.specs.Verdict.{IsAllow, IsDeny, SomeDenies, SomeAllowsCaller, SomeAllowsAccount}
 use Rattle.policy_eval.specs.VerdictOf.{verdict_of}
+use Rattle.authority.specs.declared.standings.Standing.{Standing}
+use Rattle.authority.specs.declared.standings.Standing.TheVariants.{Denied, Allowed, IfGranted}
 use Rattle.authority.specs.Setting.{Setting, Asked, is_root}
 use Rattle.authority.specs.Facts.{request_of}
 
@@ -39,26 +41,43 @@ some_deny policies request = list_any (λ (p : Policy). is_deny (verdict_of p re
 abbrev pub some_allow : List Policy → RequestFacts → Bool
 some_allow policies request = list_any (λ (p : Policy). is_direct (verdict_of p request)) policies
 
+-- it is the root, or some policy allows it
+abbrev pub own_allow : Principal → List Policy → RequestFacts → Bool
+own_allow caller policies request = if is_root caller then true else some_allow policies request
+
 -- the caller is allowed it: nothing denies it, and it is the root, or some policy allows it
 abbrev pub identity_allows : Principal → List Policy → RequestFacts → Bool
-identity_allows caller policies request = not (some_deny policies request) && (if is_root caller then true else some_allow policies request)
+identity_allows caller policies request = not (some_deny policies request) && own_allow caller policies request
 
 -- ---- a question
 
--- on a key: its policy doesn't deny it either, and allows it directly, or by the root of the account and the caller is allowed it
-abbrev pub key_allows : Verdict → Bool → Bool → Bool
-key_allows Deny denied allowed = false
-key_allows Direct denied allowed = not denied
-key_allows ByRoot denied allowed = allowed
-key_allows Silent denied allowed = false
+-- without a key: the caller is allowed it
+abbrev pub own_standing : Bool → Standing
+own_standing allowed = if allowed then Allowed else Denied
+
+-- on a key: denied where its policy or one of the caller's denies it; allowed where its policy allows it directly, or by the
+-- root of the account while the caller is allowed it; else a grant may still permit it
+abbrev pub key_standing : Verdict → Bool → Bool → Standing
+key_standing verdict denied allowed =
+    if is_deny verdict || denied then Denied else if is_direct verdict || (is_by_root verdict && allowed) then Allowed else IfGranted
 
 -- with the policy of the key, where the question is about one
-abbrev pub allows : Principal → List Policy → Option Policy → RequestFacts → Bool
-allows caller policies None request = identity_allows caller policies request
-allows caller policies (Some policy) request = key_allows (verdict_of policy request) (some_deny policies request) (identity_allows caller policies request)
+abbrev pub standing : Principal → List Policy → Option Policy → RequestFacts → Standing
+standing caller policies None request = own_standing (identity_allows caller policies request)
+standing caller policies (Some policy) request = key_standing (verdict_of policy request) (some_deny policies request) (identity_allows caller policies request)
 
-unfoldable pub is_allowed : Setting → Option Policy → Asked → Bool
-is_allowed setting policy asked = allows setting.caller setting.policies policy (request_of setting asked)
+-- what policies say of a question
+unfoldable pub standing_of : Setting → Option Policy → Asked → Standing
+standing_of setting policy asked = standing setting.caller setting.policies policy (request_of setting asked)
+
+-- whether it is allowed, where a live grant permits it or none does
+abbrev pub settled : Standing → Bool → Bool
+settled Denied granted = false
+settled Allowed granted = true
+settled IfGranted granted = granted
+
+abbrev pub is_allowed : Setting → Option Policy → Asked → Bool → Bool
+is_allowed setting policy asked granted = settled (standing_of setting policy asked) granted
 
 -- ---- the same in terms of statements
 
@@ -70,19 +89,19 @@ abbrev pub IdentityAllows : Setting → RequestFacts → Type 0
 IdentityAllows setting request = IsTrue (is_root setting.caller) ⊎ Any (λ (p : Policy). Any (λ s. IsAllow s request) p.statements) setting.policies
 
 -- no statement denies it, and a statement of the key's policy allows the caller, or allows the root of the account while a
--- statement of the caller's policies allows it
-abbrev pub MayOnKey : Setting → Policy → RequestFacts → Type 0
-MayOnKey setting policy request =
+-- statement of the caller's policies allows it, or a grant permits it
+abbrev pub MayOnKey : Setting → Policy → Bool → RequestFacts → Type 0
+MayOnKey setting policy granted request =
     ¬ (SomeDenies policy.statements request) × ¬ (IdentityDenies setting request)
-    × (SomeAllowsCaller policy.statements request ⊎ (SomeAllowsAccount policy.statements request × IdentityAllows setting request))
+    × (SomeAllowsCaller policy.statements request ⊎ (SomeAllowsAccount policy.statements request × IdentityAllows setting request) ⊎ IsTrue granted)
 
--- without a key a statement of the caller's policies allows it, and none denies it
+-- without a key a statement of the caller's policies allows it, and none denies it; a grant doesn't count
 abbrev pub MayWithoutKey : Setting → RequestFacts → Type 0
 MayWithoutKey setting request = ¬ (IdentityDenies setting request) × IdentityAllows setting request
 
-abbrev pub May : Setting → Option Policy → RequestFacts → Type 0
-May setting None request = MayWithoutKey setting request
-May setting (Some policy) request = MayOnKey setting policy request
+abbrev pub May : Setting → Option Policy → Bool → RequestFacts → Type 0
+May setting None granted request = MayWithoutKey setting request
+May setting (Some policy) granted request = MayOnKey setting policy granted request
 
 -- the policies have the kinds of what they are attached to
 abbrev pub IsKeyPolicy : Option Policy → Type 0
@@ -95,5 +114,5 @@ AreIdentityPolicies policies = All (λ (p : Policy). p.kind ≡ Identity) polici
 -- a question is allowed exactly where statements say so
 abbrev pub AllowedByStatements : Type 0
 AllowedByStatements =
-    (setting : Setting) (policy : Option Policy) (asked : Asked) → IsKeyPolicy policy → AreIdentityPolicies setting.policies
-    → IsTrue (is_allowed setting policy asked) ↔ May setting policy (request_of setting asked)
+    (setting : Setting) (policy : Option Policy) (asked : Asked) (granted : Bool) → IsKeyPolicy policy → AreIdentityPolicies setting.policies
+    → IsTrue (is_allowed setting policy asked granted) ↔ May setting policy granted (request_of setting asked)

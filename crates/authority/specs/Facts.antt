@@ -1,20 +1,46 @@
 -- What a request says to conditions of policies (AWS KMS Developer Guide, "Condition keys for AWS KMS"; IAM User Guide, "AWS
 -- global condition context keys").
-use Rattle.std.specs.Prelude.{ℕ, ◌==◌, Bool, true, false, if◌then◌else◌, List, [], ◌∷◌, ◌++◌, map, fold, codes, decimal, Option, Some, None}
+use Rattle.std.specs.Prelude.{ℕ, ◌==◌, Bool, true, false, if◌then◌else◌, List, [], ◌∷◌, ◌++◌, map, fold, codes, decimal, Option, Some, None, option_map}
+use Rattle.kms_names.specs.GrantOps.{grant_op_name, members}
 use Rattle.kms_names.specs.Principal.{principal_text, account_of}
 use Rattle.kms_names.specs.declared.actions.Action.{Action}
 use Rattle.kms_names.specs.declared.actions.Action.TheVariants as action
 use Rattle.kms_names.specs.declared.principals.Principal.{Principal}
 use Rattle.kms_names.specs.declared.principals.Principal.TheVariants.{Root, User, Role}
 use Rattle.enc_context.specs.declared.pairs.Pair.{Pair}
+use Rattle.grant_table.specs.declared.constraints.Constraint.{Constraint}
+use Rattle.grant_table.specs.declared.constraints.Constraint.TheVariants.{Free, Equals, Subset}
 use Rattle.cond_ops.specs.declared.facts.Fact.{Fact}
 use Rattle.cond_ops.specs.declared.facts.RequestFacts.{RequestFacts}
 use Rattle.authority.specs.Times.{moment_text}
-use Rattle.authority.specs.Setting.{Setting, Particulars, Asked}
+use Rattle.authority.specs.Setting.{Setting, GrantSaid, Particulars, Asked}
+
+-- a condition key with these values
+abbrev pub several : List ℕ → List (List ℕ) → Fact
+several key values = record { key = key; values = values }
 
 -- a condition key with one value
 abbrev pub single : List ℕ → List ℕ → Fact
-single key value = record { key = key; values = value ∷ [] }
+single key value = several key (value ∷ [])
+
+-- the same, where there are any, and where there is one
+abbrev pub several_facts : List ℕ → List (List ℕ) → List Fact
+several_facts key [] = []
+several_facts key (value ∷ values) = several key (value ∷ values) ∷ []
+
+abbrev pub text_facts : List ℕ → Option (List ℕ) → List Fact
+text_facts key None = []
+text_facts key (Some text) = single key text ∷ []
+
+abbrev pub truth_text : Bool → List ℕ
+truth_text true = codes "true"
+truth_text false = codes "false"
+
+abbrev pub truth_facts : List ℕ → Option Bool → List Fact
+truth_facts key truth = text_facts key (option_map truth_text truth)
+
+abbrev pub number_facts : List ℕ → Option ℕ → List Fact
+number_facts key number = text_facts key (option_map decimal number)
 
 -- what stands behind the last `/` (47)
 abbrev pub behind_slash : List ℕ → List ℕ
@@ -52,8 +78,7 @@ abbrev pub pair_fact : Pair → Fact
 pair_fact pair = single (codes "kms:EncryptionContext:" ++ pair.key) pair.value
 
 abbrev pub keys_fact : List Pair → List Fact
-keys_fact [] = []
-keys_fact (pair ∷ pairs) = record { key = codes "kms:EncryptionContextKeys"; values = map (λ (p : Pair). p.key) (pair ∷ pairs) } ∷ []
+keys_fact pairs = several_facts (codes "kms:EncryptionContextKeys") (map (λ (p : Pair). p.key) pairs)
 
 abbrev pub context_facts : List Pair → List Fact
 context_facts pairs = map pair_fact pairs ++ keys_fact pairs
@@ -97,32 +122,99 @@ abbrev pub algorithm_facts : Bool → List Fact
 algorithm_facts false = []
 algorithm_facts true = single (codes "kms:EncryptionAlgorithm") (codes "SYMMETRIC_DEFAULT") ∷ []
 
-abbrev pub truth_text : Bool → List ℕ
-truth_text true = codes "true"
-truth_text false = codes "false"
+-- ---- of a grant
 
-abbrev pub truth_facts : List ℕ → Option Bool → List Fact
-truth_facts key None = []
-truth_facts key (Some truth) = single key (truth_text truth) ∷ []
+-- the name of the member of a constraint
+abbrev pub constraint_type : Constraint → Option (List ℕ)
+constraint_type Free = None
+constraint_type (Equals pairs) = Some (codes "EncryptionContextEquals")
+constraint_type (Subset pairs) = Some (codes "EncryptionContextSubset")
 
-abbrev pub number_facts : List ℕ → Option ℕ → List Fact
-number_facts key None = []
-number_facts key (Some number) = single key (decimal number) ∷ []
+-- the grant that is asked for
+abbrev pub said_facts : GrantSaid → List Fact
+said_facts grant =
+    (several (codes "kms:GrantOperations") (map grant_op_name (members grant.operations)) ∷ single (codes "kms:GranteePrincipal") (principal_text grant.grantee) ∷ [])
+    ++ (text_facts (codes "kms:RetiringPrincipal") (option_map principal_text grant.retiring)
+    ++ text_facts (codes "kms:GrantConstraintType") (constraint_type grant.constraint))
+
+abbrev pub grant_facts : Option GrantSaid → List Fact
+grant_facts None = []
+grant_facts (Some grant) = said_facts grant
+
+-- the actions on the grants of a key by which a service of AWS may act for a caller
+abbrev pub is_on_grants : Action → Bool
+is_on_grants action.CreateGrant = true
+is_on_grants action.ListGrants = true
+is_on_grants action.RevokeGrant = true
+is_on_grants action.Encrypt = false
+is_on_grants action.Decrypt = false
+is_on_grants action.ReEncryptFrom = false
+is_on_grants action.ReEncryptTo = false
+is_on_grants action.GenerateDataKey = false
+is_on_grants action.GenerateDataKeyWithoutPlaintext = false
+is_on_grants action.CreateKey = false
+is_on_grants action.DescribeKey = false
+is_on_grants action.ListKeys = false
+is_on_grants action.EnableKey = false
+is_on_grants action.DisableKey = false
+is_on_grants action.ScheduleKeyDeletion = false
+is_on_grants action.CancelKeyDeletion = false
+is_on_grants action.EnableKeyRotation = false
+is_on_grants action.DisableKeyRotation = false
+is_on_grants action.GetKeyRotationStatus = false
+is_on_grants action.RotateKeyOnDemand = false
+is_on_grants action.ListKeyRotations = false
+is_on_grants action.PutKeyPolicy = false
+is_on_grants action.GetKeyPolicy = false
+is_on_grants action.ListKeyPolicies = false
+is_on_grants action.UpdateKeyDescription = false
+is_on_grants action.CreateAlias = false
+is_on_grants action.UpdateAlias = false
+is_on_grants action.DeleteAlias = false
+is_on_grants action.ListAliases = false
+is_on_grants action.ListRetirableGrants = false
+is_on_grants action.RetireGrant = false
+is_on_grants action.GenerateRandom = false
+
+-- no service of AWS acts for a caller
+abbrev pub for_service_facts : Bool → List Fact
+for_service_facts false = []
+for_service_facts true = single (codes "kms:GrantIsForAWSResource") (codes "false") ∷ []
 
 -- ---- all of them, in order
 
+-- who asks, when and where
+abbrev pub setting_facts : Setting → List Fact
+setting_facts setting = caller_facts setting.caller ++ (time_facts setting.moment ++ service_facts setting.region)
+
+-- which key it is about, and by which name
+abbrev pub named_facts : Particulars → List Fact
+named_facts particulars =
+    key_facts particulars.keyed
+    ++ (several_facts (codes "kms:ResourceAliases") particulars.aliases
+    ++ text_facts (codes "kms:RequestAlias") particulars.request_alias)
+
+-- what is sealed or opened
+abbrev pub sealing_facts : Action → Particulars → List Fact
+sealing_facts op particulars =
+    context_facts particulars.context
+    ++ (algorithm_facts (seals_or_opens op)
+    ++ truth_facts (codes "kms:ReEncryptOnSameKey") particulars.same_key)
+
+-- which grant is made, or whose
+abbrev pub granting_facts : Action → Particulars → List Fact
+granting_facts op particulars = grant_facts particulars.grant ++ for_service_facts (is_on_grants op)
+
+-- how the key is changed
+abbrev pub changing_facts : Particulars → List Fact
+changing_facts particulars =
+    truth_facts (codes "kms:BypassPolicyLockoutSafetyCheck") particulars.bypass
+    ++ (number_facts (codes "kms:ScheduleKeyDeletionPendingWindowInDays") particulars.window
+    ++ number_facts (codes "kms:RotationPeriodInDays") particulars.period)
+
 abbrev pub facts_of : Setting → Action → Particulars → List Fact
 facts_of setting op particulars =
-    caller_facts setting.caller
-    ++ (time_facts setting.moment
-    ++ (service_facts setting.region
-    ++ (key_facts particulars.keyed
-    ++ (context_facts particulars.context
-    ++ (algorithm_facts (seals_or_opens op)
-    ++ (truth_facts (codes "kms:ReEncryptOnSameKey") particulars.same_key
-    ++ (truth_facts (codes "kms:BypassPolicyLockoutSafetyCheck") particulars.bypass
-    ++ (number_facts (codes "kms:ScheduleKeyDeletionPendingWindowInDays") particulars.window
-    ++ number_facts (codes "kms:RotationPeriodInDays") particulars.period))))))))
+    setting_facts setting ++ (named_facts particulars ++ (sealing_facts op particulars ++ (granting_facts op particulars ++ changing_facts particulars)))
 
 -- what policies are asked about a request
 unfoldable pub request_of : Setting → Asked → RequestFacts

@@ -1,11 +1,15 @@
--- Who asks, when and where, and which policies there are of principals.
-use Rattle.std.specs.Prelude.{ℕ, Bool, true, false, List, [], find, Option, Some, None}
+-- Who asks, when and where, what a request says of itself, and which policies there are of principals.
+use Rattle.std.specs.Prelude.{ℕ, Bool, true, false, List, [], map, filter, find, Option, Some, None}
 use Rattle.std.specs.Str.{bytes_eq}
 use Rattle.kms_names.specs.Principal.{principal_text}
 use Rattle.kms_names.specs.declared.actions.Action.{Action}
+use Rattle.kms_names.specs.declared.operations.GrantOps.{GrantOps}
 use Rattle.kms_names.specs.declared.principals.Principal.{Principal}
 use Rattle.kms_names.specs.declared.principals.Principal.TheVariants.{Root, User, Role}
 use Rattle.enc_context.specs.declared.pairs.Pair.{Pair}
+use Rattle.alias_map.specs.Aliases.{names_key}
+use Rattle.alias_map.specs.declared.rows.AliasRow.{AliasRow}
+use Rattle.grant_table.specs.declared.constraints.Constraint.{Constraint}
 use Rattle.policy_doc.specs.declared.policies.Policy.{Policy}
 use Rattle.authority.specs.declared.identities.Identity.{Identity}
 
@@ -16,16 +20,31 @@ pub record Setting : Type 0 where
   pub region : List ℕ
   pub policies : List Policy
 
+-- what a request asks that a new grant be: its operations, its grantee, who may retire it, and its constraint
+pub record GrantSaid : Type 0 where
+  pub operations : GrantOps
+  pub grantee : Principal
+  pub retiring : Option Principal
+  pub constraint : Constraint
+
 -- what a request says of itself beside its action: whether it is about a key, one that it makes included; its encryption
--- context; whether it encrypts anew under the same key; whether it passes over the check of a new policy; the waiting period
+-- context; the names of the key's aliases, in order of making; the alias name by which it names the key; the grant that it
+-- asks for; whether it encrypts anew under the same key; whether it passes over the check of a new policy; the waiting period
 -- of a deletion in days; and the period of automatic rotation in days
 pub record Particulars : Type 0 where
   pub keyed : Bool
   pub context : List Pair
+  pub aliases : List (List ℕ)
+  pub request_alias : Option (List ℕ)
+  pub grant : Option GrantSaid
   pub same_key : Option Bool
   pub bypass : Option Bool
   pub window : Option ℕ
   pub period : Option ℕ
+
+-- the names of the aliases that name a key, in order of making
+abbrev pub names_of : List ℕ → List AliasRow → List (List ℕ)
+names_of key aliases = map (λ (row : AliasRow). row.name) (filter (names_key key) aliases)
 
 -- an action on a resource, with what the request says of itself
 pub record Asked : Type 0 where

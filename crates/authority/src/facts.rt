@@ -1,45 +1,15 @@
 //! What a request says to conditions of policies.
-ghost use Rattle.std.specs.Prelude.{◌≡◌, ◌≢◌, ◌++◌, ◌∷◌, [], All, IfOk, OnOk, MatchOption, map};
-ghost use Rattle.authority.specs.Setting.{Setting as SeenSetting, Particulars as SeenParticulars};
-ghost use Rattle.authority.specs.Facts.{single, behind_slash, caller_facts, user_facts, time_facts, service_facts, key_facts, pair_fact, keys_fact, context_facts, seals_or_opens, algorithm_facts, truth_text, truth_facts, number_facts, facts_of};
+ghost use Rattle.std.specs.Prelude.{◌≡◌, ◌≢◌, ◌++◌, ◌∷◌, [], All, IfOk, OnOk, MatchOption, map, codes};
+ghost use Rattle.authority.specs.Facts.{behind_slash, caller_facts, user_facts, time_facts, service_facts, key_facts, pair_fact, context_facts, several_facts, seals_or_opens, algorithm_facts, setting_facts, named_facts, sealing_facts, changing_facts, facts_of};
 
+use crate::grants::put_granting;
+use crate::puts::{put, put_all, put_given, put_number, put_some, put_text, put_truth};
 use crate::settings::{Particulars, Setting};
 use crate::times::write_moment;
 use cond_ops::{Fact, FactList};
 use enc_context::Pair;
 use kms_names::{Action, NoMemory, Principal, Text, TextList, write_principal};
 use std::alloc::Global;
-
-// Adds a condition key with one value.
-fn put(facts: &mut Vec<Fact>, key: Text, value: Text) -> Result<(), NoMemory>
-    ensures { OnOk result (facts.new.items ≡ facts.old.items ++ single key value ∷ []) }
-{
-    let mut values = Vec::new(*facts.allocator());
-    values.push(value)?;
-    let values = TextList::new(values);
-    facts.push(Fact { key, values })?;
-    Ok(())
-}
-
-// The same of texts that are lent.
-fn put_text(facts: &mut Vec<Fact>, key: &str, value: &str) -> Result<(), NoMemory>
-    ensures { OnOk result (facts.new.items ≡ facts.old.items ++ single key.now value.now ∷ []) }
-{
-    let alloc = *facts.allocator();
-    let key = Text::from_str(alloc, key)?;
-    let value = Text::from_str(alloc, value)?;
-    put(facts, key, value)
-}
-
-// Adds condition keys with one value each.
-fn put_all(facts: &mut Vec<Fact>, pairs: &[(&str, &str)]) -> Result<(), NoMemory>
-    ensures { OnOk result (facts.new.items ≡ facts.old.items ++ map (λ pair. single pair.0.now pair.1.now) pairs.now) }
-{
-    for pair in pairs {
-        put_text(facts, pair.0, pair.1)?;
-    }
-    Ok(())
-}
 
 // What stands before and behind the first `/`.
 fn at_slash(text: &str) -> Option<(&str, &str)>
@@ -160,18 +130,12 @@ fn keys_of(alloc: Global, pairs: &[Pair]) -> Result<TextList, NoMemory>
     Ok(TextList::new(keys))
 }
 
-fn put_keys(facts: &mut Vec<Fact>, pairs: &[Pair]) -> Result<(), NoMemory>
-    ensures { OnOk result (facts.new.items ≡ facts.old.items ++ keys_fact pairs.now) }
+fn put_context(facts: &mut Vec<Fact>, pairs: &[Pair]) -> Result<(), NoMemory>
+    ensures { OnOk result (facts.new.items ≡ facts.old.items ++ context_facts pairs.now) }
 {
-    if pairs.is_empty() {
-        return Ok(());
-    }
-    let alloc = *facts.allocator();
-    facts.push(Fact {
-        key: Text::from_str(alloc, "kms:EncryptionContextKeys")?,
-        values: keys_of(alloc, pairs)?,
-    })?;
-    Ok(())
+    put_pairs(facts, pairs)?;
+    let keys = keys_of(*facts.allocator(), pairs)?;
+    put_some(facts, "kms:EncryptionContextKeys", keys)
 }
 
 fn seals_or_opens(op: Action) -> bool
@@ -198,31 +162,65 @@ fn put_algorithm(facts: &mut Vec<Fact>, op: Action) -> Result<(), NoMemory>
     }
 }
 
-// Adds a truth value, where there is one.
-fn put_truth(facts: &mut Vec<Fact>, key: &str, truth: Option<bool>) -> Result<(), NoMemory>
-    ensures { OnOk result (facts.new.items ≡ facts.old.items ++ truth_facts key.now truth) }
+// Who asks, when and where.
+fn put_setting(facts: &mut Vec<Fact>, setting: &Setting<'_>) -> Result<(), NoMemory>
+    ensures { OnOk result (facts.new.items ≡ facts.old.items ++ setting_facts setting.now) }
 {
-    match truth {
-        Some(true) => put_text(facts, key, "true"),
-        Some(false) => put_text(facts, key, "false"),
-        None => Ok(()),
-    }
+    put_caller(facts, setting.caller)?;
+    put_times(facts, setting.moment)?;
+    put_service(facts, setting.region)?;
+    Ok(())
 }
 
-// Adds a number, where there is one.
-fn put_number(facts: &mut Vec<Fact>, key: &str, number: Option<u32>) -> Result<(), NoMemory>
-    ensures { OnOk result (facts.new.items ≡ facts.old.items ++ number_facts key.now number) }
+// The names of the aliases of the key.
+fn put_aliases(facts: &mut Vec<Fact>, particulars: &Particulars<'_>) -> Result<(), NoMemory>
+    ensures { OnOk result (facts.new.items ≡ facts.old.items ++ several_facts (codes "kms:ResourceAliases") particulars.now.aliases) }
 {
-    match number {
-        Some(number) => {
-            let text = format!(in *facts.allocator(); "{number}")?;
-            put_text(facts, key, text.as_str())
-        }
-        None => Ok(()),
-    }
+    let names = particulars.alias_names(*facts.allocator())?;
+    put_some(facts, "kms:ResourceAliases", names)
 }
 
-/// What a request says to conditions.
+// Which key it is about, and by which name.
+fn put_named(facts: &mut Vec<Fact>, particulars: &Particulars<'_>) -> Result<(), NoMemory>
+    ensures { OnOk result (facts.new.items ≡ facts.old.items ++ named_facts particulars.now) }
+{
+    put_key(facts, particulars.keyed)?;
+    put_aliases(facts, particulars)?;
+    put_given(facts, "kms:RequestAlias", particulars.request_name())
+}
+
+// What is sealed or opened.
+fn put_sealing(
+    facts: &mut Vec<Fact>,
+    op: Action,
+    particulars: &Particulars<'_>,
+) -> Result<(), NoMemory>
+    ensures { OnOk result (facts.new.items ≡ facts.old.items ++ sealing_facts op particulars.now) }
+{
+    put_context(facts, particulars.pairs())?;
+    put_algorithm(facts, op)?;
+    put_truth(facts, "kms:ReEncryptOnSameKey", particulars.same_key)
+}
+
+// How the key is changed.
+fn put_changing(facts: &mut Vec<Fact>, particulars: &Particulars<'_>) -> Result<(), NoMemory>
+    ensures { OnOk result (facts.new.items ≡ facts.old.items ++ changing_facts particulars.now) }
+{
+    put_truth(
+        facts,
+        "kms:BypassPolicyLockoutSafetyCheck",
+        particulars.bypass,
+    )?;
+    put_number(
+        facts,
+        "kms:ScheduleKeyDeletionPendingWindowInDays",
+        particulars.window,
+    )?;
+    put_number(facts, "kms:RotationPeriodInDays", particulars.period)
+}
+
+/// What a request says to conditions. The time grows with the number of the account's aliases, where the aliases of a
+/// key are lent.
 pub fn facts_of(
     alloc: Global,
     setting: &Setting<'_>,
@@ -232,25 +230,10 @@ pub fn facts_of(
     ensures { IfOk result (λ facts. facts ≡ facts_of setting.now op particulars.now) }
 {
     let mut facts = Vec::new(alloc);
-    put_caller(&mut facts, setting.caller)?;
-    put_times(&mut facts, setting.moment)?;
-    put_service(&mut facts, setting.region)?;
-    put_key(&mut facts, particulars.keyed)?;
-    let pairs = particulars.pairs();
-    put_pairs(&mut facts, pairs)?;
-    put_keys(&mut facts, pairs)?;
-    put_algorithm(&mut facts, op)?;
-    put_truth(&mut facts, "kms:ReEncryptOnSameKey", particulars.same_key)?;
-    put_truth(
-        &mut facts,
-        "kms:BypassPolicyLockoutSafetyCheck",
-        particulars.bypass,
-    )?;
-    put_number(
-        &mut facts,
-        "kms:ScheduleKeyDeletionPendingWindowInDays",
-        particulars.window,
-    )?;
-    put_number(&mut facts, "kms:RotationPeriodInDays", particulars.period)?;
+    put_setting(&mut facts, setting)?;
+    put_named(&mut facts, particulars)?;
+    put_sealing(&mut facts, op, particulars)?;
+    put_granting(&mut facts, op, particulars)?;
+    put_changing(&mut facts, particulars)?;
     Ok(FactList::new(facts))
 }

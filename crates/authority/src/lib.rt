@@ -4,15 +4,19 @@
 
 mod callers;
 mod facts;
+mod grants;
 mod identities;
 mod key_policies;
 mod laws;
+mod puts;
 mod questions;
 mod settings;
+mod standings;
 mod times;
 
 pub use callers::Callers;
 pub use identities::{Identity, IdentityList, PolicyList};
 pub use key_policies::{KeyPolicy, default_policy_text};
 pub use laws::allowed_by_statements;
-pub use settings::{Particulars, Setting};
+pub use settings::{GrantSaid, KeyAliases, Particulars, Setting};
+pub use standings::Standing;

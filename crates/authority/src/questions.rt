@@ -2,12 +2,13 @@
 ghost use Rattle.std.specs.Prelude.{◌≡◌, IfOk, option_map, true, false};
 ghost use Rattle.policy_eval.specs.VerdictOf.{verdict_of};
 ghost use Rattle.authority.specs.Facts.{facts_of};
-ghost use Rattle.authority.specs.Allowed.{is_deny, is_direct, some_deny, some_allow, identity_allows, key_allows, allows, is_allowed};
+ghost use Rattle.authority.specs.Allowed.{is_deny, is_direct, some_deny, some_allow, own_allow, identity_allows, key_standing, own_standing, standing, standing_of};
 ghost use Rattle.authority.specs.Questions.{GoByQuestions, KeyGoesByQuestion, SaysWhatIsAsked};
 
 use crate::facts::facts_of;
 use crate::key_policies::KeyPolicy;
 use crate::settings::{Particulars, Setting};
+use crate::standings::Standing;
 use cond_ops::{FactList, RequestFacts};
 use kms_names::{Action, NoMemory, Principal, Text};
 use policy_eval::{Compiled, Verdict};
@@ -41,35 +42,63 @@ fn some_allow(policies: &[Compiled], request: &RequestFacts) -> bool
         .any(|policy| allows_directly(policy, request))
 }
 
-// Whether the caller's own policies let it, nothing denying it; the root may do everything.
-fn identity_allows(caller: &Principal, policies: &[Compiled], request: &RequestFacts) -> bool
-    ensures { result ≡ identity_allows caller.now policies.now request.now }
+// Whether the caller is the root, which may do everything, or one of its own policies allows it.
+fn own_allow(caller: &Principal, policies: &[Compiled], request: &RequestFacts) -> bool
+    ensures { result ≡ own_allow caller.now policies.now request.now }
 {
-    if some_deny(policies, request) {
-        return false;
-    }
     match caller {
         Principal::Root(_) => true,
         Principal::User(_, _) | Principal::Role(_, _) => some_allow(policies, request),
     }
 }
 
-// Whether the request may do what it asks.
-fn allows(
+// On a key whose policy gives this verdict.
+fn standing_on_key(
+    caller: &Principal,
+    policies: &[Compiled],
+    verdict: Verdict,
+    request: &RequestFacts,
+) -> Standing
+    ensures { result ≡ key_standing verdict (some_deny policies.now request.now) (identity_allows caller.now policies.now request.now) }
+{
+    if some_deny(policies, request) {
+        return Standing::Denied;
+    }
+    match verdict {
+        Verdict::Deny => Standing::Denied,
+        Verdict::Direct => Standing::Allowed,
+        Verdict::ByRoot if own_allow(caller, policies, request) => Standing::Allowed,
+        Verdict::ByRoot | Verdict::Silent => Standing::IfGranted,
+    }
+}
+
+// Without a key.
+fn standing_without_key(
+    caller: &Principal,
+    policies: &[Compiled],
+    request: &RequestFacts,
+) -> Standing
+    ensures { result ≡ own_standing (identity_allows caller.now policies.now request.now) }
+{
+    if !some_deny(policies, request) && own_allow(caller, policies, request) {
+        Standing::Allowed
+    } else {
+        Standing::Denied
+    }
+}
+
+// What policies say of the request.
+fn standing(
     caller: &Principal,
     policies: &[Compiled],
     policy: Option<&Compiled>,
     request: &RequestFacts,
-) -> bool
-    ensures { result ≡ allows caller.now policies.now (option_map (λ p. p.now) policy.entry) request.now }
+) -> Standing
+    ensures { result ≡ standing caller.now policies.now (option_map (λ p. p.now) policy.entry) request.now }
 {
-    let Some(policy) = policy else {
-        return identity_allows(caller, policies, request);
-    };
-    match policy.verdict(request) {
-        Verdict::Deny | Verdict::Silent => false,
-        Verdict::Direct => !some_deny(policies, request),
-        Verdict::ByRoot => identity_allows(caller, policies, request),
+    match policy {
+        Some(policy) => standing_on_key(caller, policies, policy.verdict(request), request),
+        None => standing_without_key(caller, policies, request),
     }
 }
 
@@ -152,21 +181,21 @@ impl Setting<'_> {
         })
     }
 
-    /// Whether the caller may do this on a resource: by the policy of a key, where the question is about one, and by the
-    /// caller's own policies.
-    pub fn allows(
+    /// What policies say of this on a resource: the policy of a key, where the question is about one, and the caller's own.
+    /// Where some policy that is asked has conditions, the time grows with the number of the account's aliases.
+    pub fn standing(
         &self,
         alloc: Global,
         policy: Option<&KeyPolicy>,
         action: Action,
         resource: &str,
         particulars: &Particulars<'_>,
-    ) -> Result<bool, NoMemory>
-        ensures { IfOk result (λ b. b ≡ is_allowed self.now (option_map (λ p. p.now) policy.entry) (record { action = action; resource = resource.now; particulars = particulars.now })) }
+    ) -> Result<Standing, NoMemory>
+        ensures { IfOk result (λ s. s ≡ standing_of self.now (option_map (λ p. p.now) policy.entry) (record { action = action; resource = resource.now; particulars = particulars.now })) }
     {
         let policy = compiled(policy);
         let wanted = some_wants(policy, self.policies);
         let request = self.request(alloc, wanted, action, resource, particulars)?;
-        Ok(allows(self.caller, self.policies, policy, &request))
+        Ok(standing(self.caller, self.policies, policy, &request))
     }
 }

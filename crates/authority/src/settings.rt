@@ -1,9 +1,13 @@
 //! Who asks, when and where, and what a request says of itself.
-ghost use Rattle.std.specs.Prelude.{◌≡◌, []};
+ghost use Rattle.std.specs.Prelude.{◌≡◌, [], IfOk, option_map};
+ghost use Rattle.authority.specs.Setting.{names_of};
 
+use alias_map::{AliasMap, AliasRow};
 use enc_context::{Context, Pair};
-use kms_names::Principal;
+use grant_table::Constraint;
+use kms_names::{AliasName, GrantOps, KeyId, NoMemory, Principal, Text, TextList};
 use policy_eval::Compiled;
+use std::alloc::Global;
 use std::marker::Model;
 
 /// Who asks, when and where, and the policies of callers, lent.
@@ -32,6 +36,74 @@ impl<'a> Model for Setting<'a> {
     } };
 }
 
+// The names of the aliases that name a key.
+fn names_of(alloc: Global, aliases: &[AliasRow], key: &KeyId) -> Result<TextList, NoMemory>
+    ensures { IfOk result (λ names. names ≡ names_of key.now aliases.now) }
+{
+    let mut names = Vec::new(alloc);
+    for row in aliases {
+        if row.key == *key {
+            names.push(Text::from_str(alloc, row.name.as_str())?)?;
+        }
+    }
+    Ok(TextList::new(names))
+}
+
+/// A key among the aliases of its account, lent. Contracts see it as the names of the key's aliases in order of making.
+#[derive(Drop)]
+pub struct KeyAliases<'a> {
+    /// The aliases of the account.
+    pub aliases: &'a AliasMap,
+    /// The key.
+    pub key: &'a KeyId,
+}
+
+impl<'a> Model for KeyAliases<'a> {
+    ghost use Rattle.std.specs.Prelude.{ℕ, List};
+    ghost use Rattle.authority.specs.Setting.{names_of};
+
+    ghost Value = { List (List ℕ) };
+
+    ghost view = { λ k. names_of k.key.now k.aliases.now };
+}
+
+impl KeyAliases<'_> {
+    /// Copies of the names of the key's aliases, in order of making. The time grows with the number of the account's
+    /// aliases.
+    pub fn names(&self, alloc: Global) -> Result<TextList, NoMemory>
+        ensures { IfOk result (λ names. names ≡ self.now) }
+    {
+        names_of(alloc, self.aliases.rows(), self.key)
+    }
+}
+
+/// What a request asks that a new grant be (AWS KMS API Reference, CreateGrant), lent.
+#[derive(Drop)]
+pub struct GrantSaid<'a> {
+    /// The operations that it permits.
+    pub operations: GrantOps,
+    /// Whom it permits them to.
+    pub grantee: &'a Principal,
+    /// Who may retire it, where someone is named.
+    pub retiring: Option<&'a Principal>,
+    /// What it asks of the encryption contexts of requests.
+    pub constraint: &'a Constraint,
+}
+
+impl<'a> Model for GrantSaid<'a> {
+    ghost use Rattle.std.specs.Prelude.{option_map};
+    ghost use Rattle.authority.specs.Setting as seen;
+
+    ghost Value = { seen.GrantSaid };
+
+    ghost view = { λ g. record {
+      operations = g.operations;
+      grantee = g.grantee.now;
+      retiring = option_map (λ p. p.now) g.retiring;
+      constraint = g.constraint.now;
+    } };
+}
+
 /// What a request says of itself beside its action, lent.
 #[derive(Drop)]
 pub struct Particulars<'a> {
@@ -39,6 +111,12 @@ pub struct Particulars<'a> {
     pub keyed: bool,
     /// Its encryption context, where it takes one.
     pub context: Option<&'a Context>,
+    /// The aliases of the key, where it is about one that there is already.
+    pub aliases: Option<KeyAliases<'a>>,
+    /// The alias name by which it names the key, where it does.
+    pub request_alias: Option<&'a AliasName>,
+    /// The grant that it asks for, where it makes one.
+    pub grant: Option<GrantSaid<'a>>,
     /// Whether it encrypts anew under the key that sealed the text, where it encrypts anew.
     pub same_key: Option<bool>,
     /// Whether it passes over the lockout check, where it takes a policy.
@@ -58,6 +136,9 @@ impl<'a> Model for Particulars<'a> {
     ghost view = { λ p. record {
       keyed = p.keyed;
       context = unwrap_or (option_map (λ c. c.now) p.context) [];
+      aliases = unwrap_or p.aliases [];
+      request_alias = option_map (λ name. name.now) p.request_alias;
+      grant = p.grant;
       same_key = p.same_key;
       bypass = p.bypass;
       window = p.window;
@@ -73,6 +154,27 @@ impl<'a> Particulars<'a> {
         match self.context {
             Some(context) => context.pairs(),
             None => &[],
+        }
+    }
+
+    // Copies of the names of the key's aliases, none where no key is given. The time grows with the number of the
+    // account's aliases.
+    pub(crate) fn alias_names(&self, alloc: Global) -> Result<TextList, NoMemory>
+        ensures { IfOk result (λ names. names ≡ self.now.aliases) }
+    {
+        match &self.aliases {
+            Some(aliases) => aliases.names(alloc),
+            None => Ok(TextList::new(Vec::new(alloc))),
+        }
+    }
+
+    // The alias name by which the request names the key.
+    pub(crate) fn request_name(&self) -> Option<&str>
+        ensures { option_map (λ name. name.now) result ≡ self.now.request_alias }
+    {
+        match self.request_alias {
+            Some(name) => Some(name.as_str()),
+            None => None,
         }
     }
 }

@@ -63,6 +63,22 @@ module _ (part : GrantRow → List ℕ) where
     rows_by_index rows entries (sorted, groups) =
         ap (rows_at rows) (groups key) ∙ (rows_of [] rows ∙ filter_alike has_part (λ row. bytes_eq (part row) key) (λ row. sym (texts_ties (part row) key)) rows)
 
+    -- and their number
+    count_of : (place : ℕ) (rows : List GrantRow) → length (entries_with key (entries_of part place rows)) ≡ length (filter has_part rows)
+    count_of place [] = refl
+    count_of place (row ∷ rows) = by_test (has_part row) (count_of (suc place) rows)
+      where
+        by_test : (b : Bool) → length (entries_with key (entries_of part (suc place) rows)) ≡ length (filter has_part rows)
+            → length (cond b (record { key = part row; place = place } ∷ entries_with key (entries_of part (suc place) rows)) (entries_with key (entries_of part (suc place) rows)))
+            ≡ length (cond b (row ∷ filter has_part rows) (filter has_part rows))
+        by_test true h = ap suc h
+        by_test false h = h
+
+    pub count_by_index : (rows : List GrantRow) (entries : List (Entry (List ℕ))) → IsIndexOf part rows entries → length (entries_with key entries) ≡ length (filter (λ row. bytes_eq (part row) key) rows)
+    unfolding IsIndexOf
+    count_by_index rows entries (sorted, groups) =
+        ap length (groups key) ∙ (count_of 0 rows ∙ ap length (filter_alike has_part (λ row. bytes_eq (part row) key) (λ row. sym (texts_ties (part row) key)) rows))
+
 -- a look-up at one entry
 module _ (test : GrantRow → Bool) (rows : List GrantRow) (entries : List (Entry (List ℕ))) (i : ℕ) (e : Entry (List ℕ)) (lt : i < length entries) (is : e ≡ get_or entries i e) where
   abbrev from : ℕ → Option GrantRow
@@ -144,6 +160,10 @@ pub and_again : (a b : Bool) → ((a && b) && a) ≡ (a && b)
 and_again true true = refl
 and_again true false = refl
 and_again false b = refl
+
+pub and_within : (a b c : Bool) → (((a && b) && c) && a) ≡ ((a && b) && c)
+and_within true b c = and_turned (b && c) true
+and_within false b c = refl
 
 -- ---- what a look-up tells
 

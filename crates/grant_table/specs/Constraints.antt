@@ -17,6 +17,18 @@ constraint_holds Free context = true
 constraint_holds (Equals pairs) context = same_pairs context pairs
 constraint_holds (Subset pairs) context = includes context pairs
 
+-- whether two constraints are the same: of one kind, with the same pairs
+abbrev pub same_constraint : Constraint → Constraint → Bool
+same_constraint Free Free = true
+same_constraint Free (Equals others) = false
+same_constraint Free (Subset others) = false
+same_constraint (Equals pairs) Free = false
+same_constraint (Equals pairs) (Equals others) = same_pairs pairs others
+same_constraint (Equals pairs) (Subset others) = false
+same_constraint (Subset pairs) Free = false
+same_constraint (Subset pairs) (Equals others) = false
+same_constraint (Subset pairs) (Subset others) = same_pairs pairs others
+
 -- the second constraint is as strict as the first
 abbrev pub IsAsStrict : Constraint → Constraint → Type 0
 IsAsStrict Free child = ⊤

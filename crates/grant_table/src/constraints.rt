@@ -1,7 +1,7 @@
 //! The constraints of grants.
 
 ghost use Rattle.std.specs.Prelude.{◌≡◌, ◌↔◌, IsTrue, IfOk};
-ghost use Rattle.grant_table.specs.Constraints.{constraint_holds, ConstraintHolds, is_as_strict, IsAsStrict};
+ghost use Rattle.grant_table.specs.Constraints.{constraint_holds, ConstraintHolds, is_as_strict, IsAsStrict, same_constraint};
 
 use enc_context::Context;
 use kms_names::NoMemory;
@@ -41,6 +41,19 @@ impl Constraint {
             (Constraint::Equals(pairs), Constraint::Equals(others)) => others.equal(pairs),
             (Constraint::Subset(pairs), Constraint::Equals(others)) => others.includes(pairs),
             (Constraint::Subset(pairs), Constraint::Subset(others)) => others.includes(pairs),
+            _ => false,
+        }
+    }
+
+    /// Whether both constraints are the same: of one kind, with the same pairs. No memory is taken.
+    pub fn equal(&self, other: &Constraint) -> bool
+        ensures told { IsTrue result ↔ (self.now ≡ other.now) }
+        ensures test { result ≡ same_constraint self.now other.now }
+    {
+        match (self, other) {
+            (Constraint::Free, Constraint::Free) => true,
+            (Constraint::Equals(pairs), Constraint::Equals(others)) => pairs.equal(others),
+            (Constraint::Subset(pairs), Constraint::Subset(others)) => pairs.equal(others),
             _ => false,
         }
     }

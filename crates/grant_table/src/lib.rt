@@ -9,6 +9,7 @@ mod tables;
 mod threads;
 
 pub use constraints::Constraint;
-pub use rows::GrantRow;
+pub use principals::{copy_of_principal, same_principal};
+pub use rows::{GrantRow, copy_of_name};
 pub use tables::GrantTable;
 pub use threads::grant_table_crosses_threads;

@@ -2,13 +2,14 @@
 
 ghost use Rattle.std.specs.Prelude.{◌≡◌, find, slice_get, IfOk};
 ghost use Rattle.std.specs.Option.{option_map};
-ghost use Rattle.grant_table.specs.Grants.{has_id, is_after, has_retiring, permits};
+ghost use Rattle.grant_table.specs.Grants.{has_id, is_after, has_retiring, permits, is_parent, is_same};
 ghost use Rattle.grant_table.specs.Index.{rows_at, IsIndexOf};
 
+use crate::constraints::Constraint;
 use crate::index::{Entry, group, in_order};
 use crate::rows::GrantRow;
 use enc_context::Context;
-use kms_names::{GrantId, GrantOp, KeyId, NoMemory, Principal};
+use kms_names::{GrantId, GrantOp, GrantOps, KeyId, NoMemory, Principal, Text};
 use std::alloc::Global;
 use std::marker::Model;
 
@@ -133,6 +134,50 @@ fn first_permitting<'a>(
     None
 }
 
+/// The first row at these places by which a caller may make a grant of these operations and this constraint.
+fn first_parent<'a>(
+    rows: &'a [GrantRow],
+    entries: &[Entry<KeyId>],
+    key: &KeyId,
+    caller: &Principal,
+    operations: &GrantOps,
+    constraint: &Constraint,
+) -> Option<&'a GrantRow>
+    ensures { option_map (λ row. row.now) result ≡ find (is_parent key.now caller.now operations.now constraint.now) (rows_at rows.now entries.now) }
+{
+    for entry in entries {
+        if let Some(row) = row_at(rows, entry.place) {
+            if row.is_parent(key, caller, operations, constraint) {
+                return Some(row);
+            }
+        }
+    }
+    None
+}
+
+/// The first row at these places of this key, name, grantee, retiring principal, set of operations and constraint.
+fn first_same<'a>(
+    rows: &'a [GrantRow],
+    entries: &[Entry<KeyId>],
+    key: &KeyId,
+    name: &Text,
+    grantee: &Principal,
+    retiring: &Option<Principal>,
+    operations: &GrantOps,
+    constraint: &Constraint,
+) -> Option<&'a GrantRow>
+    ensures { option_map (λ row. row.now) result ≡ find (is_same key.now name.now grantee.now retiring.now operations.now constraint.now) (rows_at rows.now entries.now) }
+{
+    for entry in entries {
+        if let Some(row) = row_at(rows, entry.place) {
+            if row.is_same(key, name, grantee, retiring, operations, constraint) {
+                return Some(row);
+            }
+        }
+    }
+    None
+}
+
 /// The first row of a retiring principal.
 fn first_retirable<'a>(rows: &'a [GrantRow], retiring: &Principal) -> Option<&'a GrantRow>
     ensures { option_map (λ row. row.now) result ≡ find (has_retiring retiring.now) rows.now }
@@ -148,7 +193,7 @@ fn first_retirable<'a>(rows: &'a [GrantRow], retiring: &Principal) -> Option<&'a
 impl GrantTable {
     ghost use Rattle.std.specs.Prelude.{◌≡◌, [], ◌∷◌, ◌++◌, length, filter, All, IfOk, IfSome, IfNone};
     ghost use Rattle.std.specs.Option.{option_map};
-    ghost use Rattle.grant_table.specs.Grants.{is_after, grant_with, grant_permitting, grant_retirable, grant_of_key, Permits, without, MayAdd, IsThere, AreGrants};
+    ghost use Rattle.grant_table.specs.Grants.{is_after, grant_with, grant_permitting, grant_retirable, grant_of_key, parent_of, same_as, number_of_key, Permits, without, without_keys, MayAdd, IsThere, AreGrants};
 
     /// No grants; no memory is taken. The table and those that are made of it keep the allocator.
     pub fn new(alloc: Global) -> GrantTable
@@ -209,6 +254,62 @@ impl GrantTable {
         first_permitting(self.rows.as_slice(), entries, key, caller, op, context)
     }
 
+    /// The first grant of a key, in order of making, by which a caller may make a grant of these operations and this
+    /// constraint: the caller is its grantee, CreateGrant is among its operations, and such a grant is a child of it
+    /// (`GrantRow::has_child`). No memory is taken.
+    pub fn parent_of(
+        &self,
+        key: &KeyId,
+        caller: &Principal,
+        operations: &GrantOps,
+        constraint: &Constraint,
+    ) -> Option<&GrantRow>
+        ensures { option_map (λ row. row.now) result ≡ parent_of self.now key.now caller.now operations.now constraint.now }
+    {
+        let entries = group(self.by_key.as_slice(), key);
+        first_parent(
+            self.rows.as_slice(),
+            entries,
+            key,
+            caller,
+            operations,
+            constraint,
+        )
+    }
+
+    /// The first grant of a key, in order of making, that has this name, grantee, retiring principal, set of operations
+    /// and constraint. No memory is taken.
+    pub fn same_as(
+        &self,
+        key: &KeyId,
+        name: &Text,
+        grantee: &Principal,
+        retiring: &Option<Principal>,
+        operations: &GrantOps,
+        constraint: &Constraint,
+    ) -> Option<&GrantRow>
+        ensures { option_map (λ row. row.now) result ≡ same_as self.now key.now name.now grantee.now retiring.now operations.now constraint.now }
+    {
+        let entries = group(self.by_key.as_slice(), key);
+        first_same(
+            self.rows.as_slice(),
+            entries,
+            key,
+            name,
+            grantee,
+            retiring,
+            operations,
+            constraint,
+        )
+    }
+
+    /// How many grants a key has. No memory is taken.
+    pub fn number_of_key(&self, key: &KeyId) -> usize
+        ensures { result ≡ number_of_key self.now key.now }
+    {
+        group(self.by_key.as_slice(), key).len()
+    }
+
     /// The grants that were made behind a place, or all.
     fn behind(&self, after: Option<u64>) -> &[GrantRow]
         ensures { result.now ≡ filter (is_after after) self.now }
@@ -252,6 +353,19 @@ impl GrantTable {
         let mut rows = Vec::new(*self.rows.allocator());
         for row in &self.rows {
             if !row.has_id(grant) {
+                rows.push(row.copy()?)?;
+            }
+        }
+        GrantTable::of_rows(rows)
+    }
+
+    /// The table without the grants of some keys. Its time grows with the number of grants times that of the keys.
+    pub fn without_keys(&self, keys: &[KeyId]) -> Result<GrantTable, NoMemory>
+        ensures { IfOk result (λ table. table ≡ without_keys self.now keys.now) }
+    {
+        let mut rows = Vec::new(*self.rows.allocator());
+        for row in &self.rows {
+            if !row.is_of_any(keys) {
                 rows.push(row.copy()?)?;
             }
         }

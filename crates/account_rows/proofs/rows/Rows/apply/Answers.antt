@@ -1,14 +1,35 @@
 use Rattle.std.proofs.Common.{◌≡◌, ◌+◌, ◌<◌, ◌≤◌, min, ap, ap₂, ◌∙◌, sym, subst, arith, List, length, ℕ, ◌++◌, ◌∷◌, []}
 use Rattle.key_states.specs.declared.rows.KeyRow.{KeyRow}
+use Rattle.std.specs.Prelude.{All}
+use Rattle.alias_map.specs.declared.rows.AliasRow.{AliasRow}
+use Rattle.alias_map.specs.Aliases.{AreBefore}
+use Rattle.grant_table.specs.declared.rows.GrantRow.{GrantRow}
 use Rattle.account_rows.specs.declared.entries.Entry.{Entry}
-use Rattle.account_rows.specs.History.{replay, latest_of, most_entries, most_bytes, AreRows, IsFitting}
+use Rattle.account_rows.specs.History.{replay, latest_of, most_entries, most_bytes, AreRows, IsGrantOf, IsMadeHere, IsFitting}
 use Rattle.account_rows.specs.Changes.{keys_after}
+use Rattle.account_rows.specs.AliasChanges.{aliases_after}
+use Rattle.account_rows.specs.GrantChanges.{grants_after}
 use Rattle.account_rows.specs.Sizes.{size_of, bytes_in}
 use Rattle.account_rows.proofs.RowFacts.{rows_after, replay-push, latest-push, bytes-push, length-push}
+use Rattle.account_rows.proofs.AliasFacts.{before_after, aliases-push}
+use Rattle.account_rows.proofs.GrantFacts.{grants_rise, grants-push}
 use Rattle.account_rows.proofs.rows.Rows.apply.Goals as goal
 
 small : (a b : ℕ) → a + b ≤ most_bytes → min b 18446744073709551615 ≡ b
 small a b le = grind (arith, le)
+
+pub aliases_after-requires : goal.aliases_after-requires
+aliases_after-requires c =
+    let place : c.entries-place.result ≡ length c.self.inside.entries.items = c.entries-place.ensures.number ∙ ap length (sym c.self.view_is) in
+    subst (λ (n : ℕ). AreBefore c.self.inside.aliases n) (sym place) c.self.invariant.before
+
+pub grants_after-requires-clause-grants : goal.grants_after-requires-clause-grants
+grants_after-requires-clause-grants c =
+    let place : c.entries-place.result ≡ length c.self.inside.entries.items = c.entries-place.ensures.number ∙ ap length (sym c.self.view_is) in
+    subst (λ (n : ℕ). All (IsGrantOf n) c.self.inside.grants) (sym place) c.self.invariant.granted
+
+pub grants_after-requires-clause-made : goal.grants_after-requires-clause-made
+grants_after-requires-clause-made c = subst (λ (n : ℕ). IsMadeHere n c.args.entry.now.what) (sym c.entries-place.ensures.number) c.requires.made
 
 pub invariant_of-result : goal.invariant_of-result
 invariant_of-result c =
@@ -23,11 +44,27 @@ invariant_of-result c =
     let bytes_are : bytes_in c.in_ok-with_entry.field-0.items ≡ bytes_in history + size_of entry.what = ap bytes_in grown ∙ bytes-push history entry in
     let rows : AreRows (length history + 1) (keys_after (length history) entry.time entry.what (replay history).keys) =
     rows_after (length history) entry.time entry.what (replay history).keys fitting.made (subst (AreRows (length history)) c.self.invariant.keys c.self.invariant.are) in
+    let aliases : c.in_ok-aliases_after.field-0 ≡ aliases_after (length history) entry.time entry.what (replay history).keys (replay history).aliases =
+    c.in_ok-aliases_after.ensures
+    ∙ (ap₂ (λ (n : ℕ) (rows : List KeyRow). aliases_after n entry.time entry.what rows c.self.inside.aliases) place (c.deref-3.ensures.value ∙ c.self.invariant.keys)
+    ∙ ap (λ (rows : List AliasRow). aliases_after (length history) entry.time entry.what (replay history).keys rows) c.self.invariant.aliases) in
+    let before : AreBefore (aliases_after (length history) entry.time entry.what (replay history).keys (replay history).aliases) (length history + 1) =
+    before_after (length history) entry.time entry.what (replay history).keys (replay history).aliases (subst (λ (rows : List AliasRow). AreBefore rows (length history)) c.self.invariant.aliases c.self.invariant.before) in
+    let grants : c.in_ok-grants_after.field-0 ≡ grants_after (length history) entry.time entry.what (replay history).keys (replay history).grants =
+    c.in_ok-grants_after.ensures
+    ∙ (ap₂ (λ (n : ℕ) (rows : List KeyRow). grants_after n entry.time entry.what rows c.self.inside.grants) place (c.deref-4.ensures.value ∙ c.self.invariant.keys)
+    ∙ ap (λ (rows : List GrantRow). grants_after (length history) entry.time entry.what (replay history).keys rows) c.self.invariant.grants) in
+    let granted : All (IsGrantOf (length history + 1)) (grants_after (length history) entry.time entry.what (replay history).keys (replay history).grants) =
+    grants_rise (length history) entry.time entry.what (replay history).keys (replay history).grants fitting.made (subst (λ (rows : List GrantRow). All (IsGrantOf (length history)) rows) c.self.invariant.grants c.self.invariant.granted) in
     let few : length history < 1000000 = fitting.few in
     let fits : bytes_in history + size_of entry.what ≤ 268435456 = fitting.fits in
     record {
       keys = replayed;
       are = subst (λ (n : ℕ). AreRows n c.in_ok-keys_after.field-0.items) (sym length_is) (subst (AreRows (length history + 1)) (sym keys) rows);
+      aliases = aliases ∙ sym (aliases-push history entry) ∙ ap (λ h. (replay h).aliases) (sym grown);
+      before = subst (λ (n : ℕ). AreBefore c.in_ok-aliases_after.field-0 n) (sym length_is) (subst (λ (rows : List AliasRow). AreBefore rows (length history + 1)) (sym aliases) before);
+      grants = grants ∙ sym (grants-push history entry) ∙ ap (λ h. (replay h).grants) (sym grown);
+      granted = subst (λ (n : ℕ). All (IsGrantOf n) c.in_ok-grants_after.field-0) (sym length_is) (subst (λ (rows : List GrantRow). All (IsGrantOf (length history + 1)) rows) (sym grants) granted);
       latest = sym (latest-push history entry) ∙ ap latest_of (sym grown);
       bytes = ap₂ (λ (a b : ℕ). a + b) c.self.invariant.bytes (c.size.ensures ∙ small (bytes_in history) (size_of entry.what) fits) ∙ sym bytes_are;
       few = omega (arith, length_is, few);

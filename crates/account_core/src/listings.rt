@@ -1,0 +1,380 @@
+// The lists that are shown in parts.
+ghost use Rattle.std.specs.Prelude.{◌≡◌, IfOk};
+ghost use Rattle.account_core.specs.Lists.{shown_constraint, shown_alias, shown_grant, shown_rotation, listed_keys, is_listed_alias, has_sought_id, has_sought_grantee};
+
+use crate::lists::Sought;
+use crate::pages::Listing;
+use crate::view::{LentGrant, View};
+use account_rows::{Lent, is_gone};
+use alias_map::AliasRow;
+use grant_table::{Constraint, GrantRow, same_principal};
+use key_states::{KeyRow, Version};
+use kms_json::{GrantConstraint, ListedAlias, ListedGrant, Rotation};
+use kms_names::{KeyId, NoMemory, Principal, Text};
+use std::alloc::Global;
+use std::marker::Model;
+
+/// The keys that aren't gone.
+#[derive(Drop)]
+pub struct KeysListed<'a> {
+    view: &'a View<'a>,
+}
+
+impl<'a> KeysListed<'a> {
+    ghost use Rattle.std.specs.Prelude.{◌≡◌};
+
+    /// Those of a view.
+    pub fn new(view: &'a View<'a>) -> KeysListed<'a>
+        ensures { result.view.now ≡ view.now }
+    {
+        KeysListed { view }
+    }
+}
+
+impl<'a> Listing for KeysListed<'a> {
+    type Row = Lent<'a>;
+
+    type Item = KeyId;
+
+    ghost rows = { λ l. l.view.now.keys };
+
+    ghost born = { λ l row. row.born };
+
+    ghost listed = { λ l row. not (is_gone l.view.now.moment row) };
+
+    ghost shown = { λ l row. row.key };
+
+    fn in_order(&self) {
+        let _ = self.view.number_of_keys();
+    }
+
+    fn behind(&self, after: Option<u64>) -> Option<Lent<'a>> {
+        self.view.key_after(after)
+    }
+
+    fn born(&self, row: &Lent<'a>) -> u64 {
+        row.row().born
+    }
+
+    fn lists(&self, row: &Lent<'a>) -> bool {
+        !is_gone(row.row(), self.view.moment())
+    }
+
+    fn show(&self, _alloc: Global, row: Lent<'a>) -> Result<KeyId, NoMemory> {
+        Ok(row.row().key)
+    }
+}
+
+/// An alias that is lent. Contracts see its row.
+#[derive(Drop)]
+pub struct LentAlias<'a> {
+    row: &'a AliasRow,
+}
+
+impl<'a> Model for LentAlias<'a> {
+    ghost use Rattle.alias_map.specs.declared.rows.AliasRow.{AliasRow as AliasValue};
+
+    ghost Value = { AliasValue };
+
+    ghost view = { λ lent. lent.row.now };
+}
+
+/// The aliases of keys that aren't gone, or those of one key.
+#[derive(Drop)]
+pub struct AliasesListed<'a> {
+    view: &'a View<'a>,
+    key: &'a Option<KeyId>,
+}
+
+impl<'a> AliasesListed<'a> {
+    ghost use Rattle.std.specs.Prelude.{◌≡◌};
+
+    /// Those of a view.
+    pub fn new(view: &'a View<'a>, key: &'a Option<KeyId>) -> AliasesListed<'a>
+        ensures view { result.view.now ≡ view.now }
+        ensures key { result.key.now ≡ key.now }
+    {
+        AliasesListed { view, key }
+    }
+}
+
+impl<'a> Listing for AliasesListed<'a> {
+    type Row = LentAlias<'a>;
+
+    type Item = ListedAlias;
+
+    ghost rows = { λ l. l.view.now.aliases };
+
+    ghost born = { λ l row. row.born };
+
+    ghost listed = { λ l row. is_listed_alias l.view.now l.key.now row };
+
+    ghost shown = { λ l row. shown_alias row };
+
+    fn in_order(&self) {
+        let _ = self.view.aliases().len();
+    }
+
+    fn behind(&self, after: Option<u64>) -> Option<LentAlias<'a>> {
+        let row = self.view.aliases().of_all(after)?;
+        Some(LentAlias { row })
+    }
+
+    fn born(&self, row: &LentAlias<'a>) -> u64 {
+        row.row.born
+    }
+
+    fn lists(&self, row: &LentAlias<'a>) -> bool {
+        match self.key {
+            Some(key) => row.row.key == *key,
+            None => self.view.key(&row.row.key).is_some(),
+        }
+    }
+
+    fn show(&self, _alloc: Global, row: LentAlias<'a>) -> Result<ListedAlias, NoMemory> {
+        Ok(ListedAlias {
+            name: row.row.name.copy()?,
+            key: row.row.key,
+            created: row.row.made,
+            updated: row.row.updated,
+        })
+    }
+}
+
+// A constraint as replies show it.
+fn shown_constraint(constraint: &Constraint) -> Result<GrantConstraint, NoMemory>
+    ensures { IfOk result (λ shown. shown ≡ shown_constraint constraint.now) }
+{
+    Ok(match constraint {
+        Constraint::Free => GrantConstraint::Free,
+        Constraint::Equals(context) => GrantConstraint::Equals(context.copy()?),
+        Constraint::Subset(context) => GrantConstraint::Subset(context.copy()?),
+    })
+}
+
+// A principal that may be left out.
+fn copy_of(principal: &Option<Principal>) -> Result<Option<Principal>, NoMemory>
+    ensures { IfOk result (λ copy. copy ≡ principal.now) }
+{
+    match principal {
+        Some(principal) => Ok(Some(principal.copy()?)),
+        None => Ok(None),
+    }
+}
+
+// A name that may be left out.
+fn copy_of_name(name: &Option<Text>) -> Result<Option<Text>, NoMemory>
+    ensures { IfOk result (λ copy. copy ≡ name.now) }
+{
+    match name {
+        Some(name) => Ok(Some(name.copy()?)),
+        None => Ok(None),
+    }
+}
+
+// A grant as replies show it.
+fn shown_grant(grant: &GrantRow) -> Result<ListedGrant, NoMemory>
+    ensures { IfOk result (λ shown. shown ≡ shown_grant grant.now) }
+{
+    Ok(ListedGrant {
+        grant: grant.grant,
+        key: grant.key,
+        created: grant.made,
+        grantee: grant.grantee.copy()?,
+        retiring: copy_of(&grant.retiring)?,
+        operations: grant.operations,
+        constraint: shown_constraint(&grant.constraint)?,
+        name: copy_of_name(&grant.name)?,
+    })
+}
+
+/// The live grants that a principal may retire.
+#[derive(Drop)]
+pub struct RetirableGrants<'a> {
+    view: &'a View<'a>,
+    retiring: &'a Principal,
+}
+
+impl<'a> RetirableGrants<'a> {
+    ghost use Rattle.std.specs.Prelude.{◌≡◌};
+
+    /// Those of a view.
+    pub fn new(view: &'a View<'a>, retiring: &'a Principal) -> RetirableGrants<'a>
+        ensures view { result.view.now ≡ view.now }
+        ensures retiring { result.retiring.now ≡ retiring.now }
+    {
+        RetirableGrants { view, retiring }
+    }
+}
+
+impl<'a> Listing for RetirableGrants<'a> {
+    type Row = LentGrant<'a>;
+
+    type Item = ListedGrant;
+
+    ghost rows = { λ l. filter (has_retiring l.retiring.now) l.view.now.grants };
+
+    ghost born = { λ l row. row.born };
+
+    ghost listed = { λ l row. is_live l.view.now row };
+
+    ghost shown = { λ l row. shown_grant row };
+
+    fn in_order(&self) {
+        let _ = self.view.grants().len();
+    }
+
+    fn behind(&self, after: Option<u64>) -> Option<LentGrant<'a>> {
+        let row = self.view.grants().retirable(self.retiring, after)?;
+        Some(LentGrant::new(row))
+    }
+
+    fn born(&self, row: &LentGrant<'a>) -> u64 {
+        row.row().born
+    }
+
+    fn lists(&self, row: &LentGrant<'a>) -> bool {
+        self.view.is_live(row.row())
+    }
+
+    fn show(&self, _alloc: Global, row: LentGrant<'a>) -> Result<ListedGrant, NoMemory> {
+        shown_grant(row.row())
+    }
+}
+
+/// The grants of a key, of which some are sought.
+#[derive(Drop)]
+pub struct GrantsOfKey<'a> {
+    view: &'a View<'a>,
+    key: &'a KeyId,
+    sought: &'a Sought,
+}
+
+impl<'a> GrantsOfKey<'a> {
+    ghost use Rattle.std.specs.Prelude.{◌≡◌};
+
+    /// Those of a view.
+    pub fn new(view: &'a View<'a>, key: &'a KeyId, sought: &'a Sought) -> GrantsOfKey<'a>
+        ensures view { result.view.now ≡ view.now }
+        ensures key { result.key.now ≡ key.now }
+        ensures sought { result.sought.now ≡ sought.now }
+    {
+        GrantsOfKey { view, key, sought }
+    }
+}
+
+impl<'a> Listing for GrantsOfKey<'a> {
+    type Row = LentGrant<'a>;
+
+    type Item = ListedGrant;
+
+    ghost rows = { λ l. filter (is_of_key l.key.now) l.view.now.grants };
+
+    ghost born = { λ l row. row.born };
+
+    ghost listed = { λ l row. has_sought_id l.sought.now.grant row && has_sought_grantee l.sought.now.grantee row };
+
+    ghost shown = { λ l row. shown_grant row };
+
+    fn in_order(&self) {
+        let _ = self.view.grants().len();
+    }
+
+    fn behind(&self, after: Option<u64>) -> Option<LentGrant<'a>> {
+        let row = self.view.grants().of_key(self.key, after)?;
+        Some(LentGrant::new(row))
+    }
+
+    fn born(&self, row: &LentGrant<'a>) -> u64 {
+        row.row().born
+    }
+
+    fn lists(&self, row: &LentGrant<'a>) -> bool {
+        has_sought(self.sought, row.row())
+    }
+
+    fn show(&self, _alloc: Global, row: LentGrant<'a>) -> Result<ListedGrant, NoMemory> {
+        shown_grant(row.row())
+    }
+}
+
+// Whether a grant is sought.
+fn has_sought(sought: &Sought, grant: &GrantRow) -> bool
+    ensures { result ≡ (has_sought_id sought.now.grant grant.now && has_sought_grantee sought.now.grantee grant.now) }
+{
+    let is_sought = match &sought.grant {
+        Some(id) => grant.has_id(id),
+        None => true,
+    };
+    is_sought
+        && match &sought.grantee {
+            Some(grantee) => same_principal(&grant.grantee, grantee),
+            None => true,
+        }
+}
+
+/// A version of a key with its number, counted from 1.
+#[derive(Clone, Copy, Debug, PartialEq, Eq)]
+pub struct Numbered {
+    /// The number.
+    pub number: u64,
+    /// The version.
+    pub version: Version,
+}
+
+/// The rotations of a key: all versions but the first, with their numbers.
+#[derive(Drop)]
+pub struct RotationsOf<'a> {
+    row: &'a KeyRow,
+}
+
+impl<'a> RotationsOf<'a> {
+    ghost use Rattle.std.specs.Prelude.{◌≡◌};
+
+    /// Those of a key.
+    pub fn new(row: &'a KeyRow) -> RotationsOf<'a>
+        ensures { result.row.now ≡ row.now }
+    {
+        RotationsOf { row }
+    }
+}
+
+impl<'a> Listing for RotationsOf<'a> {
+    type Row = Numbered;
+
+    type Item = Rotation;
+
+    ghost rows = { λ l. rotations_of l.row.now };
+
+    ghost born = { λ l row. row.number };
+
+    ghost listed = { λ l row. true };
+
+    ghost shown = { λ l row. shown_rotation row };
+
+    fn in_order(&self) {}
+
+    fn behind(&self, after: Option<u64>) -> Option<Numbered> {
+        let place = after.unwrap_or(1).max(1);
+        let version = *self.row.versions.as_slice().get(place as usize)?;
+        Some(Numbered {
+            number: place + 1,
+            version,
+        })
+    }
+
+    fn born(&self, row: &Numbered) -> u64 {
+        row.number
+    }
+
+    fn lists(&self, _row: &Numbered) -> bool {
+        true
+    }
+
+    fn show(&self, _alloc: Global, row: Numbered) -> Result<Rotation, NoMemory> {
+        Ok(Rotation {
+            date: row.version.time,
+            on_demand: row.version.on_demand,
+        })
+    }
+}
