@@ -1,1 +1,5 @@
 mod Callers
+mod Configured
+mod WordFacts
+mod BootFacts
+mod Programs

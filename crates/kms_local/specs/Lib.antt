@@ -1,3 +1,4 @@
 pub mod Words
 pub mod Settings
+pub mod Files
 pub mod Program

@@ -1,22 +1,37 @@
--- What the values of the options of `run` stand for, and which of them is refused.
-use Rattle.std.specs.Prelude.{◌≡◌, ℕ, List, [], length, Option, Some, None, Ok}
+-- What the values of `run` stand for, and which of them is refused.
+use Rattle.std.specs.Prelude.{◌≡◌, ℕ, List, [], length, Option, Some, None, IsSome, Ok, option_and_then}
 use Rattle.std.specs.List.{AllPass}
 use Rattle.hex.specs.Hex.{decode_of, is_hex_digit}
+use Rattle.http_front.specs.Digits.{number_in}
 use Rattle.kms_names.specs.Account.{IsAccountNumber}
+use Rattle.kms_names.specs.Reading.{some_if}
 use Rattle.kms_names.specs.Region.{IsRegion}
 use Rattle.kms_names.specs.Principal.{IsPrincipal, principal_text}
 use Rattle.kms_names.specs.declared.principals.Principal.{Principal}
 use Rattle.account_core.specs.Decide.{account_of}
+use Rattle.kms_config.specs.Forms.{is_boot}
+use Rattle.kms_config.specs.declared.config.Config.{Config}
+use Rattle.kms_session.specs.declared.trust.Trust.{Trust}
+use Rattle.kms_session.specs.declared.trust.Trust.TheVariants.{Word, Signed}
 use Rattle.kms_local.specs.declared.settings.Settings.{Settings}
 use Rattle.kms_local.specs.declared.settings.RunOption.{RunOption}
-use Rattle.kms_local.specs.declared.settings.RunOption.TheVariants.{Account, Region, Root, As}
+use Rattle.kms_local.specs.declared.settings.RunOption.TheVariants.{Account, Region, Root, Boot, As}
 use Rattle.kms_local.specs.declared.settings.SettingFault.{SettingFault}
 use Rattle.kms_local.specs.declared.settings.SettingFault.TheVariants as setting
-use Rattle.kms_local.specs.Words.{Command}
+use Rattle.kms_local.specs.Words.{RunValues}
 
 -- 64 hex digits of either case
 abbrev pub IsRootSecret : List ℕ → Type 0
 IsRootSecret text = (length text ≡ 64) × AllPass is_hex_digit text
+
+-- a number of 1 to 20 decimal digits, from 1 to 4294967295
+abbrev pub boot_in : List ℕ → Option ℕ
+boot_in text = option_and_then (λ boot. some_if (is_boot boot) boot) (number_in 20 text)
+
+-- the same where it is given, and else 1
+abbrev pub boot_of : Option (List ℕ) → Option ℕ
+boot_of None = Some 1
+boot_of (Some text) = boot_in text
 
 -- the text is the ARN of this principal, who is of the account
 pub record IsPrincipalOf (account text : List ℕ) (p : Principal) : Type 0 where
@@ -29,25 +44,50 @@ abbrev pub Names : List ℕ → List ℕ → Option Principal → Type 0
 Names account text None = (p : Principal) → ¬ (IsPrincipalOf account text p)
 Names account text (Some p) = IsPrincipalOf account text p
 
--- each value has its form, and stands for what it says; the boot number is 1, and no caller has policies of its own
-pub record IsSettings (command : Command) (settings : Settings) : Type 0 where
-  pub account_form : IsAccountNumber command.account
-  pub region_form : IsRegion command.region
-  pub root_form : IsRootSecret command.root
-  pub account : settings.facts.account ≡ command.account
-  pub region : settings.facts.region ≡ command.region
-  pub root : decode_of command.root ≡ Ok settings.facts.root
-  pub boot : settings.facts.boot ≡ 1
+-- whoever sends a message is the principal of this ARN, who is of the account
+pub record TrustsName (account text : List ℕ) (trust : Trust) : Type 0 where
+  pub caller : Principal
+  pub is : trust ≡ Word caller
+  pub named : IsPrincipalOf account text caller
+
+-- each value has its form, and stands for what it says; no caller has policies of its own
+pub record IsSettings (values : RunValues) (settings : Settings) : Type 0 where
+  pub account_form : IsAccountNumber values.account
+  pub region_form : IsRegion values.region
+  pub root_form : IsRootSecret values.root
+  pub account : settings.facts.account ≡ values.account
+  pub region : settings.facts.region ≡ values.region
+  pub root : decode_of values.root ≡ Ok settings.facts.root
+  pub boot : boot_of values.boot ≡ Some settings.facts.boot
   pub identities : settings.facts.identities ≡ []
-  pub caller : IsPrincipalOf command.account command.caller settings.caller
+  pub caller : TrustsName values.account values.caller settings.trust
 
 -- the value of this option has not its form, and those before it have
-abbrev pub IsRefusedAt : Command → RunOption → Type 0
-IsRefusedAt command Account = ¬ (IsAccountNumber command.account)
-IsRefusedAt command Region = IsAccountNumber command.account × ¬ (IsRegion command.region)
-IsRefusedAt command Root = IsAccountNumber command.account × IsRegion command.region × ¬ (IsRootSecret command.root)
-IsRefusedAt command As = IsAccountNumber command.account × IsRegion command.region × IsRootSecret command.root × ((p : Principal) → ¬ (IsPrincipalOf command.account command.caller p))
+abbrev pub IsRefusedAt : RunValues → RunOption → Type 0
+IsRefusedAt values Account = ¬ (IsAccountNumber values.account)
+IsRefusedAt values Region = IsAccountNumber values.account × ¬ (IsRegion values.region)
+IsRefusedAt values Root = IsAccountNumber values.account × IsRegion values.region × ¬ (IsRootSecret values.root)
+IsRefusedAt values Boot = IsAccountNumber values.account × IsRegion values.region × IsRootSecret values.root × (boot_of values.boot ≡ None)
+IsRefusedAt values As =
+    IsAccountNumber values.account × IsRegion values.region × IsRootSecret values.root × IsSome (boot_of values.boot) × ((p : Principal) → ¬ (IsPrincipalOf values.account values.caller p))
 
-abbrev pub UnlessMemory : Command → SettingFault → Type 0
-UnlessMemory command (setting.At option) = IsRefusedAt command option
-UnlessMemory command setting.NoMemory = Unit {0}
+abbrev pub UnlessMemory : RunValues → SettingFault → Type 0
+UnlessMemory values (setting.At option) = IsRefusedAt values option
+UnlessMemory values setting.NoMemory = Unit {0}
+
+-- ---- with a file
+
+-- whoever signs with one of the file's credentials, or the one whose ARN `--as` gives
+abbrev pub TrustsAsTold : Config → Option (List ℕ) → Trust → Type 0
+TrustsAsTold config None trust = trust ≡ Signed config.credentials
+TrustsAsTold config (Some caller) trust = TrustsName config.facts.account caller trust
+
+-- what the file says is served
+pub record IsConfigured (config : Config) (caller : Option (List ℕ)) (settings : Settings) : Type 0 where
+  pub facts : settings.facts ≡ config.facts
+  pub trust : TrustsAsTold config caller settings.trust
+
+-- a caller is given, who is nobody of the account
+abbrev pub IsNobody : Config → Option (List ℕ) → Type 0
+IsNobody config None = ⊥
+IsNobody config (Some caller) = (p : Principal) → ¬ (IsPrincipalOf config.facts.account caller p)

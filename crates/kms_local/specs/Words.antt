@@ -1,33 +1,116 @@
 -- The words of the command line.
-use Rattle.std.specs.Prelude.{◌&&◌, Bool, ℕ, List, [], ◌∷◌, codes, Option, None, Some, if◌then◌else◌}
+use Rattle.std.specs.Prelude.{◌≡◌, ◌-◌, ◌&&◌, ◌||◌, not, Bool, true, false, ℕ, nat_eq, List, [], ◌∷◌, length, take, slice_index, codes, Option, None, Some, option_map, if◌then◌else◌}
+use Rattle.std.specs.List.{list_any}
+use Rattle.std.specs.Option.{is_some}
 use Rattle.std.specs.Str.{bytes_eq}
+use Rattle.clap.specs.Words.{App, Rule, Row, Text, Kinds, new_app, new_rule, with_rule, with_subcommand, first_of, fault_of, subcommand_of}
+use Rattle.kms_names.specs.Reading.{after_front}
 use Rattle.kms_local.specs.declared.words.RunWords.{RunWords}
+use Rattle.kms_local.specs.declared.words.Asked.{Asked}
+use Rattle.kms_local.specs.declared.words.Asked.TheVariants as asked
 
--- the texts that `run` names
-pub record Command : Type 0 where
+-- ---- the command line, as `clap` reads it
+
+-- `--NAME VALUE` or `--NAME=VALUE`
+abbrev pub value_option : Text → Rule
+value_option name = record (new_rule name) { long = Some name }
+
+abbrev pub with_value : App → Text → App
+with_value app name = with_rule app (value_option name)
+
+-- `run` with its options
+abbrev pub run_line : App
+run_line =
+    with_value (with_value (with_value (with_value (with_value (with_value (new_app (codes "run")) (codes "account")) (codes "region")) (codes "root")) (codes "boot")) (codes "as")) (codes "config")
+
+-- `check` with its option
+abbrev pub check_line : App
+check_line = with_value (new_app (codes "check")) (codes "config")
+
+-- one of the commands, and nothing before it
+abbrev pub bare_line : App
+bare_line = let app = new_app (codes "kms_local") in record app { top = record app.top { no_binary_name = true; subcommand_required = true } }
+
+abbrev pub whole_line : App
+whole_line = with_subcommand (with_subcommand bare_line run_line.top) check_line.top
+
+-- ---- words that no command has
+
+-- the last byte is `=`, and no other one is
+abbrev pub ends_in_equals : List ℕ → Bool
+ends_in_equals text = nat_eq (slice_index text (length text - 1)) 61 && not (list_any (λ byte. nat_eq byte 61) (take (length text - 1) text))
+
+-- an option of no value, as `--name=`
+abbrev pub is_valueless : List ℕ → Bool
+is_valueless word = is_some (after_front (codes "--") word) && ends_in_equals word
+
+-- the empty word, `-`, `--`, or an option of no value
+abbrev pub is_stray : List ℕ → Bool
+is_stray word = bytes_eq word [] || (bytes_eq word (codes "-") || (bytes_eq word (codes "--") || is_valueless word))
+
+-- ---- what the words ask
+
+-- the values of the first form of `run`
+pub record RunValues : Type 0 where
   pub account : List ℕ
   pub region : List ℕ
   pub root : List ℕ
+  pub boot : Option (List ℕ)
   pub caller : List ℕ
 
-abbrev pub named_by : RunWords → Command
-named_by words = record { account = words.account.now; region = words.region.now; root = words.root.now; caller = words.caller.now }
+-- `run` with values, `run` with a file and perhaps a caller, or `check` with a file
+pub data Command : Type 0 where
+  run : RunValues → Command
+  run_file : List ℕ → Option (List ℕ) → Command
+  check : List ℕ → Command
 
--- the command and its options, in their order
-abbrev pub is_run_line : List ℕ → List ℕ → List ℕ → List ℕ → List ℕ → Bool
-is_run_line command account region root caller =
-    bytes_eq command (codes "run") && bytes_eq account (codes "--account") && bytes_eq region (codes "--region") && bytes_eq root (codes "--root") && bytes_eq caller (codes "--as")
+-- account, region, root secret and caller are all given
+abbrev pub values_of : Option Text → Option Text → Option Text → Option Text → Option Text → Option Command
+values_of None region root boot caller = None
+values_of (Some account) None root boot caller = None
+values_of (Some account) (Some region) None boot caller = None
+values_of (Some account) (Some region) (Some root) boot None = None
+values_of (Some account) (Some region) (Some root) boot (Some caller) =
+    Some (run (record { account = account; region = region; root = root; boot = boot; caller = caller }))
 
--- nine words: run --account A --region R --root HEX --as ARN
-abbrev pub command_of : List (List ℕ) → Option Command
-command_of [] = None
-command_of (a ∷ []) = None
-command_of (a ∷ b ∷ []) = None
-command_of (a ∷ b ∷ c ∷ []) = None
-command_of (a ∷ b ∷ c ∷ d ∷ []) = None
-command_of (a ∷ b ∷ c ∷ d ∷ e ∷ []) = None
-command_of (a ∷ b ∷ c ∷ d ∷ e ∷ f ∷ []) = None
-command_of (a ∷ b ∷ c ∷ d ∷ e ∷ f ∷ g ∷ []) = None
-command_of (a ∷ b ∷ c ∷ d ∷ e ∷ f ∷ g ∷ h ∷ []) = None
-command_of (a ∷ b ∷ c ∷ d ∷ e ∷ f ∷ g ∷ h ∷ i ∷ []) = if is_run_line a b d f h then Some (record { account = c; region = e; root = g; caller = i }) else None
-command_of (a ∷ b ∷ c ∷ d ∷ e ∷ f ∷ g ∷ h ∷ i ∷ j ∷ more) = None
+-- one of the two forms of `run`: with a file none of the values but the caller is given
+abbrev pub form_of : Option Text → Option Text → Option Text → Option Text → Option Text → Option Text → Option Command
+form_of None account region root boot caller = values_of account region root boot caller
+form_of (Some file) account region root boot caller =
+    if is_some account || (is_some region || (is_some root || is_some boot)) then None else Some (run_file file caller)
+
+abbrev pub run_of : List Row → Option Command
+run_of rows =
+    form_of (first_of (codes "config") rows) (first_of (codes "account") rows) (first_of (codes "region") rows) (first_of (codes "root") rows) (first_of (codes "boot") rows) (first_of (codes "as") rows)
+
+abbrev pub check_of : List Row → Option Command
+check_of rows = option_map check (first_of (codes "config") rows)
+
+-- by the name of the command and the values of its options
+abbrev pub named_command : Option (Text × List Row) → Option Command
+named_command None = None
+named_command (Some (name, rows)) = if bytes_eq name (codes "run") then run_of rows else check_of rows
+
+abbrev pub unless_refused : Kinds → Option (Text × List Row) → Option Command
+unless_refused [] named = named_command named
+unless_refused (kind ∷ kinds) named = None
+
+-- the command that the words are, if none of them is one that no command has and `clap` takes them
+unfoldable pub command_of : List (List ℕ) → Option Command
+command_of words = if list_any is_stray words then None else unless_refused (fault_of whole_line words) (subcommand_of whole_line words)
+
+-- ---- what the words name
+
+abbrev pub values_in : RunWords → RunValues
+values_in words = record {
+  account = words.account.now;
+  region = words.region.now;
+  root = words.root.now;
+  boot = option_map (λ boot. boot.now) words.boot;
+  caller = words.caller.now;
+}
+
+abbrev pub shown : Asked → Command
+shown (asked.Run words) = run (values_in words)
+shown (asked.RunFile file caller) = run_file file.now (option_map (λ caller. caller.now) caller)
+shown (asked.Check file) = check file.now

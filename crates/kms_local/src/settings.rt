@@ -1,16 +1,22 @@
-// What the values of the options of `run` stand for.
-ghost use Rattle.std.specs.Prelude.{◌≡◌, ◌↔◌, length, if◌then◌else◌, Some, None, IsSome, IfSome, IfOk, IfErr, Ok};
+// What the values of `run` stand for.
+ghost use Rattle.std.specs.Prelude.{◌≡◌, ◌↔◌, length, if◌then◌else◌, Some, None, IsSome, IfSome, IfOk, IfErr, IfNone, OnErr, Ok, option_map};
 ghost use Rattle.std.specs.Str.{bytes_eq};
-ghost use Rattle.account_core.specs.Decide.{account_of};
-ghost use Rattle.std.specs.List.{AllPass};
+ghost use Rattle.std.specs.List.{AllPass, list_all};
+ghost use Rattle.std.specs.Char.{is_ascii_digit};
 ghost use Rattle.hex.specs.Hex.{decode_of, is_hex_digit};
-ghost use Rattle.kms_local.specs.Words.{named_by};
-ghost use Rattle.kms_local.specs.Settings.{IsSettings, Names, UnlessMemory};
+ghost use Rattle.http_front.specs.Digits.{is_decimal};
+ghost use Rattle.account_core.specs.Decide.{account_of};
+ghost use Rattle.kms_session.specs.Callers.{IsOfAccount};
+ghost use Rattle.kms_session.specs.declared.trust.Trust.TheVariants.{Signed};
+ghost use Rattle.kms_local.specs.Words.{values_in};
+ghost use Rattle.kms_local.specs.Settings.{boot_in, boot_of, IsSettings, IsConfigured, IsNobody, Names, UnlessMemory};
 
 use crate::words::RunWords;
 use account_core::{IdentityList, RealmFacts};
 use hex::FromHex;
+use kms_config::Config;
 use kms_names::{AccountNumber, NameFault, NoMemory, Principal, Text, is_region, read_principal};
+use kms_session::Trust;
 use std::alloc::Global;
 
 /// An option of `run`.
@@ -19,6 +25,7 @@ pub enum RunOption {
     Account,
     Region,
     Root,
+    Boot,
     As,
 }
 
@@ -43,11 +50,14 @@ impl From<NoMemory> for SettingFault {
 }
 
 /// What `run` serves, and whom it trusts.
-#[derive(Debug, Drop)]
+#[derive(Drop)]
 pub struct Settings {
     pub facts: RealmFacts,
-    pub caller: Principal,
+    pub trust: Trust,
 }
+
+// The most digits of a boot number, leading zeros among them.
+const DIGITS: usize = 20;
 
 fn read_root(text: &str) -> Option<[u8; 32]>
     ensures value { IfSome result (λ root. decode_of text.now ≡ Ok root) }
@@ -82,12 +92,47 @@ fn read_caller(
     }
 }
 
+fn are_digits(text: &[u8]) -> bool
+    ensures { result ≡ list_all is_ascii_digit text.now }
+{
+    text.iter().all(|byte| byte.is_ascii_digit())
+}
+
+fn is_number(text: &str) -> bool
+    ensures { result ≡ is_decimal 20 text.now }
+{
+    !text.is_empty() && text.len() <= DIGITS && are_digits(text.as_bytes())
+}
+
+fn boot_in(text: &str) -> Option<u32>
+    ensures { result ≡ boot_in text.now }
+{
+    if !is_number(text) {
+        return None;
+    }
+    match text.parse::<u32>() {
+        Ok(boot) if boot > 0 => Some(boot),
+        _ => None,
+    }
+}
+
+fn boot_of(text: Option<&str>) -> Option<u32>
+    ensures { result ≡ boot_of (option_map (λ text. text.now) text.entry) }
+{
+    match text {
+        Some(text) => boot_in(text),
+        None => Some(1),
+    }
+}
+
 /// What the words of `run` stand for. The first option is named whose value has not its form: an
 /// account of 12 digits, a region of 1 to 32 lower-case letters, digits and `-`, a root secret of 64
-/// hex digits, and the ARN of a principal of the account as the caller.
+/// hex digits, a boot number of 1 to 20 digits, from 1 to 4294967295 (1 where none is given), and the
+/// ARN of a principal of the account as the caller.
 pub fn read_settings(alloc: Global, words: &RunWords<'_>) -> Result<Settings, SettingFault>
-    ensures ok { IfOk result (IsSettings (named_by words.now)) }
-    ensures refused { IfErr result (UnlessMemory (named_by words.now)) }
+    ensures ok { IfOk result (IsSettings (values_in words.now)) }
+    ensures trust { IfOk result (λ settings. IsOfAccount settings.facts.account settings.trust) }
+    ensures refused { IfErr result (UnlessMemory (values_in words.now)) }
 {
     let Some(account) = AccountNumber::read(words.account) else {
         return Err(SettingFault::At(RunOption::Account));
@@ -98,6 +143,9 @@ pub fn read_settings(alloc: Global, words: &RunWords<'_>) -> Result<Settings, Se
     let Some(root) = read_root(words.root) else {
         return Err(SettingFault::At(RunOption::Root));
     };
+    let Some(boot) = boot_of(words.boot) else {
+        return Err(SettingFault::At(RunOption::Boot));
+    };
     let Some(caller) = read_caller(alloc, words.caller, &account)? else {
         return Err(SettingFault::At(RunOption::As));
     };
@@ -105,8 +153,35 @@ pub fn read_settings(alloc: Global, words: &RunWords<'_>) -> Result<Settings, Se
         account,
         region: Text::from_str(alloc, words.region)?,
         root,
-        boot: 1,
+        boot,
         identities: IdentityList::new(Vec::new(alloc)),
     };
-    Ok(Settings { facts, caller })
+    let trust = Trust::Word(caller);
+    Ok(Settings { facts, trust })
+}
+
+/// What a configuration stands for: its account is served to whoever signs with one of its credentials,
+/// or to the one whose ARN is given, who must be of its account. It is None where that is nobody.
+pub fn configured(
+    alloc: Global,
+    config: Config,
+    caller: Option<&str>,
+) -> Result<Option<Settings>, NoMemory>
+    requires { IsOfAccount config.facts.account (Signed config.credentials) }
+    ensures some { IfOk result (λ found. IfSome found (IsConfigured config (option_map (λ caller. caller.now) caller.entry))) }
+    ensures trust { IfOk result (λ found. IfSome found (λ settings. IsOfAccount settings.facts.account settings.trust)) }
+    ensures none { IfOk result (λ found. IfNone found (IsNobody config (option_map (λ caller. caller.now) caller.entry))) }
+{
+    let Config { facts, credentials } = config;
+    let Some(text) = caller else {
+        let trust = Trust::Signed(credentials);
+        return Ok(Some(Settings { facts, trust }));
+    };
+    match read_caller(alloc, text, &facts.account)? {
+        Some(caller) => {
+            let trust = Trust::Word(caller);
+            Ok(Some(Settings { facts, trust }))
+        }
+        None => Ok(None),
+    }
 }
