@@ -54,7 +54,7 @@ impl KeyChange {
 
     // What it says to conditions, beside the key.
     fn said<'a>(self, of_key: Particulars<'a>) -> Particulars<'a>
-        ensures { result ≡ said_of self of_key }
+        ensures { result ≡ said_of self of_key.entry }
     {
         match self {
             KeyChange::ScheduleDeletion { days } => Particulars {

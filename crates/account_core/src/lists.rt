@@ -1,16 +1,18 @@
 // The operations that list.
 ghost use Rattle.std.specs.Prelude.{◌≡◌, IfOk};
 ghost use Rattle.account_core.specs.Steps.{Gives};
-ghost use Rattle.account_core.specs.Lists.{shown_constraint, shown_alias, shown_grant, action_in, key_id_if_given, lists_in, action_on, grant_id_if_given, lists_on};
+ghost use Rattle.account_core.specs.Grants.{principal_if_given};
+ghost use Rattle.account_core.specs.Lists.{action_in, key_id_if_given, lists_in, grant_id_if_given, lists_on};
 
 use crate::checks::only_key_of;
-use crate::grants::{grant_id_in, principal_if_given, principal_in};
+use crate::grants::{grant_id_in, principal_in};
 use crate::listings::{AliasesListed, GrantsOfKey, KeysListed, RetirableGrants, RotationsOf};
 use crate::pages::{behind_marker, part_behind};
 use crate::particulars::{of_key, of_none};
 use crate::parts::{Operation, Reads};
 use crate::places::Uses;
 use crate::stops::Stop;
+use crate::texts::LentText;
 use crate::view::View;
 use account_rows::Lent;
 use draw_lines::DrawLine;
@@ -28,11 +30,11 @@ pub enum AccountList<'a> {
     Keys,
     /// Its aliases, or those of the key that a text refers to.
     Aliases {
-        key_id: &'a Option<Text>,
+        key_id: Option<LentText<'a>>,
     },
     /// Its grants that a principal may retire, by the principal's ARN.
     RetirableGrants {
-        retiring: &'a Text,
+        retiring: LentText<'a>,
     },
 }
 
@@ -64,12 +66,12 @@ impl AccountList<'_> {
 fn key_id_if_given(
     alloc: Global,
     view: &View<'_>,
-    reference: &Option<Text>,
+    reference: &Option<LentText<'_>>,
 ) -> Result<Option<KeyId>, Stop>
     ensures { Gives (key_id_if_given view.now reference.now) result }
 {
     match reference {
-        Some(reference) => Ok(Some(only_key_of(alloc, view, reference)?.row().key)),
+        Some(reference) => Ok(Some(only_key_of(alloc, view, reference.text())?.row().key)),
         None => Ok(None),
     }
 }
@@ -159,14 +161,14 @@ impl<'a> Operation for ListingAccount<'a> {
     }
 
     fn find(&self, alloc: Global) -> Result<ListedIn, Stop> {
-        match self.what {
+        match &self.what {
             AccountList::Keys => Ok(ListedIn::Keys),
             AccountList::Aliases { key_id } => {
                 let key = key_id_if_given(alloc, self.view, key_id)?;
                 Ok(ListedIn::Aliases(key))
             }
             AccountList::RetirableGrants { retiring } => {
-                let retiring = principal_in(alloc, retiring)?;
+                let retiring = principal_in(alloc, retiring.text())?;
                 Ok(ListedIn::Grants(retiring))
             }
         }
@@ -223,8 +225,8 @@ pub enum KeyList<'a> {
     Rotations,
     /// Its grants: the one of an id, those of a grantee, or all.
     Grants {
-        grant_id: &'a Option<Text>,
-        grantee: &'a Option<Text>,
+        grant_id: Option<LentText<'a>>,
+        grantee: Option<LentText<'a>>,
     },
 }
 
@@ -247,11 +249,24 @@ pub struct ListedOf<'a> {
 }
 
 // The id of a grant that a text is, where one is given.
-fn grant_id_if_given(text: &Option<Text>) -> Result<Option<GrantId>, Stop>
+fn grant_id_if_given(text: &Option<LentText<'_>>) -> Result<Option<GrantId>, Stop>
     ensures { Gives (grant_id_if_given text.now) result }
 {
     match text {
-        Some(text) => Ok(Some(grant_id_in(text)?)),
+        Some(text) => Ok(Some(grant_id_in(text.text())?)),
+        None => Ok(None),
+    }
+}
+
+// The principal whose ARN a text is, where one is given.
+fn grantee_if_given(
+    alloc: Global,
+    text: &Option<LentText<'_>>,
+) -> Result<Option<Principal>, Stop>
+    ensures { Gives (principal_if_given text.now) result }
+{
+    match text {
+        Some(text) => Ok(Some(principal_in(alloc, text.text())?)),
         None => Ok(None),
     }
 }
@@ -283,7 +298,7 @@ impl KeyList<'_> {
             }),
             KeyList::Grants { grant_id, grantee } => {
                 let grant = grant_id_if_given(grant_id)?;
-                let grantee = principal_if_given(alloc, grantee)?;
+                let grantee = grantee_if_given(alloc, grantee)?;
                 Ok(Sought { grant, grantee })
             }
         }
@@ -401,7 +416,7 @@ impl<'a> Reads for ListingKey<'a> {
         ready: Option<u64>,
         _line: &mut DrawLine,
     ) -> Result<Reply, NoMemory> {
-        match self.what {
+        match &self.what {
             KeyList::Policies => Ok(Reply::KeyPolicyNames),
             KeyList::Rotations => self.rotations(alloc, &found.row, ready),
             KeyList::Grants { .. } => self.grants(alloc, &found, ready),

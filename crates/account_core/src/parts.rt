@@ -1,6 +1,7 @@
 // The steps of a decision in their order. Each operation says its own parts of them; the order is written
 // here alone.
-ghost use Rattle.std.specs.Prelude.{◌≡◌, IfOk, OnOk, OnErr, None, length};
+ghost use Rattle.std.specs.Prelude.{◌≡◌, IfOk, OnOk, OnErr, None, length, is_some};
+ghost use Rattle.std.specs.List.{list_all};
 ghost use Rattle.account_core.specs.Places.{places_of, line_at, IsLineOf, IsWithin};
 ghost use Rattle.account_core.specs.View.{View as SeenView};
 ghost use Rattle.account_core.specs.Steps.{Gives, Passes, or_else, stopping};
@@ -156,14 +157,23 @@ pub fn grant_of_token<'a>(view: &View<'a>, token: &Text) -> Option<LentGrant<'a>
     view.grant(&grant_id_of(token.as_str())?)
 }
 
+// Whether each token is that of a live grant.
+fn are_live(view: &View<'_>, tokens: &[Text]) -> bool
+    ensures { result ≡ list_all (λ token. is_some (grant_of_token view.now token)) tokens.now }
+{
+    for token in tokens {
+        if grant_of_token(view, token).is_none() {
+            return false;
+        }
+    }
+    true
+}
+
 // The refusal of tokens, unless each is that of a live grant.
 fn dead_token(view: &View<'_>, tokens: &[Text]) -> Option<Refusal>
     ensures { result ≡ dead_token view.now tokens.now }
 {
-    let live = tokens
-        .iter()
-        .all(|token| grant_of_token(view, token).is_some());
-    if live {
+    if are_live(view, tokens) {
         None
     } else {
         Some(Refusal::InvalidGrantToken)
