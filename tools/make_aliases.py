@@ -94,6 +94,8 @@ KEYS_ALONE = (("EnableKey", {}), ("DisableKey", {}), ("ScheduleKeyDeletion", {})
               ("PutKeyPolicy", {"Policy": DEFAULT_POLICY}), ("GetKeyPolicy", {}), ("ListKeyPolicies", {}), ("UpdateKeyDescription", {"Description": ""}),
               ("ListAliases", {}), ("CreateGrant", {"GranteePrincipal": ANN, "Operations": ["Decrypt"]}), ("ListGrants", {}),
               ("RetireGrant", {"GrantId": DEAD}), ("RevokeGrant", {"GrantId": DEAD}))
+FEW = ("alias/none", alias_arn("alias/gone"), "alias/", f"arn:aws:kms:eu-west-1:{ACCOUNT}:{APP}", f"arn:aws:kms:us-east-1:444455556666:{APP}",
+       f"arn:aws:kms:us-east-1:{ACCOUNT}:alias/aws/app", "app", ARN3)
 NO_KEYS = ("alias/none", alias_arn("alias/none"), "alias/gone", alias_arn("alias/gone"), "alias/", "alias/aws/app", "alias/a.b", LONG + "a",
            f"arn:aws:kms:eu-west-1:{ACCOUNT}:{APP}", f"arn:aws:kms:us-east-1:444455556666:{APP}", f"arn:aws:kms:us-east-1:{ACCOUNT}:alias/aws/app",
            f"arn:aws:kms:us-east-1:{ACCOUNT}:alias/", f"arn:aws-cn:kms:us-east-1:{ACCOUNT}:{APP}", f"arn:aws:s3:us-east-1:{ACCOUNT}:{APP}",
@@ -117,7 +119,7 @@ def alias_references():
         yield account
     for operation, more in KEYS_ALONE:
         account = with_a_gone_key(f"{operation} takes a key's id or ARN, and no alias")
-        for named in (APP, alias_arn(APP)) + NO_KEYS:
+        for named in (APP, alias_arn(APP)) + FEW:
             account.ask(operation, {"KeyId": named} | more)
         yield account
     account = with_a_gone_key("CreateAlias and UpdateAlias take a key's id or ARN, and no alias")
@@ -316,6 +318,20 @@ def alias_facts():
     account.ask("UpdateAlias", {"AliasName": APP, "TargetKeyId": ID2}).ask("UpdateAlias", {"AliasName": APP, "TargetKeyId": ID1})
     account.ask("DeleteAlias", {"AliasName": "alias/next"}).ask("DeleteAlias", {"AliasName": APP})
     yield account.by(ROOT).ask("ListAliases", {})
+    account = asked("what a key policy that is given would let the caller do is judged by the key's aliases, and by no alias of the request", 1,
+                    policy=key_policy(statement("kms:PutKeyPolicy", principal=ANN)))
+    policies = [key_policy(statement("kms:PutKeyPolicy", principal=ANN, when=when)) for when in (has, none, request, {"Null": {"kms:RequestAlias": "true"}})]
+
+    def give_each():
+        for policy in policies:
+            account.ask("PutKeyPolicy", {"KeyId": ID1, "Policy": policy})
+            account.by(ROOT).ask("PutKeyPolicy", {"KeyId": ID1, "Policy": key_policy(statement("kms:PutKeyPolicy", principal=ANN))}).by(ANN)
+    account.by(ANN)
+    give_each()
+    put(account.by(ROOT), APP, ID1).by(ANN)
+    give_each()
+    account.ask("PutKeyPolicy", {"KeyId": ID1, "Policy": policies[1], "BypassPolicyLockoutSafetyCheck": True})
+    yield account.ask("PutKeyPolicy", {"KeyId": ID1, "Policy": policies[0]})
     account = asked("a question on an alias, or of a list, knows nothing of a key", 1, {
         ANN: [own("kms:*", when={"Null": {"kms:KeySpec": "false"}})], BOB: [own("kms:*", when={"Null": {"kms:KeySpec": "true"}})],
         CAROL: [own("kms:*", when={"StringEquals": {"aws:username": "carol", "aws:PrincipalAccount": ACCOUNT}})]})
@@ -328,8 +344,34 @@ def alias_facts():
     yield account
 
 
+def housekeeping():
+    changes = (("CreateAlias", {"AliasName": APP, "TargetKeyId": ID1}), ("CreateAlias", {"AliasName": APP, "TargetKeyId": "x"}),
+               ("UpdateAlias", {"AliasName": "alias/none", "TargetKeyId": ID1}), ("DeleteAlias", {"AliasName": "alias/none"}),
+               ("CreateGrant", {"KeyId": ID1, "GranteePrincipal": ANN, "Operations": ["Decrypt"]}),
+               ("CreateGrant", {"KeyId": ID1, "GranteePrincipal": ANN, "Operations": ["Decrypt"], "DryRun": True}),
+               ("CreateGrant", {"KeyId": ID1, "GranteePrincipal": ANN, "Operations": ["Decrypt"], "Name": "n"}),
+               ("RetireGrant", {"GrantToken": DEAD}), ("RetireGrant", {"GrantToken": grant_id(2), "DryRun": True}),
+               ("RevokeGrant", {"KeyId": ID1, "GrantId": DEAD}), ("RevokeGrant", {"KeyId": ID1, "GrantId": grant_id(2), "DryRun": True}),
+               ("CreateAlias", {"AliasName": "alias/aws/x", "TargetKeyId": ID1}), ("DeleteAlias", {"AliasName": "x"}),
+               ("ListKeys", {}), ("ListAliases", {}), ("ListGrants", {"KeyId": ID1}), ("ListRetirableGrants", {"RetiringPrincipal": ANN}))
+    for number, (operation, body) in enumerate(changes, 1):
+        account = keys(f"{operation} where a key is gone (request {number}): a change removes the key first, though it is refused or run dry; what isn't well formed, or reads, doesn't", 2)
+        grant(account, Name="n")
+        put(account, "alias/gone", ID2)
+        grant(account, ID2)
+        schedule(account, ID2).at(START + 7 * DAY).ask(operation, body).ask("DescribeKey", {"KeyId": ID1})
+        yield account.ask("EnableKey", {"KeyId": ID1}).ask("ListAliases", {})
+    account = keys("dates where the clock goes back are those of the last change", 2)
+    account.at(START - 50)
+    put(account, APP, ID1)
+    grant(account, RetiringPrincipal=BOB)
+    account.ask("ListAliases", {}).ask("ListGrants", {"KeyId": ID1}).at(START + 20)
+    put(account, "alias/b", ID1).at(START + 10).ask("UpdateAlias", {"AliasName": APP, "TargetKeyId": ID2}).ask("ListAliases", {})
+    yield grant(account, RetiringPrincipal=BOB).ask("ListRetirableGrants", {"RetiringPrincipal": BOB})
+
+
 def aliases():
-    for part in (alias_lives, alias_steps, gone_aliases, alias_authority, alias_facts, alias_references):
+    for part in (alias_lives, alias_steps, gone_aliases, alias_authority, alias_facts, alias_references, housekeeping):
         yield from part()
 
 

@@ -112,6 +112,23 @@ def operations():
     for who in (ROLE, team, ANN, f"arn:aws:iam::{ACCOUNT}:role/app", f"arn:aws:iam::{ACCOUNT}:user/team/app"):
         account.by(who).ask("DescribeKey", {"KeyId": ID1})
     yield account
+    account = asked("a grantee who names the key by an alias", 2)
+    put(account, APP, ID1)
+    grant(account, operations=["Encrypt", "Decrypt", "DescribeKey", "ReEncryptFrom", "ReEncryptTo"], Constraints=SUBSET_A)
+    blob = sealed_under(account, ID1, A1)
+
+    def by_alias():
+        account.by(ANN)
+        for named in (APP, alias_arn(APP), ID1):
+            account.ask("DescribeKey", {"KeyId": named})
+            encrypt(account, named, EncryptionContext=A1)
+            encrypt(account, named)
+            decrypt(account, blob, KeyId=named, EncryptionContext=A1)
+            account.ask("ReEncrypt", {"CiphertextBlob": blob, "SourceKeyId": named, "SourceEncryptionContext": A1, "DestinationKeyId": named, "DestinationEncryptionContext": AB})
+    by_alias()
+    account.by(ROOT).ask("UpdateAlias", {"AliasName": APP, "TargetKeyId": ID2})
+    by_alias()
+    yield account
     only_ann = document(statement("kms:*", principal=ANN))
     account = Whole("a key whose policy names a user alone is the root's to use by a grant", asked=True)
     account.ask("CreateKey", {"Policy": only_ann, "BypassPolicyLockoutSafetyCheck": True}).ask("DescribeKey", {"KeyId": ID1})

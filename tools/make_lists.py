@@ -5,10 +5,11 @@ Each case is asked of the account in plain Python of whole_account.py, which ans
 
 from whole_cases import *
 
+BAD_MARKERS = ("x", "0" * 19)
 MARKERS = ("x", "0" * 19, "1000000000000000000", "-1", "+1", " 1", "1 ", "1.0", "0x1", "1e1", "é", "m" * 1024)
 
 
-def pages(account, operation, body, first, last, mark=True):
+def pages(account, operation, body, first, last, bad=BAD_MARKERS):
     """Every page of a list of three rows whose first and last row stand at these places."""
     for limit in (1, 2, 3, 4):
         marker = {}
@@ -17,7 +18,7 @@ def pages(account, operation, body, first, last, mark=True):
             reply = json.loads(account.said[-1][2].split(" ", 3)[3])
             marker = {"Marker": reply["NextMarker"]} if "NextMarker" in reply else None
     account.ask(operation, body)
-    for marker in ("0", "000", str(first), "0" * 15 + str(first), str(last), str(last + 1), "9" * 18, "0" * 18) + MARKERS:
+    for marker in ("0", "000", str(first), "0" * 15 + str(first), str(first + 1), str(last), str(last + 1), "9" * 18, "0" * 18) + bad:
         account.ask(operation, body | {"Marker": marker})
     return account
 
@@ -38,21 +39,23 @@ def lists():
         for marker in ("0", "1", "2", "3"):
             account.ask(operation, body | {"Marker": marker})
     yield account
-    yield pages(keys("the pages of ListKeys", 3), "ListKeys", {}, 0, 2)
+    yield pages(keys("the pages of ListKeys", 3), "ListKeys", {}, 0, 2, MARKERS)
     account = keys("more keys than a page has where no limit is given", 101)
+    account.long = True
     yield account.ask("ListKeys", {}).ask("ListKeys", {"Marker": "99"}).ask("ListKeys", {"Limit": 1000, "Marker": "97"})
     account = keys("the pages of ListAliases", 2)
     for name, key in (("alias/b", ID1), ("alias/a", ID2), ("alias/c", ID1)):
         put(account, name, key)
     yield pages(account, "ListAliases", {}, 2, 4)
     account = keys("the pages of ListAliases of one key", 2)
-    for name, key in (("alias/b", ID1), ("alias/x", ID2), ("alias/a", ID1), ("alias/y", ID2), ("alias/c", ID1)):
+    for name, key in (("alias/b", ID1), ("alias/x", ID2), ("alias/a", ID1), ("alias/y", ID2), ("alias/c", ID1), ("alias/z", ID2)):
         put(account, name, key)
     yield pages(account, "ListAliases", {"KeyId": ARN1}, 2, 6)
     account = keys("more aliases than a page has where no limit is given", 1)
     for number in range(51):
         put(account, f"alias/{number}", ID1)
-    yield account.ask("ListAliases", {}).ask("ListAliases", {"Marker": "50"}).ask("ListAliases", {"KeyId": ID1}).ask("ListAliases", {"Limit": 100, "Marker": "49"})
+    account.long = True
+    yield account.ask("ListAliases", {}).ask("ListAliases", {"Marker": "50"}).ask("ListAliases", {"Limit": 100, "Marker": "49"})
     account = keys("ListAliases of one key, as its aliases move", 2)
     put(account, "alias/a", ID1)
     put(account, "alias/b", ID2)
@@ -63,7 +66,7 @@ def lists():
     account = keys("ListKeyPolicies has its one row at every marker", 2)
     for marker in ({}, {"Limit": 1}, {"Limit": 1000}, {"Marker": "0"}, {"Marker": "1"}, {"Marker": "9" * 18}, {"Limit": 1, "Marker": "000"}):
         account.ask("ListKeyPolicies", {"KeyId": ARN1} | marker)
-    for marker in MARKERS:
+    for marker in BAD_MARKERS:
         account.ask("ListKeyPolicies", {"KeyId": ID1, "Marker": marker})
     yield into(account, ID1, "PendingDeletion").ask("ListKeyPolicies", {"KeyId": ID1})
     account = keys("ListKeyRotations of a key with one version")
@@ -94,11 +97,11 @@ def lists_of_grants():
         account.ask("ListGrants", {"KeyId": ID1, "Limit": 1, "Marker": marker})
     yield account
     account = keys("the pages of ListGrants", 2)
-    for key in (ID1, ID2, ID1, ID2, ID1):
+    for key in (ID1, ID2, ID1, ID2, ID1, ID2):
         grant(account, key)
     yield pages(account, "ListGrants", {"KeyId": ID1}, 2, 6)
     account = keys("the pages of ListGrants of one grantee")
-    for grantee in (BOB, ANN, ANN, BOB, ANN):
+    for grantee in (BOB, ANN, ANN, BOB, ANN, BOB):
         grant(account, grantee=grantee)
     yield pages(account, "ListGrants", {"KeyId": ID1, "GranteePrincipal": ANN}, 2, 5)
     account = keys("ListGrants by id and by grantee", 2)
@@ -134,7 +137,8 @@ def lists_of_grants():
     for _ in range(51):
         grant(account, RetiringPrincipal=BOB)
     for operation, body in (("ListGrants", {"KeyId": ID1}), ("ListRetirableGrants", {"RetiringPrincipal": BOB})):
-        account.ask(operation, body).ask(operation, body | {"Marker": "50"}).ask(operation, body | {"Limit": 100, "Marker": "49"})
+        account.ask(operation, body).ask(operation, body | {"Marker": "50"})
+    account.long = True
     yield account
 
 

@@ -100,6 +100,8 @@ def is_child(parent, operations, constraint):
 class Whole(make_key_lives.Account):
     """One session of one caller, or (asked) the requests of several callers at one second."""
 
+    long = False
+
     def __init__(self, what, policies=None, caller=ROOT, asked=False):
         super().__init__(what)
         self.aliases, self.grants, self.words = [], [], 0
@@ -225,6 +227,10 @@ class Whole(make_key_lives.Account):
             if self.live_grant(token) is None:
                 raise Refused("InvalidGrantTokenException", "A grant token names no live grant.")
 
+    def room(self, counted, rows, most):
+        if len(rows) >= most:
+            raise Refused("LimitExceededException", f"Limit reached: {counted}.")
+
     def dry(self, body):
         if body.get("DryRun"):
             raise Refused("DryRunOperationException", "The call would have been allowed.", 412)
@@ -252,13 +258,18 @@ class Whole(make_key_lives.Account):
         self.said.append((self.now, f"> {operation} {json.dumps(body, separators=(',', ':'), ensure_ascii=False)}", said))
         return self
 
+    def flag(self, body):
+        return [("kms:BypassPolicyLockoutSafetyCheck", [str(body.get("BypassPolicyLockoutSafetyCheck", False)).lower()])]
+
+    def no_lockout(self, key, body):
+        """Who gives a key a policy must be one who may give it another one then, unless the request passes over that."""
+        if not body.get("BypassPolicyLockoutSafetyCheck") and not self.may("PutKeyPolicy", key | {"policy": body["Policy"]}, more=self.flag(body)):
+            raise Refused("MalformedPolicyDocumentException", "Policy: lockout.")
+
     def CreateKey(self, body):
-        flag = ("kms:BypassPolicyLockoutSafetyCheck", [str(body.get("BypassPolicyLockoutSafetyCheck", False)).lower()])
-        self.must_own("CreateKey", "*", [flag])
+        self.must_own("CreateKey", "*", self.flag(body))
         if "Policy" in body:
-            made = {"id": key_id(self.front), "policy": body["Policy"]}
-            if not body.get("BypassPolicyLockoutSafetyCheck") and not self.may("PutKeyPolicy", made, more=[flag]):
-                raise Refused("MalformedPolicyDocumentException", "Policy: lockout.")
+            self.no_lockout({"id": key_id(self.front)}, body)
         born = self.front
         reply = super().CreateKey(body)
         self.keys[-1].update({"policy": body.get("Policy", DEFAULT_POLICY), "born": born})
@@ -277,7 +288,8 @@ class Whole(make_key_lives.Account):
 
     def PutKeyPolicy(self, body):
         key = self.key(body["KeyId"])
-        self.must("PutKeyPolicy", key, more=[("kms:BypassPolicyLockoutSafetyCheck", ["false"])])
+        self.must("PutKeyPolicy", key, more=self.flag(body))
+        self.no_lockout(key, body)
         self.append()
         key["policy"] = body["Policy"]
         return {}
@@ -375,6 +387,7 @@ class Whole(make_key_lives.Account):
         self.fit("CreateAlias", key)
         if any(row["name"] == name for row in self.aliases):
             raise Refused("AlreadyExistsException", "The alias exists.")
+        self.room("aliases", self.aliases, 10000)
         born = self.append()
         self.aliases.append({"name": name, "born": born, "made": self.latest, "updated": self.latest, "key": key["id"]})
         return {}
@@ -481,6 +494,8 @@ class Whole(make_key_lives.Account):
         made = {"key": key["id"], "grantee": grantee, "retiring": retiring, "operations": sorted(set(operations)), "constraint": constraint,
                 "name": body.get("Name")}
         same = [row for row in self.live() if made["name"] is not None and made == {member: row[member] for member in made}]
+        if not same:
+            self.room("key grants", [row for row in self.grants if row["key"] == key["id"]], 5000)
         self.dry(body)
         if not same:
             born = self.append()

@@ -85,31 +85,28 @@ def told_grant(account):
     return json.loads(account.said[-1][2].split(" ", 3)[3])["GrantId"]
 
 
+NAMES = [("ARN", f"arn:aws:kms:us-east-1:{ACCOUNT}:key/"), ("ROOT", ROOT), ("IAM", f"arn:aws:iam::{ACCOUNT}:user/")]
+
+
 def abbreviated(text, names):
     for name, value in names:
         text = text.replace(value, f"<{name}>")
     return text
 
 
-def spread(what):
-    """The texts around a key's ARN and id in its description, where nothing else was said of it."""
-    line = Whole("").ask("CreateKey", {}).said[0][2]
-    body = line.split(" ", 3)[3]
-    first, rest = body.split(ARN1)
-    middle, last = rest.split(f'"{ID1}"')
-    return [("KEY", first), ("MADE", middle), ("END", last)]
-
-
-NAMES = [("ID1", ID1), ("ID2", ID2), ("ID3", ID3), ("ARNS", f"arn:aws:kms:us-east-1:{ACCOUNT}:"), ("ROOT", ROOT), ("IAM", f"arn:aws:iam::{ACCOUNT}:"),
-         ("NO_GRANT", DEAD), ("SEALED", '"EncryptionAlgorithm":"SYMMETRIC_DEFAULT"'), ("A250", "a" * 250), ("M1024", "m" * 1024), ("UPPER1", ID1.upper())]
+def of_a_new_key():
+    """The texts before a new key's ARN, behind it, and behind its id, in what CreateKey tells of it."""
+    body = Whole("").ask("CreateKey", {}).said[0][2].split(" ", 3)[3]
+    before, rest = body.split(ARN1)
+    between, behind = rest.split(f'"{ID1}"')
+    return [("KEY", before), ("MADE", between), ("END", behind)]
 
 
 def write(script, name, what, accounts):
-    """Writes the cases of accounts as a script of worked_cases."""
-    head = [f"# {what}. Written by tools/{script}: an account in plain Python answers, with Python's hmac, json",
-            "# and email.utils, and its package cryptography."]
-    names = [(part, abbreviated(value, NAMES)) for part, value in spread("")]
-    given = NAMES + [(f"G{place}", grant_id(place)) for place in range(1, 12)]
-    text = abbreviated(abbreviated("\n\n".join(account.script() for account in accounts), given), names)
-    used = [f"text {part} {value}" for part, value in given + names if f"<{part}>" in text or any(f"<{part}>" in whole for _, whole in names)]
-    DATA.joinpath(name).write_text("\n".join(head + used) + "\n\n" + text + "\n")
+    """Writes the cases of accounts as a script of worked_cases: those of many rows last, with names for what they repeat."""
+    head = [f"# {what}.", f"# Written by tools/{script}: an account in plain Python answers, with Python's hmac, json and email.utils, and its package cryptography."]
+    accounts = list(accounts)
+    plain = [account.script() for account in accounts if not account.long]
+    long = [abbreviated(account.script(), of_a_new_key() + NAMES) for account in accounts if account.long]
+    names = ["\n".join(f"text {name} {value}" for name, value in of_a_new_key() + NAMES)] if long else []
+    DATA.joinpath(name).write_text("\n\n".join(["\n".join(head)] + plain + names + long) + "\n")
