@@ -345,17 +345,25 @@ def alias_facts():
 
 
 def housekeeping():
-    changes = (("CreateAlias", {"AliasName": APP, "TargetKeyId": ID1}), ("CreateAlias", {"AliasName": APP, "TargetKeyId": "x"}),
-               ("UpdateAlias", {"AliasName": "alias/none", "TargetKeyId": ID1}), ("DeleteAlias", {"AliasName": "alias/none"}),
-               ("CreateGrant", {"KeyId": ID1, "GranteePrincipal": ANN, "Operations": ["Decrypt"]}),
-               ("CreateGrant", {"KeyId": ID1, "GranteePrincipal": ANN, "Operations": ["Decrypt"], "DryRun": True}),
-               ("CreateGrant", {"KeyId": ID1, "GranteePrincipal": ANN, "Operations": ["Decrypt"], "Name": "n"}),
-               ("RetireGrant", {"GrantToken": DEAD}), ("RetireGrant", {"GrantToken": grant_id(2), "DryRun": True}),
-               ("RevokeGrant", {"KeyId": ID1, "GrantId": DEAD}), ("RevokeGrant", {"KeyId": ID1, "GrantId": grant_id(2), "DryRun": True}),
-               ("CreateAlias", {"AliasName": "alias/aws/x", "TargetKeyId": ID1}), ("DeleteAlias", {"AliasName": "x"}),
-               ("ListKeys", {}), ("ListAliases", {}), ("ListGrants", {"KeyId": ID1}), ("ListRetirableGrants", {"RetiringPrincipal": ANN}))
-    for number, (operation, body) in enumerate(changes, 1):
-        account = keys(f"{operation} where a key is gone (request {number}): a change removes the key first, though it is refused or run dry; what isn't well formed, or reads, doesn't", 2)
+    granting = {"KeyId": ID1, "GranteePrincipal": ANN, "Operations": ["Decrypt"]}
+    first, left = "is removed first by", "is left by"
+    for what, operation, body in (
+            (f"{first} CreateAlias", "CreateAlias", {"AliasName": APP, "TargetKeyId": ID1}),
+            (f"{first} CreateAlias that is refused", "CreateAlias", {"AliasName": APP, "TargetKeyId": "x"}),
+            (f"{left} CreateAlias of what is no name", "CreateAlias", {"AliasName": "alias/aws/x", "TargetKeyId": ID1}),
+            (f"{first} UpdateAlias that is refused", "UpdateAlias", {"AliasName": "alias/none", "TargetKeyId": ID1}),
+            (f"{first} DeleteAlias that is refused", "DeleteAlias", {"AliasName": "alias/none"}),
+            (f"{left} DeleteAlias of what is no name", "DeleteAlias", {"AliasName": "x"}),
+            (f"{first} CreateGrant", "CreateGrant", granting),
+            (f"{first} CreateGrant that is run dry", "CreateGrant", granting | {"DryRun": True}),
+            (f"{first} CreateGrant of a grant that is there", "CreateGrant", granting | {"Name": "n"}),
+            (f"{first} RetireGrant that is refused", "RetireGrant", {"GrantToken": DEAD}),
+            (f"{first} RetireGrant that is run dry", "RetireGrant", {"GrantToken": grant_id(2), "DryRun": True}),
+            (f"{first} RevokeGrant that is refused", "RevokeGrant", {"KeyId": ID1, "GrantId": DEAD}),
+            (f"{first} RevokeGrant that is run dry", "RevokeGrant", {"KeyId": ID1, "GrantId": grant_id(2), "DryRun": True}),
+            (f"{left} ListKeys", "ListKeys", {}), (f"{left} ListAliases", "ListAliases", {}), (f"{left} ListGrants", "ListGrants", {"KeyId": ID1}),
+            (f"{left} ListRetirableGrants", "ListRetirableGrants", {"RetiringPrincipal": ANN})):
+        account = keys(f"a key that is gone {what}", 2)
         grant(account, Name="n")
         put(account, "alias/gone", ID2)
         grant(account, ID2)

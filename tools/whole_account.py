@@ -170,14 +170,15 @@ class Whole(make_key_lives.Account):
     def denied(self, action, resource):
         raise Refused("AccessDeniedException", f"User: {self.caller} is not authorized to perform: kms:{action} on resource: {resource}")
 
+    KIND = [("kms:KeySpec", ["SYMMETRIC_DEFAULT"]), ("kms:KeyUsage", ["ENCRYPT_DECRYPT"]), ("kms:KeyOrigin", ["AWS_KMS"]), ("kms:MultiRegion", ["false"])]
+
     def facts(self, key=None, alias=None):
         found = [("aws:PrincipalArn", [self.caller]), ("aws:PrincipalAccount", [ACCOUNT]), ("kms:CallerAccount", [ACCOUNT]),
                  ("aws:EpochTime", [str(self.moment())]), ("aws:RequestedRegion", [REGION]), ("aws:SecureTransport", ["false"])]
         if ":user/" in self.caller:
             found.append(("aws:username", [self.caller.rsplit("/", 1)[1]]))
         if key:
-            found += [("kms:KeySpec", ["SYMMETRIC_DEFAULT"]), ("kms:KeyUsage", ["ENCRYPT_DECRYPT"]), ("kms:KeyOrigin", ["AWS_KMS"]),
-                      ("kms:MultiRegion", ["false"])]
+            found += self.KIND
             names = [row["name"] for row in self.aliases if row["key"] == key["id"]]
             found += [("kms:ResourceAliases", names)] if names else []
             found += [("kms:RequestAlias", [alias])] if alias else []
@@ -267,7 +268,7 @@ class Whole(make_key_lives.Account):
             raise Refused("MalformedPolicyDocumentException", "Policy: lockout.")
 
     def CreateKey(self, body):
-        self.must_own("CreateKey", "*", self.flag(body))
+        self.must_own("CreateKey", "*", self.KIND + self.flag(body))
         if "Policy" in body:
             self.no_lockout({"id": key_id(self.front)}, body)
         born = self.front
