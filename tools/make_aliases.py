@@ -288,7 +288,7 @@ def alias_facts():
     encrypt(account.by(ANN), "alias/b").by(ROOT)
     account.ask("DeleteAlias", {"AliasName": APP})
     all_of_them()
-    yield account
+    yield account.ask("ListAliases", {})
     account = asked("kms:ResourceAliases in callers' own policies, as aliases move from key to key", 2, {
         ANN: [own("kms:Encrypt", when=has)], BOB: [own("kms:Encrypt"), own("kms:Encrypt", effect="Deny", when=has)]})
     put(account, APP, ID1)
