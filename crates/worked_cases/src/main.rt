@@ -22,7 +22,7 @@ use std::sync::Wait;
 use std::{fs, io, rt};
 
 // The scripts, each with the cases that show one thing.
-const SCRIPTS: [&str; 18] = [
+const SCRIPTS: [&str; 19] = [
     "first_path.txt",
     "pieces.txt",
     "faults.txt",
@@ -41,6 +41,7 @@ const SCRIPTS: [&str; 18] = [
     "aliases.txt",
     "lists.txt",
     "grants.txt",
+    "sessions.txt",
 ];
 
 // How many cases held, and how many didn't.
