@@ -16,7 +16,7 @@ from cryptography.hazmat.primitives.ciphers import Cipher, algorithms
 
 import make_key_lives
 import make_verdicts
-from make_key_lives import ACCOUNT, ROOT, START, Refused, arn, b64, key_id, mac, printed
+from make_key_lives import ACCOUNT, ROOT, Refused, arn, b64, key_id, mac, printed
 
 REGION = "us-east-1"
 GRANT_OPERATIONS = ["Encrypt", "Decrypt", "GenerateDataKey", "GenerateDataKeyWithoutPlaintext", "ReEncryptFrom", "ReEncryptTo",
@@ -159,7 +159,7 @@ class Whole(make_key_lives.Account):
             raise Refused("InvalidArnException", "The ARN is not valid.")
         return self.named(text)[0]
 
-    def live(self, grants=None):
+    def live(self):
         return [row for row in self.grants if self.row(row["key"])]
 
     def live_grant(self, grant):
@@ -543,6 +543,3 @@ class Whole(make_key_lives.Account):
                 lines.pop()
         lines += [line for _, request, reply in self.said for line in (request, reply) if line is not None]
         return "\n".join(lines + [f"left {self.words} {self.ivs}" if self.asked else "end Ended"])
-
-
-__all__ = ["Whole", "START", "DEFAULT_POLICY", "GRANT_OPERATIONS", "alias_arn", "grant_id"]
