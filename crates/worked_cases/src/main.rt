@@ -22,7 +22,7 @@ use std::sync::Wait;
 use std::{fs, io, rt};
 
 // The scripts, each with the cases that show one thing.
-const SCRIPTS: [&str; 15] = [
+const SCRIPTS: [&str; 19] = [
     "first_path.txt",
     "pieces.txt",
     "faults.txt",
@@ -38,6 +38,10 @@ const SCRIPTS: [&str; 15] = [
     "key_policies.txt",
     "key_states.txt",
     "rotation.txt",
+    "aliases.txt",
+    "lists.txt",
+    "grants.txt",
+    "sessions.txt",
 ];
 
 // How many cases held, and how many didn't.
