@@ -70,14 +70,13 @@ module _ (caller : Principal) where
       let s = same_principal grant.grantee caller in
       let c = contains grant.operations op.RetireGrant in
       let named = retires_for grant.retiring grant refl in
-      let grantee = principal_decides grant.grantee caller in
-      (
+      let grantee = principal_decides grant.grantee caller in (
         λ t. elim ((or_is r (h || (s && c))).0 t) [ inl root ↦ inl root | inr rest ↦ elim ((or_is h (s && c)).0 rest) [ inl is ↦ inr (inl (named.0 is)) | inr both ↦ inr (inr (let parts = (and_is s c).0 both in (grantee.0 parts.0, parts.1))) ] ],
         λ m. elim m [
-          inl root ↦ (or_is r (h || (s && c))).1 (inl root)
-        | inr rest ↦ elim rest [
-            inl is ↦ (or_is r (h || (s && c))).1 (inr ((or_is h (s && c)).1 (inl (named.1 is))))
-          | inr both ↦ (or_is r (h || (s && c))).1 (inr ((or_is h (s && c)).1 (inr ((and_is s c).1 (grantee.1 both.0, both.1)))))
+          | inl root ↦ (or_is r (h || (s && c))).1 (inl root)
+          | inr rest ↦ elim rest [
+            | inl is ↦ (or_is r (h || (s && c))).1 (inr ((or_is h (s && c)).1 (inl (named.1 is))))
+            | inr both ↦ (or_is r (h || (s && c))).1 (inr ((or_is h (s && c)).1 (inr ((and_is s c).1 (grantee.1 both.0, both.1)))))
           ]
         ],
       )

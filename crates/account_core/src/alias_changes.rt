@@ -17,13 +17,9 @@ use std::alloc::Global;
 #[derive(Drop)]
 pub enum AliasChange<'a> {
     /// It is made, to name the key that this text refers to.
-    Create {
-        key_id: LentText<'a>,
-    },
+    Create { key_id: LentText<'a> },
     /// It names from now on the key that this text refers to.
-    Update {
-        key_id: LentText<'a>,
-    },
+    Update { key_id: LentText<'a> },
     /// It is deleted.
     Delete,
 }

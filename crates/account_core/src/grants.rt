@@ -46,8 +46,9 @@ pub fn principal_in(alloc: Global, text: &Text) -> Result<Principal, Stop>
 {
     match read_principal(alloc, text.as_str()) {
         Ok(principal) => Ok(principal),
+        Err(NameFault::BadArn) => Err(Stop::Refused(Refusal::InvalidArn)),
+        Err(NameFault::BadAlias | NameFault::BadId) => Err(Stop::Refused(Refusal::InvalidArn)),
         Err(NameFault::NoMemory) => Err(Stop::NoMemory),
-        Err(_) => Err(Stop::Refused(Refusal::InvalidArn)),
     }
 }
 

@@ -29,13 +29,9 @@ pub enum AccountList<'a> {
     /// Its keys.
     Keys,
     /// Its aliases, or those of the key that a text refers to.
-    Aliases {
-        key_id: Option<LentText<'a>>,
-    },
+    Aliases { key_id: Option<LentText<'a>> },
     /// Its grants that a principal may retire, by the principal's ARN.
-    RetirableGrants {
-        retiring: LentText<'a>,
-    },
+    RetirableGrants { retiring: LentText<'a> },
 }
 
 /// Whose rows are listed.
@@ -97,7 +93,12 @@ impl<'a> ListingAccount<'a> {
         ensures { IfOk result (λ reply. reply ≡ key_page self.now.view.now (part_of (λ row. row.born) (listed_keys self.now.view.now) self.now.page.now.limit after)) }
     {
         let facts = self.view.facts();
-        let part = part_behind(alloc, &KeysListed::new(self.view), self.page.limit as usize, after)?;
+        let part = part_behind(
+            alloc,
+            &KeysListed::new(self.view),
+            self.page.limit as usize,
+            after,
+        )?;
         Ok(Reply::Keys(KeyPage {
             account: facts.account,
             region: facts.region.copy()?,
@@ -259,10 +260,7 @@ fn grant_id_if_given(text: &Option<LentText<'_>>) -> Result<Option<GrantId>, Sto
 }
 
 // The principal whose ARN a text is, where one is given.
-fn grantee_if_given(
-    alloc: Global,
-    text: &Option<LentText<'_>>,
-) -> Result<Option<Principal>, Stop>
+fn grantee_if_given(alloc: Global, text: &Option<LentText<'_>>) -> Result<Option<Principal>, Stop>
     ensures { Gives (principal_if_given text.now) result }
 {
     match text {
@@ -333,7 +331,12 @@ impl<'a> ListingKey<'a> {
         ensures { IfOk result (λ reply. reply ≡ rotation_page lent.now (part_of (λ numbered. numbered.number) (rotations_of lent.now) self.now.page.now.limit after)) }
     {
         let row = lent.row();
-        let part = part_behind(alloc, &RotationsOf::new(row), self.page.limit as usize, after)?;
+        let part = part_behind(
+            alloc,
+            &RotationsOf::new(row),
+            self.page.limit as usize,
+            after,
+        )?;
         Ok(Reply::Rotations(RotationPage {
             key: row.key,
             rotations: RotationList::new(part.items),

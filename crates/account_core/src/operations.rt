@@ -177,9 +177,7 @@ pub fn change_body(alloc: Global, view: &View<'_>, body: &Changing) -> Result<Ma
             let key_id = LentText::new(key_id);
             change_alias(alloc, view, alias, AliasChange::Update { key_id })
         }
-        Changing::DeleteAlias { alias } => {
-            change_alias(alloc, view, alias, AliasChange::Delete)
-        }
+        Changing::DeleteAlias { alias } => { change_alias(alloc, view, alias, AliasChange::Delete) }
         Changing::CreateGrant(x) => create_grant(alloc, view, x),
         Changing::RetireGrant { grant, dry_run } => {
             let retiring = RetiringGrant {

@@ -57,7 +57,12 @@ impl<'a> ReEncrypting<'a> {
         let source = &found.source;
         Particulars {
             same_key: Some(found.turns_to_same()),
-            ..of_context(self.view, source.key(), source.alias(), &self.x.source_context)
+            ..of_context(
+                self.view,
+                source.key(),
+                source.alias(),
+                &self.x.source_context,
+            )
         }
     }
 

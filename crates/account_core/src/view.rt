@@ -175,11 +175,7 @@ impl<'a> View<'a> {
     }
 
     /// The same of the grants that a principal may retire.
-    pub fn retirable_grant(
-        &self,
-        retiring: &Principal,
-        after: Option<u64>,
-    ) -> Option<LentGrant<'a>>
+    pub fn retirable_grant(&self, retiring: &Principal, after: Option<u64>) -> Option<LentGrant<'a>>
         ensures { result ≡ grant_retirable self.now.grants retiring.now after }
     {
         Some(LentGrant::new(self.grants().retirable(retiring, after)?))

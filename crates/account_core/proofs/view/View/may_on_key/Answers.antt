@@ -24,5 +24,5 @@ pub returns-in-IfGranted : goal.returns-in-IfGranted
 returns-in-IfGranted c =
     let asked = asked_of c.args.action c.args.arn.now c.args.said.now in
     let by = by_standing c.args.self.now c.args.policy.now c.args.action c.args.key.now c.args.arn.now c.args.said.now IfGranted c.requires
-        (sym c.in-IfGranted.is ∙ c.in_ok-standing.ensures ∙ ap (λ (s : Setting). standing_of s (Some c.args.policy.now) asked) c.setting-setting.ensures) in
+    (sym c.in-IfGranted.is ∙ c.in_ok-standing.ensures ∙ ap (λ (s : Setting). standing_of s (Some c.args.policy.now) asked) c.setting-setting.ensures) in
     ok_where c.granted.result (λ (b : Bool) is. is ∙ by) c.granted.ensures
