@@ -1,5 +1,5 @@
 -- Connections in memory of which nothing was taken or written.
-use Rattle.std.specs.Prelude.{ℕ, List, [], ◌∷◌, Bool, true, false, ◌&&◌, nat_eq, Option, Some, None}
+use Rattle.std.specs.Prelude.{List, [], ◌∷◌, Bool, true, false, ◌&&◌, nat_eq, Option, Some, None}
 use Rattle.kms_io.specs.Wire.{Wire}
 use Rattle.kms_io.specs.MemoryLink.{wire_of}
 use Rattle.kms_io.specs.declared.memory_link.MemoryLink.{MemoryLink}

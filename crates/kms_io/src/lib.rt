@@ -14,8 +14,12 @@ mod memory_ear;
 mod memory_files;
 mod memory_link;
 mod moves;
+mod real_files;
 mod standard;
 mod system;
+mod tcp_door;
+mod tcp_ear;
+mod tcp_link;
 #[cfg(test)]
 mod tests;
 
@@ -30,5 +34,9 @@ pub use memory_door::MemoryDoor;
 pub use memory_ear::MemoryEar;
 pub use memory_files::MemoryFiles;
 pub use memory_link::MemoryLink;
+pub use real_files::RealFiles;
 pub use standard::StdLink;
 pub use system::SystemClock;
+pub use tcp_door::TcpDoor;
+pub use tcp_ear::TcpEar;
+pub use tcp_link::TcpLink;

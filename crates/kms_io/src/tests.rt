@@ -1,12 +1,16 @@
 ghost use Rattle.std.specs.Prelude.{◌≡◌, false};
 ghost use Rattle.kms_io.specs.MemoryEar.{listening_of};
+ghost use Rattle.kms_io.specs.TcpEar.{counts_of as tcp_counts};
 
 use crate::{
     Clock, Door, Ear, FileAnswer, Files, Gate, Link, MemoryClock, MemoryDoor, MemoryEar,
-    MemoryFiles, MemoryLink, Next, NoGate, Opened, Point, Put, StdLink, StepClock, SystemClock,
-    Took,
+    MemoryFiles, MemoryLink, Next, NoGate, Opened, Point, Put, RealFiles, StdLink, StepClock,
+    SystemClock, TcpDoor, TcpEar, Took,
 };
+use std::io::{Read, Write};
+use std::net::{TcpListener, TcpStream};
 use std::test::Fail;
+use std::{env, fs, process};
 
 #[test]
 fn reads_give_pieces(rt: HostRuntime) -> Result<(), Fail> {
@@ -228,4 +232,71 @@ fn readers_and_writers_are_connections(rt: HostRuntime) -> Result<(), Fail> {
     assert_eq!(rt; link.write_some(b"xyz"), Put::Wrote(3));
     NoGate.at(Point::AtDesk);
     Ok(())
+}
+
+#[test]
+fn the_machine_has_files(rt: HostRuntime) -> Result<(), Fail> {
+    let alloc = rt.alloc();
+    let mut files = RealFiles::new(&rt);
+    let mut room = b"as before".to_vec(alloc)?;
+    let folder = env::temp_dir(&rt)?;
+    for (size, answer, len) in [
+        (3, FileAnswer::Read, 3),
+        (0, FileAnswer::Read, 0),
+        (4_194_304, FileAnswer::Read, 4_194_304),
+        (4_194_305, FileAnswer::TooLong, 4_194_304),
+    ] {
+        let name = format!(in alloc;
+            "{}/kms_io.{}.{size}",
+            folder.display(),
+            process::id(rt.process())
+        )?;
+        fs::write(&rt, &name, vec![in alloc; 7; size]?)?;
+        assert_eq!(rt; files.read_whole(&name, &mut room), answer, "{size}");
+        assert_eq!(rt; room.len(), len, "{size}");
+        fs::remove_file(&rt, &name)?;
+        assert_eq!(rt; files.read_whole(&name, &mut room), FileAnswer::Failed);
+        assert_eq!(rt; room.len(), len, "{size}, as before");
+    }
+    Ok(())
+}
+
+#[test]
+fn a_connection_goes_over_loopback(rt: HostRuntime) -> Result<(), Fail> {
+    let alloc = rt.alloc();
+    let at = TcpListener::bind(&rt, "127.0.0.1:0")?.local_addr()?;
+    let address = format!(in alloc; "{at}")?;
+    let mut door = TcpDoor::new(&rt);
+    let mut room = [0; 8];
+    let mut ears = Vec::new(alloc);
+    assert_eq!(rt; door.open("no address", 1, &mut ears), Opened::Failed);
+    assert_eq!(rt; door.open(&address, 2, &mut ears), Opened::Open);
+    for mut ear in ears {
+        let mut client = TcpStream::connect(&rt, at)?;
+        client.write_all(b"ping")?;
+        assert_eq!(rt;
+            talk(&mut ear, &mut room),
+            Some((Took::Got(4), Put::Wrote(4), Took::End))
+        );
+        let mut told = Vec::new(alloc);
+        client.read_to_end(&mut told)?;
+        assert_eq!(rt; told.as_slice(), b"pong".as_slice());
+    }
+    Ok(())
+}
+
+// What the calls of the next connection did: a read, a write, and a read while it stays still.
+fn talk(ear: &mut TcpEar, room: &mut [u8; 8]) -> Option<(Took, Put, Took)>
+    requires { (tcp_counts ear.old).is_out ≡ false }
+{
+    match ear.next() {
+        Next::Conn(mut conn) => {
+            let first = conn.read_some(room);
+            let wrote = conn.write_some(b"pong");
+            let last = conn.read_some(room);
+            ear.done(conn);
+            Some((first, wrote, last))
+        }
+        Next::Failed => None,
+    }
 }

@@ -2,7 +2,7 @@
 ghost use Rattle.std.specs.Prelude.{◌≡◌, drop, map, string_bytes, vec_len};
 ghost use Rattle.account_core.specs.Decide.{account_of};
 ghost use Rattle.publish_pass.specs.Rules.{Names};
-ghost use Rattle.kms_session.specs.Run.{caller_of};
+ghost use Rattle.kms_session.specs.Callers.{IsOfAccount};
 ghost use Rattle.kms_session.specs.declared.trust.Trust.TheVariants.{Word};
 ghost use Rattle.kms_local.specs.Program.{Runs, Serving, SaysLine, first_told, usage_line, refused_line, status_of_end};
 
@@ -62,7 +62,7 @@ fn serve_once<W: Wait, R: Realm, L: Link, C: Clock, G: Gate>(
     requires ledger { (opening.name ≡ R.name) × (opening.parts ≡ R.parts) }
     requires names { Names R.book R.facts R.passes opening.shown }
     requires passes { opening.shown.whole.passes ≡ 1 }
-    requires caller { account_of (caller_of trust.now) ≡ opening.shown.whole.facts.account }
+    requires trust { IsOfAccount opening.shown.whole.facts.account trust.now }
     ensures { Serving opening.shown.whole.facts trust.now result (L.shows link.old) (C.told clock.old) (L.shows link.new) (C.told clock.new) }
 {
     let Ok((service, mut passes)) = open_service::<W, R>(rt, alloc, opening) else {

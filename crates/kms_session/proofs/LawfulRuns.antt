@@ -25,23 +25,35 @@ use Rattle.publish_pass.specs.Answers.{Answer}
 use Rattle.publish_pass.specs.Pairs.{entries_of}
 use Rattle.publish_pass.specs.Pass.{Pass, Meets, Learns, Changes, making_any, keeping_house, at_places}
 use Rattle.kms_session.specs.declared.trust.Trust.{Trust}
-use Rattle.kms_session.specs.Run.{Item, whole, fault, asks, caller_of, planned, plan_of, Answers, early, reads, changes, Wanting, wants_nothing, wants_read, wants_change, Replies, answers, wants_memory, SessionRun, begins, goes_on}
+use Rattle.kms_session.specs.Run.{Item, whole, fault, asks, planned, planned_by, plan_of, Answers, early, reads, changes, Wanting, wants_nothing, wants_read, wants_change, Replies, answers, wants_memory, SessionRun, begins, goes_on}
+use Rattle.kms_session.specs.Callers.{caller_of, IsOfAccount}
+use Rattle.kms_session.proofs.Signers.{caller_is_of}
+use Rattle.kms_names.specs.declared.principals.Principal.{Principal}
+use Rattle.sigv4_check.specs.declared.faults.AuthFault.{AuthFault}
+use Rattle.http_front.specs.Message.{Message}
 use Rattle.kms_session.specs.Laws.{RunsKeepLawful, SealsAt, OneSessionRepeatsNoIv}
 
 -- ---- a request of a session is proper
 
-module _ (facts : RealmFacts) (trust : Trust) (c : ℕ) (before : c < 253402300800) (caller : account_of (caller_of trust) ≡ facts.account) (x : Ask) where
-  proper_of : (values : List (List ℕ)) (text : List ℕ) (r : Result AskBody Refusal) (after : After) → asked_once values text ≡ r → planned trust c r after ≡ asks x → IsProper facts x
-  proper_of values text (Ok body) (Entries after) is e =
-      let same : ◌≡◌ {A = Ask} (record { body = body; caller = caller_of trust; moment = c; after = after }) x = cc in
+module _ (facts : RealmFacts) (c : ℕ) (before : c < 253402300800) (x : Ask) where
+  proper_of : (caller : Principal) → account_of caller ≡ facts.account → (values : List (List ℕ)) (text : List ℕ) (r : Result AskBody Refusal) (after : After)
+      → asked_once values text ≡ r → planned caller c r after ≡ asks x → IsProper facts x
+  proper_of caller of values text (Ok body) (Entries after) is e =
+      let same : ◌≡◌ {A = Ask} (record { body = body; caller = caller; moment = c; after = after }) x = cc in
       let target = once_asked values text body is in
-      subst (IsProper facts) same (record { target = target.0; text = text; body = target.1; caller = caller; moment = before })
-  proper_of values text (Ok body) Malformed is e = cc
-  proper_of values text (Err refusal) after is e = cc
+      subst (IsProper facts) same (record { target = target.0; text = text; body = target.1; caller = of; moment = before })
+  proper_of caller of values text (Ok body) Malformed is e = cc
+  proper_of caller of values text (Err refusal) after is e = cc
 
-  proper_item : (item : Item) → plan_of trust item c ≡ asks x → IsProper facts x
-  proper_item (whole m) e = proper_of (values_of (codes "X-Amz-Target") m.head) m.body (asked_in m) (after_in m) refl e
-  proper_item (fault why) e = cc
+  proper_by : (trust : Trust) (region : List ℕ) (m : Message) (r : Result Principal AuthFault) → IsOfAccount facts.account trust → caller_of trust region m c ≡ r
+      → planned_by r m c ≡ asks x → IsProper facts x
+  proper_by trust region m (Ok caller) of is e =
+      proper_of caller (caller_is_of facts.account trust region m c caller of is) (values_of (codes "X-Amz-Target") m.head) m.body (asked_in m) (after_in m) refl e
+  proper_by trust region m (Err why) of is e = cc
+
+  proper_item : (trust : Trust) (region : List ℕ) (item : Item) → IsOfAccount facts.account trust → plan_of trust region item c ≡ asks x → IsProper facts x
+  proper_item trust region (whole m) of e = proper_by trust region m (caller_of trust region m c) of refl e
+  proper_item trust region (fault why) of e = cc
 
 -- ---- a pass whose history is lawful
 
@@ -102,7 +114,7 @@ any_places s (Some entry) = refl
 stays : (facts : RealmFacts) (s t : Pass) → t.places ≡ s.places → PassGoesOn facts s.places t.places
 stays facts s t same = subst (PassGoesOn facts s.places) (sym same) (no_request s.places)
 
-module _ (facts : RealmFacts) (trust : Trust) (c : ℕ) (before : c < 253402300800) (caller : account_of (caller_of trust) ≡ facts.account) (item : Item) where
+module _ (facts : RealmFacts) (trust : Trust) (region : List ℕ) (c : ℕ) (before : c < 253402300800) (of : IsOfAccount facts.account trust) (item : Item) where
   reading_steps : (s met t : Pass) (x : Ask) (left : Places) → Meets s met → t ≡ at_places met left → HasLawful facts s → PassGoesOn facts met.places left → Steps facts s t
   reading_steps s met t x left seen used is on =
       let there = read_lawful facts s met seen is in
@@ -111,7 +123,7 @@ module _ (facts : RealmFacts) (trust : Trust) (c : ℕ) (before : c < 2534023008
         on = subst (λ (p : Places). PassGoesOn facts p t.places) (ap (λ (p : Pass). p.places) seen.others) (subst (PassGoesOn facts met.places) (sym (ap (λ (p : Pass). p.places) used)) on);
       }
 
-  answer_steps : (s : Pass) (answer : Answer) (t : Pass) → HasLawful facts s → Answers s (plan_of trust item c) answer t → Steps facts s t
+  answer_steps : (s : Pass) (answer : Answer) (t : Pass) → HasLawful facts s → Answers s (plan_of trust region item c) answer t → Steps facts s t
   answer_steps s answer t is (early plan same) = record { lawful = same_pass facts s t same is; on = stays facts s t (ap (λ (p : Pass). p.places) same) }
   answer_steps s answer t is (reads x reply plan which h gives) =
       let there = read_lawful facts s h.met h.seen is in
@@ -120,7 +132,7 @@ module _ (facts : RealmFacts) (trust : Trust) (c : ℕ) (before : c < 2534023008
       (one_more (entries_of h.met.history) x (no_request h.met.places)) in
       reading_steps s h.met t x _ h.seen h.used is decided
   answer_steps s answer t is (changes x reply plan which h gives) =
-      let proper = proper_item facts trust c before caller x item plan in
+      let proper = proper_item facts c before x trust region item of plan in
       let kept : Pass = keeping_house h.met x.moment in
       record {
         lawful = changed_lawful facts s x reply t proper which is h;
@@ -133,20 +145,20 @@ module _ (facts : RealmFacts) (trust : Trust) (c : ℕ) (before : c < 2534023008
   left_places met t clock (inl same) = ap (λ (p : Pass). p.places) same
   left_places met t clock (inr house) = ap (λ (p : Pass). p.places) house ∙ any_places met (housekeeping_of (entries_of met.history) clock)
 
-  wanting_steps : (s t : Pass) → HasLawful facts s → Wanting s (plan_of trust item c) t → Steps facts s t
+  wanting_steps : (s t : Pass) → HasLawful facts s → Wanting s (plan_of trust region item c) t → Steps facts s t
   wanting_steps s t is (wants_nothing answer plan same) = record { lawful = same_pass facts s t same is; on = stays facts s t (ap (λ (p : Pass). p.places) same) }
   wanting_steps s t is (wants_read x plan which h) =
       let there = read_lawful facts s h.met h.seen is in
       let at_most = subst (λ (f : RealmFacts). IsUpTo h.met.places h.places (decide f (entries_of h.met.history) x h.met.places).places) there.0 h.at_most in
       reading_steps s h.met t x h.places h.seen h.used is (left_short (entries_of h.met.history) x h.places (no_request h.met.places) at_most)
   wanting_steps s t is (wants_change x plan which h) =
-      let proper = proper_item facts trust c before caller x item plan in
+      let proper = proper_item facts c before x trust region item of plan in
       record {
         lawful = left_lawful facts h.met t x.moment proper.moment (learnt_lawful facts s h.met h.seen is) h.left;
         on = stays facts s t (left_places h.met t x.moment h.left ∙ ap (λ (p : Pass). p.places) h.seen.others);
       }
 
-  turn_steps : (s : Pass) (closes : Bool) (text : List ℕ) (t : Pass) → HasLawful facts s → Replies s (plan_of trust item c) c closes text t → Steps facts s t
+  turn_steps : (s : Pass) (closes : Bool) (text : List ℕ) (t : Pass) → HasLawful facts s → Replies s (plan_of trust region item c) c closes text t → Steps facts s t
   turn_steps s closes text t is (answers answer h text_is) = answer_steps s answer t is h
   turn_steps s closes text t is (wants_memory h text_is) = wanting_steps s t is h
 
@@ -157,17 +169,17 @@ goes_after facts from to last on (no_request places) = on
 goes_after facts from to last on (one_more history x more) = one_more history x (goes_after facts from to _ on more)
 goes_after facts from to last on (left_short history x left more within) = left_short history x left (goes_after facts from to _ on more) within
 
-run_steps : (facts : RealmFacts) (trust : Trust) (start end : Pass) (items : List Item) (clocks text : List ℕ) → account_of (caller_of trust) ≡ facts.account → HasLawful facts start
+run_steps : (facts : RealmFacts) (trust : Trust) (start end : Pass) (items : List Item) (clocks text : List ℕ) → IsOfAccount facts.account trust → HasLawful facts start
     → SessionRun start trust end items clocks text → Steps facts start end
-run_steps facts trust start end items clocks text caller is begins = record { lawful = is; on = no_request start.places }
-run_steps facts trust start end items clocks text caller is (goes_on {old = old} item c before run turn) =
-    let so_far = run_steps facts trust start old _ _ _ caller is run in
-    let last = turn_steps facts trust c before caller item old _ _ end so_far.lawful turn in
+run_steps facts trust start end items clocks text of is begins = record { lawful = is; on = no_request start.places }
+run_steps facts trust start end items clocks text of is (goes_on {old = old} item c before run turn) =
+    let so_far = run_steps facts trust start old _ _ _ of is run in
+    let last = turn_steps facts trust old.facts.region c before of item old _ _ end so_far.lawful turn in
     record { lawful = last.lawful; on = goes_after facts start.places old.places end.places so_far.on last.on }
 
 pub keeps_lawful : RunsKeepLawful
-keeps_lawful trust start end items clocks text run caller lawful =
-    let steps = run_steps start.facts trust start end items clocks text caller (refl, lawful) run in
+keeps_lawful trust start end items clocks text run of lawful =
+    let steps = run_steps start.facts trust start end items clocks text of (refl, lawful) run in
     (steps.lawful.0, subst (λ (f : RealmFacts). IsLawful f (entries_of end.history)) (sym steps.lawful.0) steps.lawful.1)
 
 -- ---- initialization vectors
@@ -199,10 +211,10 @@ stands facts trust item c s t sealing is h =
     }
 
 pub no_iv_again : OneSessionRepeatsNoIv
-no_iv_again trust s t u v first second c d items clocks text one other caller lawful seals run again =
+no_iv_again trust s t u v first second c d items clocks text one other of lawful seals run again =
     let facts : RealmFacts = s.facts in
     let here = stands facts trust first c s t one (refl, lawful) seals in
-    let steps = run_steps facts trust t u items clocks text caller here.after run in
+    let steps = run_steps facts trust t u items clocks text of here.after run in
     let later = stands facts trust second d u v other steps.lawful again in
     let on = subst (PassGoesOn facts t.places) (sym later.at) steps.on in
     account_law facts here.history later.history here.request later.request here.places later.places one other here.lawful later.lawful here.sealed later.sealed

@@ -7,3 +7,4 @@ mod OneCut
 mod OneEnd
 mod LawfulRuns
 mod GrowingRuns
+mod Signers

@@ -1,12 +1,11 @@
 -- Replies that were written, whole or cut short.
-use Rattle.std.proofs.Common.{◌≡◌, ◌≤◌, ℕ, List, ◌++◌, length, Bool, true, false, Option, None, Some, refl, sym, ap, ap₂, ◌∙◌, subst, arith, ◌⊎◌, inl, inr}
+use Rattle.std.proofs.Common.{◌≡◌, ◌≢◌, ◌≤◌, ℕ, List, ◌++◌, length, Bool, true, false, Option, None, Some, refl, sym, ap, ap₂, ◌∙◌, subst, arith, ◌⊎◌, inl, inr}
 use Rattle.std.specs.Bool.{MatchBool}
 use Rattle.kms_io.specs.Wire.{Wire}
 use Rattle.account_core.proofs.GoingOn.{decide_goes_on}
 use Rattle.publish_pass.specs.declared.answered.Answered.{Answered}
 use Rattle.http_front.specs.Head.{IsHead}
 use Rattle.kms_json.specs.declared.asks.Ask.{Ask}
-use Rattle.kms_json.specs.declared.replies.Reply.{Reply}
 use Rattle.kms_json.specs.declared.replies.Reply.TheVariants.{Refused}
 use Rattle.kms_json.specs.Asks.{AnswersFor, refusal_of, changes_account}
 use Rattle.account_core.specs.History.{Entry}
@@ -25,11 +24,17 @@ use Rattle.kms_session.specs.declared.asked.After.{After}
 use Rattle.publish_pass.specs.Answers.{Answer, answer_in, answer_of}
 use Rattle.kms_session.specs.Answers.{IsReplyText, five_hundred}
 use Rattle.publish_pass.specs.Pairs.{entries_of}
-use Rattle.publish_pass.specs.Pass.{Pass, Meets, Reads, Wants, WantsChange, AnswersRead, AnswersChange, LacksRead, Misses, Rose, keeping_house, making_any}
+use Rattle.publish_pass.specs.Pass.{Pass, Meets, Wants, WantsChange, AnswersRead, AnswersChange, LacksRead, Misses, keeping_house, making_any}
 use Rattle.publish_pass.specs.declared.answered.Unread.TheVariants.{NoMemory as Unfed}
 use Rattle.publish_pass.proofs.Lists.{prefix_self}
 use Rattle.publish_pass.proofs.Meeting.{learns_self}
-use Rattle.kms_session.specs.Run.{Plan, answered, asks, plan_of, planned, whole, Wanting, wants_nothing, wants_read, wants_change, Answers, early, reads, changes, Replies, answers, wants_memory}
+use Rattle.kms_names.specs.declared.principals.Principal.{Principal}
+use Rattle.sigv4_check.specs.declared.faults.AuthFault.{AuthFault}
+use Rattle.sigv4_check.specs.declared.faults.AuthFault.TheVariants.{NoMemory as LacksMemory}
+use Rattle.sigv4_check.specs.Signer.{IsOrNoMemory}
+use Rattle.kms_session.specs.Callers.{caller_of, refusal_for}
+use Rattle.kms_session.proofs.Signers.{fault_is}
+use Rattle.kms_session.specs.Run.{Plan, answered, asks, plan_of, planned, planned_by, whole, Wanting, wants_nothing, wants_read, wants_change, Answers, early, reads, changes, Replies, answers, wants_memory}
 use Rattle.kms_session.specs.Session.{SendsWhole, SendsShort, Responds, RespondsShort}
 use Rattle.kms_session.specs.Replying.{SendsReply, SendsReplyShort, Gives}
 use Rattle.kms_session.proofs.Wires.{whole_on, sends_short_after, sends_short_before}
@@ -159,9 +164,10 @@ replied_given sent s t plan other a body second closes old new same is gives rep
     let P : List ℕ → Type 0 = λ b. MatchBool sent (SendsReply (record { status = a.status; body = b }) second a.front closes old new) (SendsReplyShort (record { status = a.status; body = b }) second a.front closes old new) in
     replied sent s plan (answer_in a) second a.front closes old new t (subst (λ (p : Plan). Answers s p (answer_in a) t) same gives.answers) gives.front (subst P is reply)
 
--- what a message comes to, from what it asks
-pub plan_from : (trust : Trust) (c : ℕ) (m : Message) (r : Result AskBody Refusal) (after : After) → asked_in m ≡ r → after ≡ after_in m → planned trust c r after ≡ plan_of trust (whole m) c
-plan_from trust c m r after is has = ap₂ (λ (r : Result AskBody Refusal) (a : After). planned trust c r a) (sym is) has
+-- what a caller's message comes to, from what it asks
+pub plan_from : (caller : Principal) (c : ℕ) (m : Message) (r : Result AskBody Refusal) (after : After) → asked_in m ≡ r → after ≡ after_in m
+    → planned caller c r after ≡ planned caller c (asked_in m) (after_in m)
+plan_from caller c m r after is has = ap₂ (λ (r : Result AskBody Refusal) (a : After). planned caller c r a) (sym is) has
 
 -- what is refused, whatever else stands
 pub refused_is : (r : Result AskBody Refusal) (fault : JsonFault) (refusal : Refusal) → AnswersFor r (Err fault) → Some refusal ≡ refusal_of fault → r ≡ Err refusal
@@ -171,9 +177,20 @@ refused_is r (Validation field) refusal is e = cc
 refused_is r InvalidAliasName refusal is e = cc
 refused_is r NoMemory refusal is e = cc
 
-pub refused_plan : (trust : Trust) (c : ℕ) (m : Message) (fault : JsonFault) (refusal : Refusal) → AnswersFor (asked_in m) (Err fault) → Some refusal ≡ refusal_of fault
-    → answered (answer_of (Refused refusal)) ≡ plan_of trust (whole m) c
-refused_plan trust c m fault refusal is e = plan_from trust c m (Err refusal) (after_in m) (refused_is (asked_in m) fault refusal is e) refl
+pub refused_plan : (caller : Principal) (c : ℕ) (m : Message) (fault : JsonFault) (refusal : Refusal) → AnswersFor (asked_in m) (Err fault) → Some refusal ≡ refusal_of fault
+    → answered (answer_of (Refused refusal)) ≡ planned caller c (asked_in m) (after_in m)
+refused_plan caller c m fault refusal is e = plan_from caller c m (Err refusal) (after_in m) (refused_is (asked_in m) fault refusal is e) refl
+
+-- what a message comes to, from who asks
+pub plan_by : (trust : Trust) (region : List ℕ) (c : ℕ) (m : Message) (r : Result Principal AuthFault) → caller_of trust region m c ≡ r
+    → planned_by r m c ≡ plan_of trust region (whole m) c
+plan_by trust region c m r is = ap (λ (r : Result Principal AuthFault). planned_by r m c) (sym is)
+
+-- a message that nobody signed
+pub unsigned_plan : (trust : Trust) (region : List ℕ) (c : ℕ) (m : Message) (why : AuthFault) (refusal : Refusal) → IsOrNoMemory (caller_of trust region m c) (Err why)
+    → (refusal ≡ refusal_for why) × (why ≢ LacksMemory) → answered (answer_of (Refused refusal)) ≡ plan_of trust region (whole m) c
+unsigned_plan trust region c m why refusal is e =
+    ap (λ (r : Refusal). answered (answer_of (Refused r))) e.0 ∙ plan_by trust region c m (Err why) (fault_is (caller_of trust region m c) why is e.1)
 
 any_facts : (s t : Pass) (entry : Option Entry) → t ≡ making_any s entry → t.facts ≡ s.facts
 any_facts s t None is = ap (λ (p : Pass). p.facts) is

@@ -113,13 +113,13 @@ cuts_message {buffer = buffer} cut m s cuts is =
 -- a message at the front of the buffer is answered
 pub serves_message : {trust : Trust} {start old new : Outside} {count c : ℕ} {buffer : List ℕ} {closes : Bool} (cut : Places) (m : Message) → Serves trust start old false count buffer → CutsOff buffer cut m
     → closes ≡ closes_at count (whole m) → c < 253402300800 → TellsMore old.clock (c ∷ []) new.clock
-    → Responds old.pass (plan_of trust (whole m) c) c closes old.wire new.wire new.pass
+    → Responds old.pass (plan_of trust old.pass.facts.region (whole m) c) c closes old.wire new.wire new.pass
     → Serves trust start new closes (count + 1) (drop (size_of cut) buffer)
 serves_message {c = c} {closes = closes} cut m s cuts is bound tells r = serves_item (whole m) c bound closes s (cuts_message cut m s cuts is) is r.replies r.sends tells
 
 -- bytes that are refused are answered
 pub serves_fault : {trust : Trust} {start old new : Outside} {count c : ℕ} {buffer : List ℕ} (why : HttpFault) → Serves trust start old false count buffer → IsRefused buffer why
-    → c < 253402300800 → TellsMore old.clock (c ∷ []) new.clock → Responds old.pass (plan_of trust (fault why) c) c true old.wire new.wire new.pass
+    → c < 253402300800 → TellsMore old.clock (c ∷ []) new.clock → Responds old.pass (plan_of trust old.pass.facts.region (fault why) c) c true old.wire new.wire new.pass
     → Serves trust start new true (count + 1) buffer
 serves_fault {c = c} why s refused bound tells r = serves_item (fault why) c bound true s (no_message why s.cuts refused) refl r.replies r.sends tells
 
@@ -133,7 +133,7 @@ serves_rest {trust} {start} {new} {count} {closes = closes} e s = subst (Serves 
 -- a reply to a message that was cut short ends the session
 pub breaks_at_message : {trust : Trust} {start old new : Outside} {count c : ℕ} {buffer : List ℕ} {closes : Bool} (cut : Places) (m : Message) → Serves trust start old false count buffer → CutsOff buffer cut m
     → closes ≡ closes_at count (whole m) → c < 253402300800 → TellsMore old.clock (c ∷ []) new.clock
-    → RespondsShort old.pass (plan_of trust (whole m) c) c closes old.wire new.wire new.pass → BreaksOff trust start new
+    → RespondsShort old.pass (plan_of trust old.pass.facts.region (whole m) c) c closes old.wire new.wire new.pass → BreaksOff trust start new
 breaks_at_message {old = old} {count = count} {c = c} {buffer = buffer} {closes = closes} cut m s cuts is bound tells r = record {
   so_far = old;
   count = count;
@@ -156,7 +156,7 @@ breaks_at_message {old = old} {count = count} {c = c} {buffer = buffer} {closes 
 -- and so does one to bytes that are refused
 pub breaks_at_fault : {trust : Trust} {start old new : Outside} {count c : ℕ} {buffer : List ℕ} (why : HttpFault) → Serves trust start old false count buffer → IsRefused buffer why
     → c < 253402300800 → TellsMore old.clock (c ∷ []) new.clock
-    → RespondsShort old.pass (plan_of trust (fault why) c) c true old.wire new.wire new.pass → BreaksOff trust start new
+    → RespondsShort old.pass (plan_of trust old.pass.facts.region (fault why) c) c true old.wire new.wire new.pass → BreaksOff trust start new
 breaks_at_fault {old = old} {count = count} {c = c} {buffer = buffer} why s refused bound tells r = record {
   so_far = old;
   count = count;

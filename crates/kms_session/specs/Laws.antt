@@ -6,11 +6,12 @@ use Rattle.http_front.specs.Message.{IsCrowded}
 use Rattle.kms_session.specs.declared.trust.Trust.{Trust}
 use Rattle.kms_json.specs.declared.asks.Ask.{Ask}
 use Rattle.kms_json.specs.declared.replies.Reply.{Reply}
-use Rattle.account_core.specs.Decide.{account_of, IsLawful}
+use Rattle.account_core.specs.Decide.{IsLawful}
 use Rattle.account_core.specs.Laws.{Sealing, HasSealed, iv_in}
 use Rattle.publish_pass.specs.Pairs.{entries_of}
 use Rattle.publish_pass.specs.Pass.{Pass, Reads}
-use Rattle.kms_session.specs.Run.{Item, fault, Cuts, Turn, SessionRun, caller_of, plan_of, asks}
+use Rattle.kms_session.specs.Run.{Item, fault, Cuts, Turn, SessionRun, plan_of, asks}
+use Rattle.kms_session.specs.Callers.{IsOfAccount}
 use mathlib.Core.List.{IsPrefix}
 use Rattle.kms_session.specs.Session.{Outside, EndsBetween, EndsClosed, EndsInside}
 
@@ -42,11 +43,11 @@ pub record IsOneEnd (trust : Trust) (old new : Outside) : Type 0 where
 abbrev pub OneEnd : Type 0
 OneEnd = (trust : Trust) (old new : Outside) → TellsTaken old new → IsOneEnd trust old new
 
--- a run of a pass of the trusted caller's account keeps the history lawful
+-- a run of a pass of the callers' account keeps the history lawful
 abbrev pub RunsKeepLawful : Type 0
 RunsKeepLawful =
     (trust : Trust) (start end : Pass) (items : List Item) (clocks text : List ℕ) → SessionRun start trust end items clocks text
-    → account_of (caller_of trust) ≡ start.facts.account → IsLawful start.facts (entries_of start.history)
+    → IsOfAccount start.facts.account trust → IsLawful start.facts (entries_of start.history)
     → (end.facts ≡ start.facts) × IsLawful end.facts (entries_of end.history)
 
 -- A turn, and a run of turns, leave a history that begins with the one before. The number of entries that a reply names is the
@@ -60,7 +61,7 @@ RunsGoOn = (trust : Trust) (start end : Pass) (items : List Item) (clocks text :
 -- a turn whose reply holds this sealed text, from one state of the pass to the next
 pub record SealsAt (trust : Trust) (item : Item) (c : ℕ) (s t : Pass) (sealing : Sealing) : Type 0 where
   pub request : Ask
-  pub is : plan_of trust item c ≡ asks request
+  pub is : plan_of trust s.facts.region item c ≡ asks request
   pub reply : Reply
   pub reads : Reads s request reply t
   pub sealed : HasSealed reads.met.facts (entries_of reads.met.history) request reads.met.places sealing
@@ -70,6 +71,6 @@ pub record SealsAt (trust : Trust) (item : Item) (c : ℕ) (s t : Pass) (sealing
 abbrev pub OneSessionRepeatsNoIv : Type 0
 OneSessionRepeatsNoIv =
     (trust : Trust) (s t u v : Pass) (first second : Item) (c d : ℕ) (items : List Item) (clocks text : List ℕ) (one other : Sealing)
-    → account_of (caller_of trust) ≡ s.facts.account → IsLawful s.facts (entries_of s.history)
+    → IsOfAccount s.facts.account trust → IsLawful s.facts (entries_of s.history)
     → SealsAt trust first c s t one → SessionRun t trust u items clocks text → SealsAt trust second d u v other
     → iv_in one.blob ≢ iv_in other.blob

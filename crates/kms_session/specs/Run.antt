@@ -10,10 +10,11 @@ use Rattle.kms_json.specs.declared.refusals.Refusal.TheVariants.{Validation}
 use Rattle.kms_json.specs.Asks.{changes_account}
 use Rattle.http_front.specs.declared.judge.HttpFault.{HttpFault}
 use Rattle.kms_session.specs.declared.trust.Trust.{Trust}
-use Rattle.kms_session.specs.declared.trust.Trust.TheVariants.{Word}
+use Rattle.sigv4_check.specs.declared.faults.AuthFault.{AuthFault}
 use Rattle.http_front.specs.Judge.{closes_after}
 use Rattle.http_front.specs.Message.{Message, IsMessage, IsRefused}
 use Rattle.kms_session.specs.Asked.{asked_in, after_in}
+use Rattle.kms_session.specs.Callers.{caller_of, refusal_for}
 use Rattle.kms_session.specs.declared.asked.After.{After}
 use Rattle.kms_session.specs.declared.asked.After.TheVariants.{Entries, Malformed}
 use Rattle.publish_pass.specs.Answers.{Answer, answer_of}
@@ -30,24 +31,26 @@ abbrev pub closes_at : ℕ → Item → Bool
 closes_at place (whole m) = closes_after m.head || (place + 1 == 100000)
 closes_at place (fault why) = true
 
--- the caller that is trusted
-abbrev pub caller_of : Trust → Principal
-caller_of (Word caller) = caller
-
 -- what an item comes to: an answer that no history decides, or a request of the account
 pub data Plan : Type 0 where
   answered : Answer → Plan
   asks : Ask → Plan
 
 -- the header x-kms-after is judged after all that the body asks
-abbrev pub planned : Trust → ℕ → Result AskBody Refusal → After → Plan
-planned trust c (Ok body) (Entries after) = asks (record { body = body; caller = caller_of trust; moment = c; after = after })
-planned trust c (Ok body) Malformed = answered (answer_of (Refused (Validation (codes "x-kms-after"))))
-planned trust c (Err refusal) after = answered (answer_of (Refused refusal))
+abbrev pub planned : Principal → ℕ → Result AskBody Refusal → After → Plan
+planned caller c (Ok body) (Entries after) = asks (record { body = body; caller = caller; moment = c; after = after })
+planned caller c (Ok body) Malformed = answered (answer_of (Refused (Validation (codes "x-kms-after"))))
+planned caller c (Err refusal) after = answered (answer_of (Refused refusal))
 
-abbrev pub plan_of : Trust → Item → ℕ → Plan
-plan_of trust (whole m) c = planned trust c (asked_in m) (after_in m)
-plan_of trust (fault why) c = answered (fault_answer why)
+-- who asks is judged before what is asked
+abbrev pub planned_by : Result Principal AuthFault → Message → ℕ → Plan
+planned_by (Ok caller) m c = planned caller c (asked_in m) (after_in m)
+planned_by (Err why) m c = answered (answer_of (Refused (refusal_for why)))
+
+-- what an item comes to at a service of this region
+abbrev pub plan_of : Trust → List ℕ → Item → ℕ → Plan
+plan_of trust region (whole m) c = planned_by (caller_of trust region m c) m c
+plan_of trust region (fault why) c = answered (fault_answer why)
 
 -- the answer to a plan, and what the pass holds afterwards
 pub data Answers (s : Pass) (plan : Plan) (answer : Answer) (t : Pass) : Type 0 where
@@ -69,7 +72,7 @@ pub data Replies (s : Pass) (plan : Plan) (c : ℕ) (closes : Bool) (text : List
 
 -- one turn of a session
 abbrev pub Turn : Pass → Trust → Item → ℕ → Bool → List ℕ → Pass → Type 0
-Turn s trust item c closes text t = Replies s (plan_of trust item c) c closes text t
+Turn s trust item c closes text t = Replies s (plan_of trust s.facts.region item c) c closes text t
 
 -- A run of turns over the items in order, each with its answer of the clock, which is before the year 10000. The text is the
 -- replies joined.

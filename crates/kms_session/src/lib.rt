@@ -2,6 +2,7 @@
 #![tactic(auto)]
 
 mod asked;
+mod callers;
 mod inbox;
 mod laws;
 mod outbox;

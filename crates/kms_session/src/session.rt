@@ -6,12 +6,15 @@ ghost use Rattle.kms_json.specs.declared.replies.Reply.TheVariants.{Refused};
 ghost use Rattle.account_core.specs.Decide.{account_of, IsProper};
 ghost use Rattle.publish_pass.specs.Answers.{answer_of};
 ghost use Rattle.kms_session.specs.Answers.{fault_answer};
-ghost use Rattle.kms_session.specs.Run.{whole, asks, answered, caller_of, plan_of, planned, Wanting};
+ghost use Rattle.kms_session.specs.Run.{whole, asks, answered, plan_of, planned, Wanting};
+ghost use Rattle.kms_session.specs.Asked.{asked_in, after_in};
+ghost use Rattle.kms_session.specs.Callers.{IsOfAccount};
 ghost use Rattle.http_front.specs.Message.{Message, CutsOff};
 ghost use Rattle.kms_session.specs.Replying.{Gives};
 ghost use Rattle.kms_session.specs.Session.{Outside, outside, Responds, RespondsShort, Serves, EndsBy, GoesOn};
 
 use crate::asked::{After, after_of, asked_of};
+use crate::callers::{caller_in, refusal_by};
 use crate::inbox::Inbox;
 use crate::outbox::{send, send_reply};
 use crate::trust::Trust;
@@ -58,12 +61,12 @@ struct Host<'a, W: Wait, R: Realm, G: Gate> {
     gate: &'a G,
 }
 
-fn caller(trust: &Trust) -> Result<Principal, NoMemory>
-    ensures { IfOk result (λ caller. caller ≡ caller_of trust.now) }
+// The region of the service whose pass this is.
+fn region_of<'a, R: Realm>(service: &'a Service<R>, pass: &Pass<R>) -> &'a str
+    ensures { result.now ≡ pass.now.facts.region }
 {
-    match trust {
-        Trust::Word(caller) => caller.copy(),
-    }
+    let _seen = pass.seen();
+    service.region()
 }
 
 fn refusal_in(fault: JsonFault) -> Option<Refusal>
@@ -160,8 +163,8 @@ fn answer_owned<W: Wait, R: Realm, G: Gate>(
     answer_ask(host, pass, &ask)
 }
 
-// Lets the body of a request go.
-fn let_go(_body: AskBody) {}
+// Lets a caller and the body of a request go.
+fn let_go(_caller: Principal, _body: AskBody) {}
 
 // Answers a request that asks nothing of the account.
 fn answer_refusal<R: Realm>(
@@ -182,40 +185,59 @@ fn answer_malformed<R: Realm>(alloc: Global, pass: &Pass<R>) -> Result<Answered,
     answer_refusal(alloc, pass, Refusal::Validation(field))
 }
 
-// Answers a message that asks this.
+// Answers a message by which this caller asks this.
 fn answer_body<W: Wait, R: Realm, G: Gate>(
     host: &Host<'_, W, R, G>,
     pass: &mut Pass<R>,
+    caller: Principal,
     body: AskBody,
     after: After,
     now: u64,
 ) -> Result<Answered, NoMemory>
     requires now { now < 253402300800 }
-    requires caller { account_of (caller_of host.now.trust.now) ≡ pass.old.facts.account }
+    requires caller { account_of caller ≡ pass.old.facts.account }
     requires asked { (target : List ℕ) × (text : List ℕ) × (asked target text ≡ Ok body) }
-    ensures answer { IfOk result (λ a. Gives pass.old (planned host.now.trust.now now (Ok body) after) a pass.new) }
-    ensures wants { OnErr result (Wanting pass.old (planned host.now.trust.now now (Ok body) after) pass.new) }
+    ensures answer { IfOk result (λ a. Gives pass.old (planned caller now (Ok body) after) a pass.new) }
+    ensures wants { OnErr result (Wanting pass.old (planned caller now (Ok body) after) pass.new) }
 {
     match after {
-        After::Entries(after) => match caller(host.trust) {
-            Ok(caller) => {
-                let ask = Ask {
-                    body,
-                    caller,
-                    moment: now,
-                    after,
-                };
-                answer_owned(host, pass, ask)
-            }
-            Err(NoMemory) => {
-                let_go(body);
-                Err(NoMemory)
-            }
-        },
+        After::Entries(after) => {
+            let ask = Ask {
+                body,
+                caller,
+                moment: now,
+                after,
+            };
+            answer_owned(host, pass, ask)
+        }
         After::Malformed => {
-            let_go(body);
+            let_go(caller, body);
             answer_malformed(host.alloc, pass)
         }
+    }
+}
+
+// Answers a message of this caller.
+fn answer_caller<W: Wait, R: Realm, G: Gate>(
+    host: &Host<'_, W, R, G>,
+    pass: &mut Pass<R>,
+    caller: Principal,
+    cut: &Cut,
+    buffer: &[u8],
+    now: u64,
+) -> Result<Answered, NoMemory>
+    requires now { now < 253402300800 }
+    requires caller { account_of caller ≡ pass.old.facts.account }
+    requires message { (m : Message) × CutsOff buffer.now cut.now m }
+    ensures answer { (m : Message) → CutsOff buffer.now cut.now m → IfOk result (λ a. Gives pass.old (planned caller now (asked_in m) (after_in m)) a pass.new) }
+    ensures wants { (m : Message) → CutsOff buffer.now cut.now m → OnErr result (Wanting pass.old (planned caller now (asked_in m) (after_in m)) pass.new) }
+{
+    match asked_of(host.alloc, cut, buffer) {
+        Ok(body) => answer_body(host, pass, caller, body, after_of(cut, buffer), now),
+        Err(fault) => match refusal_in(fault) {
+            Some(refusal) => answer_refusal(host.alloc, pass, refusal),
+            None => Err(NoMemory),
+        },
     }
 }
 
@@ -228,14 +250,15 @@ fn answer_message<W: Wait, R: Realm, G: Gate>(
     now: u64,
 ) -> Result<Answered, NoMemory>
     requires now { now < 253402300800 }
-    requires caller { account_of (caller_of host.now.trust.now) ≡ pass.old.facts.account }
+    requires trust { IsOfAccount pass.old.facts.account host.now.trust.now }
     requires message { (m : Message) × CutsOff buffer.now cut.now m }
-    ensures answer { (m : Message) → CutsOff buffer.now cut.now m → IfOk result (λ a. Gives pass.old (plan_of host.now.trust.now (whole m) now) a pass.new) }
-    ensures wants { (m : Message) → CutsOff buffer.now cut.now m → OnErr result (Wanting pass.old (plan_of host.now.trust.now (whole m) now) pass.new) }
+    ensures answer { (m : Message) → CutsOff buffer.now cut.now m → IfOk result (λ a. Gives pass.old (plan_of host.now.trust.now pass.old.facts.region (whole m) now) a pass.new) }
+    ensures wants { (m : Message) → CutsOff buffer.now cut.now m → OnErr result (Wanting pass.old (plan_of host.now.trust.now pass.old.facts.region (whole m) now) pass.new) }
 {
-    match asked_of(host.alloc, cut, buffer) {
-        Ok(body) => answer_body(host, pass, body, after_of(cut, buffer), now),
-        Err(fault) => match refusal_in(fault) {
+    let region = region_of(host.service, pass);
+    match caller_in(host.alloc, host.trust, region, cut, buffer, now) {
+        Ok(caller) => answer_caller(host, pass, caller, cut, buffer, now),
+        Err(fault) => match refusal_by(fault) {
             Some(refusal) => answer_refusal(host.alloc, pass, refusal),
             None => Err(NoMemory),
         },
@@ -253,11 +276,11 @@ fn respond<W: Wait, R: Realm, L: Link, G: Gate>(
     closes: bool,
 ) -> bool
     requires now { now < 253402300800 }
-    requires caller { account_of (caller_of host.now.trust.now) ≡ pass.old.facts.account }
+    requires trust { IsOfAccount pass.old.facts.account host.now.trust.now }
     requires message { (m : Message) × CutsOff buffer.now cut.now m }
     ensures { (m : Message) → CutsOff buffer.now cut.now m → MatchBool result
-        (Responds pass.old (plan_of host.now.trust.now (whole m) now) now closes (L.shows link.old) (L.shows link.new) pass.new)
-        (RespondsShort pass.old (plan_of host.now.trust.now (whole m) now) now closes (L.shows link.old) (L.shows link.new) pass.new) }
+        (Responds pass.old (plan_of host.now.trust.now pass.old.facts.region (whole m) now) now closes (L.shows link.old) (L.shows link.new) pass.new)
+        (RespondsShort pass.old (plan_of host.now.trust.now pass.old.facts.region (whole m) now) now closes (L.shows link.old) (L.shows link.new) pass.new) }
 {
     match answer_message(host, pass, cut, buffer, now) {
         Ok(a) => send_reply(link, a.status, a.body.as_slice(), now, a.front, closes),
@@ -305,7 +328,7 @@ fn serve_one<W: Wait, R: Realm, L: Link, C: Clock, G: Gate>(
     number: u64,
 ) -> Option<SessionEnd>
     requires number { number < 100000 }
-    requires caller { account_of (caller_of host.now.trust.now) ≡ pass.old.facts.account }
+    requires trust { IsOfAccount pass.old.facts.account host.now.trust.now }
     ensures goes { (start : Outside) → Serves host.now.trust.now start (outside (L.shows link.old) (C.told clock.old) pass.old) false number inbox.old
         → GoesOn host.now.trust.now result start (outside (L.shows link.new) (C.told clock.new) pass.new) (number + 1) inbox.new }
     ensures facts { pass.new.facts ≡ pass.old.facts }
@@ -341,8 +364,13 @@ fn serve_one<W: Wait, R: Realm, L: Link, C: Clock, G: Gate>(
 /// Serves a connection to its end.
 ///
 /// What is written is the replies of a run of turns over the messages into which the bytes taken are
-/// cut, in whatever pieces they come, and each end comes by its cause (`EndsBy`). The clock is asked
-/// once for each message answered. The buffer of 147,456 bytes is reserved before the first byte is
+/// cut, in whatever pieces they come, and each end comes by its cause (`EndsBy`). Who asks by a message
+/// is judged before what it asks: under `Trust::Signed` a message that nobody signed for the service's
+/// region, by the clock's answer, is refused (`MissingAuthenticationTokenException`,
+/// `IncompleteSignatureException`, `UnrecognizedClientException`, `RequestExpired`,
+/// `InvalidSignatureException`, in this order), and asks nothing of the account. The condition is that
+/// whoever may be the caller is of the service's account. The clock is asked once for each message
+/// answered. The buffer of 147,456 bytes is reserved before the first byte is
 /// taken, and nothing is read while it holds a whole message. It makes at most 100,000 answers.
 pub fn serve_session<W: Wait, R: Realm, L: Link, C: Clock, G: Gate>(
     rt: &W,
@@ -354,7 +382,7 @@ pub fn serve_session<W: Wait, R: Realm, L: Link, C: Clock, G: Gate>(
     link: &mut L,
     gate: &G,
 ) -> SessionEnd
-    requires { account_of (caller_of trust.now) ≡ pass.old.facts.account }
+    requires { IsOfAccount pass.old.facts.account trust.now }
     ensures { EndsBy trust.now result (outside (L.shows link.old) (C.told clock.old) pass.old)
         (outside (L.shows link.new) (C.told clock.new) pass.new) }
 {

@@ -81,6 +81,14 @@ pub struct OwnPolicy {
     pub text: String,
 }
 
+/// A credential of a caller: its id, its secret, and the ARN of its principal.
+#[derive(Drop)]
+pub struct KnownKey {
+    pub id: String,
+    pub secret: String,
+    pub principal: String,
+}
+
 /// How a case ends.
 #[derive(Drop)]
 pub enum Ending {
@@ -96,6 +104,7 @@ pub struct Case {
     pub what: String,
     pub caller: String,
     pub policies: Vec<OwnPolicy>,
+    pub credentials: Vec<KnownKey>,
     pub boot: u32,
     pub clock: Vec<Moment>,
     pub pieces: Span,
@@ -117,6 +126,7 @@ impl Case {
             what: String::from_str(alloc, what)?,
             caller: String::from_str(alloc, ROOT)?,
             policies: Vec::new(alloc),
+            credentials: Vec::new(alloc),
             boot: 1,
             clock: Vec::new(alloc),
             pieces: Span { first: 0, last: 0 },

@@ -24,6 +24,11 @@ pub enum Line<'a> {
         principal: &'a str,
         text: &'a str,
     },
+    Credential {
+        id: &'a str,
+        secret: &'a str,
+        principal: &'a str,
+    },
     Boot(u32),
     Pieces(Span),
     Cut(Span),
@@ -89,6 +94,16 @@ fn read_copies(text: &str) -> Option<Line<'_>> {
         name,
         count: count.parse().ok()?,
         text,
+    })
+}
+
+fn read_credential(text: &str) -> Option<Line<'_>> {
+    let (id, rest) = text.split_once(' ')?;
+    let (secret, principal) = rest.split_once(' ')?;
+    Some(Line::Credential {
+        id,
+        secret,
+        principal,
     })
 }
 
@@ -166,6 +181,7 @@ fn read_setting<'a>(word: &str, rest: &'a str) -> Option<Line<'a>> {
             let (principal, text) = rest.split_once(' ')?;
             Some(Line::Policy { principal, text })
         }
+        "credential" => read_credential(rest),
         "boot" => Some(Line::Boot(rest.parse().ok()?)),
         "pieces" => Some(Line::Pieces(read_span(rest)?)),
         "cut" => Some(Line::Cut(read_span(rest)?)),

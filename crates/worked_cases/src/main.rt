@@ -2,6 +2,7 @@
 //! compares every byte that is written and the end of the session.
 #![tactic(auto)]
 
+mod callers;
 mod cases;
 mod identities;
 mod lines;
@@ -22,7 +23,7 @@ use std::sync::Wait;
 use std::{fs, io, rt};
 
 // The scripts, each with the cases that show one thing.
-const SCRIPTS: [&str; 19] = [
+const SCRIPTS: [&str; 20] = [
     "first_path.txt",
     "pieces.txt",
     "faults.txt",
@@ -35,6 +36,7 @@ const SCRIPTS: [&str; 19] = [
     "sizes.txt",
     "limits.txt",
     "authority.txt",
+    "signed.txt",
     "key_policies.txt",
     "key_states.txt",
     "rotation.txt",

@@ -4,8 +4,9 @@ ghost use Rattle.kms_json.specs.Asks.{changes_account};
 ghost use Rattle.account_core.specs.Places.{IsLineOf};
 ghost use Rattle.account_core.specs.Decide.{IsProper, account_of};
 
+use crate::callers::caller_of;
 use crate::cases::{Case, Ending, Places, Request, Wanted};
-use crate::sessions::{Outcome, caller_of, facts_of};
+use crate::sessions::{Outcome, facts_of};
 use account_core::{Account, Decision, RealmFacts};
 use draw_lines::DrawLine;
 use kms_json::{Ask, JsonFault, Reply, read_ask, write_reply};

@@ -1,5 +1,5 @@
 // Scripts: their cases, one after another.
-use crate::cases::{Case, Ending, Moment, OwnPolicy, Request, Wanted};
+use crate::cases::{Case, Ending, KnownKey, Moment, OwnPolicy, Request, Wanted};
 use crate::lines::{Answer, Line, read_line};
 use crate::texts::{Texts, has_name, unescaped};
 use std::alloc::{AllocError, Global};
@@ -106,6 +106,25 @@ fn add_policy(
     Ok(true)
 }
 
+// Gives a caller a credential, before the first request.
+fn add_credential(
+    alloc: Global,
+    case: &mut Case,
+    id: &str,
+    secret: &str,
+    principal: &str,
+) -> Result<bool, AllocError> {
+    if !case.requests.is_empty() {
+        return Ok(false);
+    }
+    case.credentials.push(KnownKey {
+        id: String::from_str(alloc, id)?,
+        secret: String::from_str(alloc, secret)?,
+        principal: String::from_str(alloc, principal)?,
+    })?;
+    Ok(true)
+}
+
 // Adds to a case what a line sets, or one of its turns.
 fn add_line(alloc: Global, case: &mut Case, line: &Line<'_>) -> Result<bool, AllocError> {
     match line {
@@ -115,6 +134,11 @@ fn add_line(alloc: Global, case: &mut Case, line: &Line<'_>) -> Result<bool, All
         })?,
         Line::Caller(caller) => return add_caller(alloc, case, caller),
         Line::Policy { principal, text } => return add_policy(alloc, case, principal, text),
+        Line::Credential {
+            id,
+            secret,
+            principal,
+        } => return add_credential(alloc, case, id, secret, principal),
         Line::Boot(boot) => case.boot = *boot,
         Line::Pieces(pieces) => case.pieces = *pieces,
         Line::Cut(cut) => case.cut = Some(*cut),

@@ -1,16 +1,16 @@
 // Cases that are served as sessions.
-ghost use Rattle.std.specs.Prelude.{◌≡◌, IfOk, IfSome};
+ghost use Rattle.std.specs.Prelude.{◌≡◌};
 ghost use Rattle.kms_io.specs.Clock.{are_times};
-ghost use Rattle.account_core.specs.Decide.{account_of};
 ghost use Rattle.publish_pass.specs.Rules.{Names};
-ghost use Rattle.kms_session.specs.Run.{caller_of as session_caller};
+ghost use Rattle.kms_session.specs.Callers.{IsOfAccount};
 
+use crate::callers::trust_of;
 use crate::cases::{Case, Ending, Span};
-use crate::identities::{identities_of, principal_of};
+use crate::identities::identities_of;
 use crate::replies::{input, is_all, is_front, reply_texts};
 use account_core::RealmFacts;
 use kms_io::{MemoryClock, MemoryLink, NoGate};
-use kms_names::{AccountNumber, NoMemory, Principal, Text};
+use kms_names::{AccountNumber, NoMemory, Text};
 use kms_session::{SessionEnd, Trust, serve_session};
 use publish_pass::{Opening, Realm, open_service};
 use std::alloc::{AllocError, Global};
@@ -83,30 +83,6 @@ pub fn facts_of(alloc: Global, case: &Case) -> Result<Option<RealmFacts>, NoMemo
     }))
 }
 
-// The account of a principal.
-fn account_in(principal: &Principal) -> AccountNumber
-    ensures { result ≡ account_of principal.now }
-{
-    match principal {
-        Principal::Root(account) | Principal::User(account, _) | Principal::Role(account, _) =>
-            *account,
-    }
-}
-
-/// Who asks, if a text names a principal of the account.
-pub fn caller_of(
-    alloc: Global,
-    facts: &RealmFacts,
-    text: &str,
-) -> Result<Option<Principal>, NoMemory>
-    ensures { IfOk result (λ found. IfSome found (λ caller. account_of caller ≡ facts.now.account)) }
-{
-    match principal_of(alloc, text)? {
-        Some(caller) if account_in(&caller) == facts.account => Ok(Some(caller)),
-        _ => Ok(None),
-    }
-}
-
 fn link_of(alloc: Global, case: &Case, manner: Manner) -> Result<MemoryLink, AllocError> {
     let all = input(alloc, case)?;
     let size = manner.cut.unwrap_or(all.len()).min(all.len());
@@ -136,7 +112,7 @@ fn serve_opening<W: Wait, R: Realm>(
     requires ledger { (opening.name ≡ R.name) × (opening.parts ≡ R.parts) }
     requires names { Names R.book R.facts R.passes opening.shown }
     requires passes { opening.shown.whole.passes ≡ 1 }
-    requires caller { account_of (session_caller trust.now) ≡ opening.shown.whole.facts.account }
+    requires trust { IsOfAccount opening.shown.whole.facts.account trust.now }
 {
     let (service, mut passes) = open_service::<W, R>(rt, alloc, opening)?;
     let pass = &mut passes[0];
@@ -154,12 +130,11 @@ fn serve<W: Wait>(
     let (Some(facts), Some(mut clock)) = (facts_of(alloc, case)?, clock_of(alloc, case)?) else {
         return Ok(None);
     };
-    let Some(caller) = caller_of(alloc, &facts, case.caller.as_str())? else {
+    let Some(trust) = trust_of(alloc, &facts, case)? else {
         return Ok(None);
     };
     let mut link = link_of(alloc, case, manner)?;
     let opening = Opening::new(rt, alloc, facts, 1)?;
-    let trust = Trust::Word(caller);
     let end = serve_opening::<W, Brand>(rt, alloc, opening, &trust, &mut clock, &mut link)?;
     Ok(Some(Served { end, link }))
 }

@@ -1,0 +1,63 @@
+// The machine's files. They tell nothing of their content.
+use crate::{FileAnswer, Files};
+use std::alloc::Global;
+use std::fs;
+use std::io::{ErrorKind, Read};
+
+// The most bytes that a file read whole has.
+const LONGEST: usize = 4_194_304;
+
+/// The machine's files, by their paths. It counts the reads that fail, a file that can't be opened
+/// among them, and tells nothing of their content.
+#[derive(Drop)]
+pub struct RealFiles<'a, R> {
+    rt: &'a R,
+    faults: u64,
+}
+
+impl<'a, R> RealFiles<'a, R> {
+    ghost use Rattle.std.specs.Prelude.{◌≡◌, None};
+    ghost use Rattle.kms_io.specs.RealFiles.{counts_of};
+
+    /// The files that this runtime reaches.
+    pub fn new(rt: &'a R) -> RealFiles<'a, R>
+        ensures { counts_of result ≡ record {
+          faults = 0;
+          asked = None;
+          content = λ _. None;
+        } }
+    {
+        RealFiles { rt, faults: 0 }
+    }
+}
+
+impl<R: fs::Files> Files for RealFiles<'_, R> {
+    ghost use Rattle.kms_io.specs.RealFiles.{counts_of};
+
+    ghost shows = { counts_of };
+
+    fn read_whole(&mut self, name: &str, room: &mut Vec<u8>) -> FileAnswer {
+        match read_front(self.rt, *room.allocator(), name) {
+            Ok(all) if all.len() > LONGEST => FileAnswer::TooLong,
+            Ok(all) => {
+                *room = all;
+                FileAnswer::Read
+            }
+            Err(ErrorKind::OutOfMemory) => FileAnswer::NoMemory,
+            Err(_) => {
+                self.faults = self.faults.saturating_add(1);
+                FileAnswer::Failed
+            }
+        }
+    }
+}
+
+// The first bytes of the file: one more than the most, where it has more.
+fn read_front<R: fs::Files>(rt: &R, alloc: Global, name: &str) -> Result<Vec<u8>, ErrorKind> {
+    let file = fs::File::open(rt, name).map_err(|fault| fault.kind())?;
+    let mut all = Vec::new(alloc);
+    match file.take(LONGEST as u64 + 1).read_to_end(&mut all) {
+        Ok(_) => Ok(all),
+        Err(fault) => Err(fault.kind()),
+    }
+}
