@@ -99,7 +99,7 @@ class Account:
         if due or any(self.gone(k) for k in self.keys):
             self.keys = [k for k in self.keys if not self.gone(k)]
             for key in due:
-                key["versions"].append(moment)
+                key["versions"].append((moment, "AUTOMATIC"))
                 key["next"] = moment + key["period"] * DAY
             self.append()
 
@@ -142,7 +142,7 @@ class Account:
 
     def CreateKey(self, body):
         key = {"id": key_id(self.front), "made": self.moment(), "description": body.get("Description", ""), "state": "Enabled",
-               "date": None, "versions": [self.moment()], "period": None, "next": 0, "on_demand": 0}
+               "date": None, "versions": [(self.moment(), None)], "period": None, "next": 0, "on_demand": 0}
         self.append()
         self.keys.append(key)
         return self.metadata(key)
@@ -208,7 +208,7 @@ class Account:
         if key["on_demand"] == 10:
             raise Refused("LimitExceededException", "Limit reached: rotations.")
         self.append()
-        key["versions"].append(self.latest)
+        key["versions"].append((self.latest, "ON_DEMAND"))
         key["on_demand"] += 1
         return {"KeyId": printed(key["id"])}
 
@@ -460,5 +460,6 @@ def write(name, what, accounts):
     DATA.joinpath(name).write_text("\n".join(head) + "\n\n" + "\n\n".join(a.script() for a in accounts) + "\n")
 
 
-write("key_states.txt", "What each state of a key serves, and how keys change their states, are described and are deleted", key_states())
-write("rotation.txt", "Versions of keys: by rotations on demand, and by automatic ones", rotation())
+if __name__ == "__main__":
+    write("key_states.txt", "What each state of a key serves, and how keys change their states, are described and are deleted", key_states())
+    write("rotation.txt", "Versions of keys: by rotations on demand, and by automatic ones", rotation())

@@ -15,19 +15,21 @@ use Rattle.account_rows.specs.declared.entries.Entry.{Entry}
 use Rattle.account_rows.specs.declared.entries.What.{What}
 use Rattle.account_rows.specs.declared.entries.What.TheVariants as what
 use Rattle.account_rows.specs.Changes.{wants_house, keys_after}
-use Rattle.account_rows.specs.History.{replay, latest_of, moment_of, most_entries, most_bytes, has_room, housekeeping_of, key_with, place_in, IsMadeHere, IsFitting, IsRowOf, AreRows}
+use Rattle.account_rows.specs.History.{replay, latest_of, moment_of, most_entries, most_bytes, has_room, housekeeping_of, key_with, place_in, place_in_grant, IsMadeHere, IsFitting, IsRowOf, IsGrantOf, AreRows}
 use Rattle.account_rows.specs.Sizes.{size_of, bytes_in}
 use Rattle.account_rows.proofs.RowFacts.{rows_after, no_rows, replay-push, latest-push, length-push, IsNew, Follows, all_after}
+use Rattle.account_rows.proofs.GrantFacts.{grants_rise, grants-push}
+use Rattle.grant_table.specs.declared.rows.GrantRow.{GrantRow}
 use Rattle.account_rows.proofs.VersionFacts.{AreMadeFrom, made_push}
 use Rattle.account_rows.proofs.HouseFacts.{GivesDays, RowsHaveDays, days_after_entry, kept_once}
 use Rattle.account_core.specs.declared.facts.RealmFacts.{RealmFacts}
-use Rattle.account_core.specs.Ids.{key_id_at, be32, be48}
+use Rattle.account_core.specs.Ids.{key_id_at, grant_id_at, be32, be48}
 use Rattle.account_core.specs.Places.{no_places}
 use Rattle.account_core.specs.Steps.{or_else}
 use Rattle.account_core.specs.View.{View, view_of}
 use Rattle.account_core.specs.Parts.{overfull, full, entries_full, bytes_full}
 use Rattle.account_core.specs.Decide.{IsNext, appended, kept, IsLawful, empty, longer}
-use Rattle.account_core.proofs.EntryFacts.{IsMadeAt, IsEntryAt, next_entry}
+use Rattle.account_core.proofs.EntryFacts.{IsMadeAt, HoldsDropped, IsEntryAt, next_entry}
 
 -- ---- the place that an id ends with
 
@@ -48,6 +50,17 @@ id_place facts p fits =
     let whole : 0 ∷ 0 ∷ be48 p ≡ to_be_bytes w64 p = ap₂ (λ (a b : ℕ). a ∷ b ∷ be48 p) (first_byte p fits) (second_byte p fits) in
     ap (λ (bytes : List ℕ). from_be_bytes w64 (0 ∷ 0 ∷ bytes)) (id_ends facts p) ∙ ap (from_be_bytes w64) whole ∙ from_be_bytes-to_be_bytes_8 p (omega (arith, fits))
 
+grant_ends : (facts : RealmFacts) (place : ℕ) → drop 26 (grant_id_at facts place) ≡ be48 place
+grant_ends facts place =
+    let text : List ℕ = codes "grant" ++ be32 facts.boot ++ be48 place in
+    let digest : List ℕ = hmac_sha256 facts.root text in
+    drop_at (take 26 digest) (be48 place) 26 (omega (arith, length-take 26 digest, hmac_length facts.root text))
+
+grant_place : (facts : RealmFacts) (p : ℕ) → p < 2 ^ 48 → place_in_grant (grant_id_at facts p) ≡ p
+grant_place facts p fits =
+    let whole : 0 ∷ 0 ∷ be48 p ≡ to_be_bytes w64 p = ap₂ (λ (a b : ℕ). a ∷ b ∷ be48 p) (first_byte p fits) (second_byte p fits) in
+    ap (λ (bytes : List ℕ). from_be_bytes w64 (0 ∷ 0 ∷ bytes)) (grant_ends facts p) ∙ ap (from_be_bytes w64) whole ∙ from_be_bytes-to_be_bytes_8 p (omega (arith, fits))
+
 made_here : (facts : RealmFacts) (place : ℕ) (w : What) → place < 2 ^ 48 → IsMadeAt facts place w → IsMadeHere place w
 made_here facts place (what.CreateKey key description policy) fits made = ap place_in made ∙ id_place facts place fits
 made_here facts place (what.Enable key) fits made = tt
@@ -59,6 +72,10 @@ made_here facts place (what.RotationOff key) fits made = tt
 made_here facts place (what.RotateNow key) fits made = tt
 made_here facts place (what.Policy key text) fits made = tt
 made_here facts place (what.Description key text) fits made = tt
+made_here facts place (what.AliasPut name key) fits made = tt
+made_here facts place (what.AliasDrop name) fits made = tt
+made_here facts place (what.GrantAdd grant key grantee retiring operations constraint name) fits made = ap place_in_grant made ∙ grant_place facts place fits
+made_here facts place (what.GrantDrop grant) fits made = tt
 made_here facts place what.House fits made = tt
 
 -- ---- room
@@ -112,10 +129,11 @@ pub record ComesNext (facts : RealmFacts) (history : List Entry) (entry : Entry)
   pub fits : IsFitting history entry
   pub made : IsMadeAt facts (length history) entry.what
   pub gives : GivesDays entry.what
+  pub holds : HoldsDropped (replay history).grants entry.what
   pub later : latest_of history ≤ entry.time
 
-house_made : (facts : RealmFacts) (place : ℕ) (w : What) → w ≡ what.House → IsMadeAt facts place w × IsMadeHere place w × GivesDays w
-house_made facts place w is = subst (λ (v : What). IsMadeAt facts place v × IsMadeHere place v × GivesDays v) (sym is) (tt, tt, tt)
+house_made : (facts : RealmFacts) (place : ℕ) (w : What) → w ≡ what.House → IsMadeAt facts place w × IsMadeHere place w × GivesDays w × ((grants : List GrantRow) → HoldsDropped grants w)
+house_made facts place w is = subst (λ (v : What). IsMadeAt facts place v × IsMadeHere place v × GivesDays v × ((grants : List GrantRow) → HoldsDropped grants v)) (sym is) (tt, tt, tt, λ grants. tt)
 
 pub comes_next : (facts : RealmFacts) (history : List Entry) (entry : Entry) → latest_of history < 253402300800 → IsNext facts history entry → ComesNext facts history entry
 comes_next facts history entry latest (appended x proper is) =
@@ -134,6 +152,7 @@ comes_next facts history entry latest (appended x proper is) =
       };
       made = at.of.made;
       gives = at.of.gives;
+      holds = at.of.holds;
       later = omega (arith, time);
     }
 comes_next facts history entry latest (kept clock bound is) =
@@ -150,6 +169,7 @@ comes_next facts history entry latest (kept clock bound is) =
       };
       made = made.0;
       gives = made.2;
+      holds = made.3 (replay history).grants;
       later = omega (arith, time);
     }
 
@@ -162,6 +182,7 @@ pub record HasLaws (facts : RealmFacts) (history : List Entry) : Type 0 where
   pub made : AreMadeFrom 0 history
   pub days : RowsHaveDays (replay history).keys
   pub sizes : All (λ (row : KeyRow). length row.key ≡ 16) (replay history).keys
+  pub grants : All (IsGrantOf (length history)) (replay history).grants
 
 id_size : (facts : RealmFacts) (place : ℕ) → length (key_id_at facts place) ≡ 16
 id_size facts place =
@@ -179,6 +200,10 @@ new_size facts place time (what.RotationOff key) made = tt
 new_size facts place time (what.RotateNow key) made = tt
 new_size facts place time (what.Policy key text) made = tt
 new_size facts place time (what.Description key text) made = tt
+new_size facts place time (what.AliasPut name key) made = tt
+new_size facts place time (what.AliasDrop name) made = tt
+new_size facts place time (what.GrantAdd grant key grantee retiring operations constraint name) made = tt
+new_size facts place time (what.GrantDrop grant) made = tt
 new_size facts place time what.House made = tt
 
 from_zero : (n : ℕ) → n ≡ 0 + n
@@ -198,6 +223,8 @@ with_next facts history entry laws next =
       days = subst RowsHaveDays replayed (days_after_entry (length history) entry.time entry.what keys next.gives laws.days);
       sizes = subst (All (λ (row : KeyRow). length row.key ≡ 16)) replayed
           (all_after (λ (row : KeyRow). length row.key ≡ 16) (λ row new follows is. ap length follows.key ∙ is) (length history) entry.time entry.what keys (new_size facts (length history) entry.time entry.what next.made) laws.sizes);
+      grants = subst (λ (n : ℕ). All (IsGrantOf n) (replay (history ++ entry ∷ [])).grants) (sym (length-push history entry))
+          (subst (All (IsGrantOf (length history + 1))) (sym (grants-push history entry)) (grants_rise (length history) entry.time entry.what keys (replay history).grants next.fits.made laws.grants));
     }
 
 pub laws_of : (facts : RealmFacts) (history : List Entry) → IsLawful facts history → HasLaws facts history
@@ -208,6 +235,7 @@ laws_of facts history empty = record {
   made = tt;
   days = λ k d lt. absurd (omega (arith, lt));
   sizes = λ k d lt. absurd (omega (arith, lt));
+  grants = λ k d lt. absurd (omega (arith, lt));
 }
 laws_of facts history (longer {history = before} entry lawful next) =
     let laws = laws_of facts before lawful in

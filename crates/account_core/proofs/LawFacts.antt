@@ -5,7 +5,6 @@ use Rattle.std.specs.Int.{w16, w32, to_be_bytes}
 use Rattle.std.specs.List.Sorted.{IsNonDecreasingBy}
 use Rattle.std.proofs.lemmas.List.Sorted.{IsNonDecreasingBy-push}
 use Rattle.std.proofs.lemmas.List.{take_at, drop_at, get_or_push}
-use Rattle.std.proofs.lemmas.Slice.Eq.{bytes_eq-Decides}
 use Rattle.draw_lines.specs.Iv.{iv_at}
 use Rattle.draw_lines.proofs.IvFacts.{count_told, pass_told}
 use Rattle.mac_sha.specs.Hmac.{hmac_sha256}
@@ -19,7 +18,6 @@ use Rattle.crypto_ops.specs.Sealed.{blob_head, additional_data, sealed, opened}
 use Rattle.crypto_ops.specs.Laws.{CanSeal}
 use Rattle.crypto_ops.proofs.OpeningFacts.{sealed_form, opened_blob}
 use Rattle.kms_names.specs.declared.actions.Action.TheVariants as action
-use Rattle.kms_names.specs.declared.references.KeyRef.TheVariants.{Key}
 use Rattle.authority.specs.Setting.{callers_policies}
 use Rattle.authority.specs.Allowed.{AreIdentityPolicies}
 use Rattle.kms_json.specs.declared.asks.Ask.{Ask}
@@ -30,7 +28,6 @@ use Rattle.kms_json.specs.declared.asks.cryptography.Decrypt.{Decrypt}
 use Rattle.kms_json.specs.declared.replies.Reply.TheVariants as reply
 use Rattle.kms_json.specs.declared.refusals.Refusal.{Refusal}
 use Rattle.kms_json.specs.declared.refusals.Refusal.TheVariants as refusal
-use Rattle.kms_json.specs.declared.refusals.Missing.TheVariants as missing
 use Rattle.kms_json.specs.declared.refusals.Unsupported.TheVariants.{Recipient}
 use Rattle.account_core.specs.declared.facts.RealmFacts.{RealmFacts}
 use Rattle.account_rows.specs.declared.entries.Entry.{Entry}
@@ -46,12 +43,13 @@ use Rattle.account_core.specs.Blobs.{BlobName, name_in, named_in}
 use Rattle.account_rows.specs.History.{replay, latest_of, key_with, IsRowOf}
 use Rattle.account_core.specs.Source.{Source}
 use Rattle.account_core.specs.View.{View, view_of, unless_gone, key_held}
-use Rattle.account_core.specs.Steps.{unless, and_then, or_else, unfit, unsupported, key_referred, reference_of, key_of, key_if_given, other_key, blob_name, source_in, source_of, newest_version, opens, seals, arn_of}
-use Rattle.account_core.specs.Authority.{of_context, denied, MayAsk}
-use Rattle.account_core.specs.Parts.{Outcome, takes, outcome, decided_by, only_asked, refused_state, unfit_one, told_state}
-use Rattle.account_core.specs.Crypto.{decrypts}
+use Rattle.account_core.specs.Steps.{unless, and_then, or_else, unfit, unsupported, key_if_given, other_key, alias_of, blob_name, source_in, source_of, newest_version, opens, seals, arn_of}
+use Rattle.account_core.specs.Authority.{on_key, denied, MayAsk}
+use Rattle.account_core.specs.declared.checks.Named.{Named}
+use Rattle.account_core.specs.Parts.{Outcome, takes, outcome, dead_token, decided_by, only_asked, refused_state, unfit_one, told_state}
+use Rattle.account_core.specs.Crypto.{decrypts, of_context}
 use Rattle.account_core.specs.Decide.{lacking, body_outcome, decide, IsNext, appended, kept, IsLawful, empty, longer}
-use Rattle.account_core.specs.Laws.{reply_to, NoneOrNames, PassGoesOn, no_request, one_more, wants_memory, iv_in, exception_of, unless_excepted, SealedIsDecryptedAgain, OnePassRepeatsNoIv, PassesShareNoIv, TimesNeverFall, HouseIsKeptOnce, KeysDiffer}
+use Rattle.account_core.specs.Laws.{reply_to, PassGoesOn, no_request, one_more, wants_memory, iv_in, exception_of, unless_excepted, SealedIsDecryptedAgain, OnePassRepeatsNoIv, PassesShareNoIv, TimesNeverFall, HouseIsKeptOnce, KeysDiffer}
 use Rattle.account_core.proofs.BlobNames.{named_blob}
 use Rattle.account_core.proofs.GoingOn.{decide_goes_on}
 use Rattle.account_rows.specs.Changes.{HasVersions, is_gone, is_state_gone}
@@ -153,36 +151,17 @@ sealed_opens facts row context text places id_is versions size =
     }
 
 module _ (view : View) (row : KeyRow) (version : ℕ) (there : key_held view row.key ≡ Some row) where
-  record Given (reference : Option (List ℕ)) : Type 0 where
-    given : Option KeyRow
-    is : key_if_given view reference ≡ Ok given
-    same : other_key given row.key ≡ None
+  abbrev source : Option Named → List ℕ → Source
+  source named blob = record { row = row; alias = alias_of named; version = version; bytes = blob }
 
-  key_is : (reference : List ℕ) → reference_of view.facts reference ≡ Ok (Key row.key) → key_of view reference ≡ Ok row
-  unfolding key_of
-  key_is reference named =
-      ap (key_referred view (refusal.NotFound missing.Alias)) named ∙ ap (λ (found : Option KeyRow). ok_or found (refusal.NotFound missing.Key)) there
-
-  given_is : (reference : Option (List ℕ)) → NoneOrNames view.facts reference row.key → Given reference
-  given_is None named = record { given = None; is = refl; same = refl }
-  given_is (Some reference) named = record {
-    given = Some row;
-    is = ap (λ (found : Result KeyRow Refusal). and_then found (λ r. Ok (Some r))) (key_is reference named);
-    same = ap (λ (b : Bool). if b then None else Some refusal.IncorrectKey) ((bytes_eq-Decides row.key row.key).1 refl);
-  }
-
-  abbrev source : List ℕ → Source
-  source blob = record { row = row; version = version; bytes = blob }
-
-  source_is : (reference : Option (List ℕ)) (blob : List ℕ) → NoneOrNames view.facts reference row.key → named_in blob ≡ Some (record { key = row.key; version = version })
-      → source_of view action.Decrypt reference blob ≡ Ok (source blob)
-  source_is reference blob right named =
-      let given = given_is reference right in
-      let compared : Option KeyRow → BlobName → Result Source Refusal = λ o name. unless (other_key o name.key) (source_in view action.Decrypt blob name) in
-      ap (λ (r : Result (Option KeyRow) Refusal). and_then r (λ o. and_then (blob_name blob) (compared o))) given.is
-      ∙ ap (λ (o : Option BlobName). and_then (ok_or o refusal.InvalidCiphertext) (compared given.given)) named
-      ∙ ap (λ (o : Option Refusal). unless o (source_in view action.Decrypt blob (record { key = row.key; version = version }))) given.same
-      ∙ ap (λ (o : Option KeyRow). and_then (ok_or o (refusal.AccessDenied view.caller action.Decrypt (arn_of view.facts row.key))) (λ r. Ok (record { row = r; version = version; bytes = blob }))) there
+  source_is : (reference : Option (List ℕ)) (given : Option Named) (blob : List ℕ) → key_if_given view reference ≡ Ok given → other_key given row.key ≡ None
+      → named_in blob ≡ Some (record { key = row.key; version = version }) → source_of view action.Decrypt reference blob ≡ Ok (source given blob)
+  source_is reference given blob is same named =
+      let compared : Option Named → BlobName → Result Source Refusal = λ o name. unless (other_key o name.key) (source_in view action.Decrypt (alias_of o) blob name) in
+      ap (λ (r : Result (Option Named) Refusal). and_then r (λ o. and_then (blob_name blob) (compared o))) is
+      ∙ ap (λ (o : Option BlobName). and_then (ok_or o refusal.InvalidCiphertext) (compared given)) named
+      ∙ ap (λ (o : Option Refusal). unless o (source_in view action.Decrypt (alias_of given) blob (record { key = row.key; version = version }))) same
+      ∙ ap (λ (o : Option KeyRow). and_then (ok_or o (refusal.AccessDenied view.caller action.Decrypt (arn_of view.facts row.key))) (λ r. Ok (record { row = r; alias = alias_of given; version = version; bytes = blob }))) there
 
   -- the state of the key, as Decrypt goes by it
   by_state : (stored : Stored) → row.stored ≡ stored → is_gone view.moment row ≡ false
@@ -203,21 +182,21 @@ module _ (view : View) (row : KeyRow) (version : ℕ) (there : key_held view row
           by_test true e = cc
           by_test false e = refl
 
-  decrypted_is : (d : Decrypt) (plaintext : List ℕ) (e : Option Refusal) → NoneOrNames view.facts d.key_id row.key → named_in d.blob ≡ Some (record { key = row.key; version = version })
-      → version ≤ newest_version row → opened view.facts.root d.blob d.context ≡ Some plaintext → denied view ((decrypts view d).questions (source d.blob)) ≡ None
+  decrypted_is : (d : Decrypt) (given : Option Named) (plaintext : List ℕ) (e : Option Refusal) → key_if_given view d.key_id ≡ Ok given → other_key given row.key ≡ None → named_in d.blob ≡ Some (record { key = row.key; version = version })
+      → version ≤ newest_version row → opened view.facts.root d.blob d.context ≡ Some plaintext → denied view ((decrypts view d).questions (source given d.blob)) ≡ None → dead_token view d.grant_tokens ≡ None
       → unfit_one view (record { action = action.Decrypt; key = row }) ≡ e → unfit d.algorithm ≡ None → d.recipient ≡ false → d.dry_run ≡ false
       → (decided_by (outcome view (decrypts view d)) view.places).reply ≡ unless_excepted e (reply.Decrypted plaintext (arn_of view.facts row.key))
-  decrypted_is d plaintext None right named old opens_to allowed state fit no_recipient no_dry_run =
-      let own : (decrypts view d).own (source d.blob) ≡ Ok plaintext =
-      ap (λ (o : Option Refusal). unless o (unless (unsupported d.recipient Recipient) (opens view.facts (source d.blob) d.context))) fit
-      ∙ ap (λ (b : Bool). unless (unsupported b Recipient) (opens view.facts (source d.blob) d.context)) no_recipient
+  decrypted_is d given plaintext None is right named old opens_to allowed live state fit no_recipient no_dry_run =
+      let own : (decrypts view d).own (source given d.blob) ≡ Ok plaintext =
+      ap (λ (o : Option Refusal). unless o (unless (unsupported d.recipient Recipient) (opens view.facts (source given d.blob) d.context))) fit
+      ∙ ap (λ (b : Bool). unless (unsupported b Recipient) (opens view.facts (source given d.blob) d.context)) no_recipient
       ∙ ap (λ (b : Bool). if b then ok_or (opened view.facts.root d.blob d.context) refusal.InvalidCiphertext else Err refusal.InvalidCiphertext) (le-leb version (newest_version row) old)
       ∙ ap (λ (o : Option (List ℕ)). ok_or o refusal.InvalidCiphertext) opens_to in
       ap (λ (wanted : Result Outcome Refusal). (decided_by wanted view.places).reply)
-      (goes_through view (decrypts view d) (source d.blob) plaintext (source_is d.key_id d.blob right named) allowed (ap (λ (o : Option Refusal). or_else o None) state) own refl (ap only_asked no_dry_run))
-  decrypted_is d plaintext (Some why) right named old opens_to allowed state fit no_recipient no_dry_run =
+      (goes_through view (decrypts view d) (source given d.blob) plaintext (source_is d.key_id given d.blob is right named) allowed live (ap (λ (o : Option Refusal). or_else o None) state) own refl (ap only_asked no_dry_run))
+  decrypted_is d given plaintext (Some why) is right named old opens_to allowed live state fit no_recipient no_dry_run =
       ap (λ (wanted : Result Outcome Refusal). (decided_by wanted view.places).reply)
-      (stops_at_state view (decrypts view d) (source d.blob) why (source_is d.key_id d.blob right named) allowed (ap (λ (o : Option Refusal). or_else o None) state))
+      (stops_at_state view (decrypts view d) (source given d.blob) why (source_is d.key_id given d.blob is right named) allowed live (ap (λ (o : Option Refusal). or_else o None) state))
 
 decrypt_reply : (facts : RealmFacts) (history : List Entry) (y : Ask) (places : Places) (d : Decrypt) → lacking (length history) y.after ≡ None → y.body ≡ ask.Read (reading.Decrypt d)
     → reply_to facts history y places ≡ (decided_by (outcome (view_of facts history y places) (decrypts (view_of facts history y places) d)) places).reply
@@ -227,12 +206,11 @@ decrypt_reply facts history y places d enough body =
     ∙ ap (λ (b : AskBody). (decided_by (body_outcome facts history y places b) places).reply) body
 
 -- who may decrypt under the key is allowed it
-may_open : (view : View) (d : Decrypt) (row : KeyRow) (context : List Pair) → AreIdentityPolicies (callers_policies view.facts.identities view.caller) → d.context ≡ context
-    → MayAsk view (record { action = action.Decrypt; key = Some row; particulars = of_context context })
-    → denied view (record { action = action.Decrypt; key = Some row; particulars = of_context d.context } ∷ []) ≡ None
-may_open view d row context kinds same may =
-    ap (λ (pairs : List Pair). denied view (record { action = action.Decrypt; key = Some row; particulars = of_context pairs } ∷ [])) same
-    ∙ ap (λ (o : Option Refusal). or_else o None) ((one_passes view (record { action = action.Decrypt; key = Some row; particulars = of_context context }) kinds).1 may)
+may_open : (view : View) (d : Decrypt) (row : KeyRow) (alias : Option (List ℕ)) (context : List Pair) → AreIdentityPolicies (callers_policies view.facts.identities view.caller) → d.context ≡ context
+    → MayAsk view (on_key action.Decrypt row (of_context view row.key alias context)) → denied view (on_key action.Decrypt row (of_context view row.key alias d.context) ∷ []) ≡ None
+may_open view d row alias context kinds same may =
+    ap (λ (pairs : List Pair). denied view (on_key action.Decrypt row (of_context view row.key alias pairs) ∷ [])) same
+    ∙ ap (λ (o : Option Refusal). or_else o None) ((one_passes view kinds (on_key action.Decrypt row (of_context view row.key alias context))).1 may)
 
 live_of : (moment : ℕ) (o : Option KeyRow) (row : KeyRow) → unless_gone moment o ≡ Some row → is_gone moment row ≡ false
 live_of moment (Some found) row e = by_test (is_gone moment found) refl e
@@ -264,10 +242,10 @@ decrypted_again facts history more x y places other_places s lawful proper seale
     let named : named_in d.blob ≡ Some (record { key = later.key; version = newest_version is.row }) =
     ap named_in blob_is ∙ made.named ∙ ap (λ (key : List ℕ). Some (record { key = key; version = newest_version is.row })) (sym id) in
     let state = by_state view later (newest_version is.row) held later.stored refl (live_of view.moment (key_with view.keys (name_in s.blob).key) later asks.is_held) in
-    let answer = decrypted_is view later (newest_version is.row) held d s.plaintext (exception_of (arn_of facts later.key) later.stored)
-    (subst (NoneOrNames facts d.key_id) (sym named_key) asks.right_key) named grows
+    let answer = decrypted_is view later (newest_version is.row) held d asks.named s.plaintext (exception_of (arn_of facts later.key) later.stored)
+    asks.is_named (ap (other_key asks.named) named_key ∙ asks.right_key) named grows
     (ap (λ (b : List ℕ). opened facts.root b d.context) blob_is ∙ ap (opened facts.root (seals facts is.row s.context s.plaintext places)) asks.same_context ∙ made.opens_to)
-    (may_open view d later s.context kinds asks.same_context asks.may) state asks.fit asks.no_recipient asks.no_dry_run in
+    (may_open view d later (alias_of asks.named) s.context kinds asks.same_context asks.may) asks.live_tokens state asks.fit asks.no_recipient asks.no_dry_run in
     decrypt_reply facts (history ++ more) y other_places d asks.there asks.body
     ∙ answer
     ∙ ap (λ (arn : List ℕ). unless_excepted (exception_of arn later.stored) (reply.Decrypted s.plaintext arn)) (ap (arn_of facts) id ∙ sym is.arn)

@@ -1,6 +1,6 @@
 -- What a served sealing says: its key, its blob, its initialization vector and where it leaves the pass.
 use Rattle.std.proofs.Common.{◌≡◌, ℕ, ◌+◌, ◌-◌, ◌<◌, ◌≤◌, ◌^◌, ◌&&◌, List, length, Bool, true, false, Option, Some, None, Result, Ok, Err, refl, sym, ap, ◌∙◌, subst, if◌then◌else◌, nat_le, nat_lt, leb-true, arith, length-take, length-drop}
-use Rattle.std.specs.Prelude.{slice_range, ok_or}
+use Rattle.std.specs.Prelude.{slice_range, ok_or, option_and_then}
 use Rattle.std.proofs.lemmas.Bool.Decides.{nat_tests}
 use Rattle.draw_lines.proofs.DrawFacts.{draw_length}
 use Rattle.enc_context.specs.declared.pairs.Pair.{Pair}
@@ -32,9 +32,12 @@ use Rattle.account_core.specs.Places.{Places}
 use Rattle.account_core.specs.Blobs.{BlobName, name_in, named_in, has_form}
 use Rattle.account_rows.specs.History.{replay, key_with}
 use Rattle.account_core.specs.Source.{Source}
-use Rattle.account_core.specs.View.{View, view_of, unless_gone, key_held}
+use Rattle.alias_map.specs.declared.rows.AliasRow.{AliasRow}
+use Rattle.alias_map.specs.Aliases.{row_named}
+use Rattle.account_core.specs.declared.checks.Named.{Named}
+use Rattle.account_core.specs.View.{View, view_of, unless_gone, key_held, aliased}
 use Rattle.account_rows.specs.Changes.{is_gone}
-use Rattle.account_core.specs.Steps.{unless, or_else, and_then, unfit, key_referred, reference_of, key_of, key_if_given, blob_name, other_key, held_key, source_in, source_of, newest_version, opens, seals, draws, arn_of}
+use Rattle.account_core.specs.Steps.{unless, or_else, and_then, unfit, named_by_id, named_by, named_by_alias, key_of_alias, alias_of, key_referred, reference_of, key_of, key_if_given, blob_name, other_key, held_key, source_in, source_of, newest_version, opens, seals, draws, arn_of}
 use Rattle.account_core.specs.Parts.{Outcome, takes, limited, spent, no_more_draws, no_more_ivs, after}
 use Rattle.account_core.specs.Crypto.{one_iv, words_and_iv, encrypts, re_encrypts, generates_data_key, generates_sealed_data_key}
 use Rattle.account_core.specs.Decide.{decide, IsProper}
@@ -54,21 +57,36 @@ there_of moment (Some found) row e = by_test (is_gone moment found) e
     by_test false e = e
 there_of moment None row e = cc
 
--- the key that a text refers to is there
-referred : (view : View) (alias : Refusal) (reference : Result KeyRef NameFault) (row : KeyRow) → key_referred view alias reference ≡ Ok row → key_with view.keys row.key ≡ Some row
-referred view alias (Ok (Key id)) row e =
-    let found = there_of view.moment (key_with view.keys id) row (ok_of (key_held view id) (refusal.NotFound missing.Key) row e) in
+held_there : (view : View) (id : List ℕ) (row : KeyRow) → key_held view id ≡ Some row → key_with view.keys row.key ≡ Some row
+held_there view id row e =
+    let found = there_of view.moment (key_with view.keys id) row e in
     subst (λ (key : List ℕ). key_with view.keys key ≡ Some row) (sym (found_key view.keys id row found)) found
-referred view alias (Ok (Alias name)) row e = cc
-referred view alias (Ok Elsewhere) row e = cc
-referred view alias (Err fault.BadArn) row e = cc
-referred view alias (Err fault.BadAlias) row e = cc
-referred view alias (Err fault.BadId) row e = cc
-referred view alias (Err fault.NoMemory) row e = cc
 
-key_there : (view : View) (reference : List ℕ) (row : KeyRow) → key_of view reference ≡ Ok row → key_with view.keys row.key ≡ Some row
+aliased_there : (view : View) (o : Option AliasRow) (row : KeyRow) → option_and_then (λ (a : AliasRow). key_held view a.key) o ≡ Some row → key_with view.keys row.key ≡ Some row
+aliased_there view (Some a) row e = held_there view a.key row e
+aliased_there view None row e = cc
+
+abbrev IsThere : View → Named → Type 0
+IsThere view named = key_with view.keys named.row.key ≡ Some named.row
+
+-- the key that a text refers to is there
+referred : (view : View) (reference : Result KeyRef NameFault) (named : Named) → key_referred view named_by_id (named_by_alias view) reference ≡ Ok named → IsThere view named
+referred view (Ok (Key id)) named e =
+    let row = found_of (ok_or (key_held view id) (refusal.NotFound missing.Key)) (λ (r : KeyRow). Ok (named_by_id r)) named e in
+    subst (IsThere view) (ok_same (named_by_id row.value) named row.came) (held_there view id row.value (ok_of (key_held view id) (refusal.NotFound missing.Key) row.value row.is))
+referred view (Ok (Alias name)) named e =
+    let row = found_of (key_of_alias view name) (λ (r : KeyRow). Ok (named_by name r)) named e in
+    subst (IsThere view) (ok_same (named_by name row.value) named row.came)
+    (aliased_there view (row_named view.aliases name) row.value (ok_of (aliased view name) (refusal.NotFound missing.Alias) row.value row.is))
+referred view (Ok Elsewhere) named e = cc
+referred view (Err fault.BadArn) named e = cc
+referred view (Err fault.BadAlias) named e = cc
+referred view (Err fault.BadId) named e = cc
+referred view (Err fault.NoMemory) named e = cc
+
+key_there : (view : View) (reference : List ℕ) (named : Named) → key_of view reference ≡ Ok named → IsThere view named
 unfolding key_of
-key_there view reference row e = referred view (refusal.NotFound missing.Alias) (reference_of view.facts reference) row e
+key_there view reference named e = referred view (reference_of view.facts reference) named e
 
 -- ---- an initialization vector that is left
 
@@ -122,15 +140,15 @@ record IsSourceOf (blob : List ℕ) (source : Source) : Type 0 where
 source_named : (view : View) (op : Action) (reference : Option (List ℕ)) (blob : List ℕ) (source : Source)
     → source_of view op reference blob ≡ Ok source → IsSourceOf blob source
 source_named view op reference blob source e =
-    let compared : Option KeyRow → BlobName → Result Source Refusal = λ named name. unless (other_key named name.key) (source_in view op blob name) in
-    let given = found_of (key_if_given view reference) (λ (named : Option KeyRow). and_then (blob_name blob) (compared named)) source e in
+    let compared : Option Named → BlobName → Result Source Refusal = λ named name. unless (other_key named name.key) (source_in view op (alias_of named) blob name) in
+    let given = found_of (key_if_given view reference) (λ (named : Option Named). and_then (blob_name blob) (compared named)) source e in
     let name = found_of (blob_name blob) (compared given.value) source given.came in
-    let same = next_of (other_key given.value name.value.key) (source_in view op blob name.value) source name.came in
-    let held = found_of (held_key view op name.value.key) (λ (row : KeyRow). Ok (record { row = row; version = name.value.version; bytes = blob })) source same in
+    let same = next_of (other_key given.value name.value.key) (source_in view op (alias_of given.value) blob name.value) source name.came in
+    let held = found_of (held_key view op name.value.key) (λ (row : KeyRow). Ok (record { row = row; alias = alias_of given.value; version = name.value.version; bytes = blob })) source same in
     record {
       name = name.value;
       named = ok_of (named_in blob) refusal.InvalidCiphertext name.value name.is;
-      bytes = sym (ap (λ (s : Source). s.bytes) (ok_same (record { row = held.value; version = name.value.version; bytes = blob }) source held.came));
+      bytes = sym (ap (λ (s : Source). s.bytes) (ok_same (record { row = held.value; alias = alias_of given.value; version = name.value.version; bytes = blob }) source held.came));
     }
 
 draws_size : (facts : RealmFacts) (size : ℕ) (places : Places) → length (draws facts size places) ≡ size
@@ -185,17 +203,17 @@ module _ (facts : RealmFacts) (history : List Entry) (x : Ask) (places : Places)
 
   -- the turning's keys, and what it opens to
   record HasTurned (r : ReEncrypt) (turning : Turning) : Type 0 where
-    there : key_with view.keys turning.row.key ≡ Some turning.row
+    there : IsThere view turning.to
     source : IsSourceOf r.blob turning.source
 
   turning_is : (r : ReEncrypt) (turning : Turning) → (re_encrypts view r).found ≡ Ok turning → HasTurned r turning
   turning_is r turning e =
-      let made : Source → KeyRow → Result Turning Refusal = λ source row. Ok (record { source = source; row = row }) in
+      let made : Source → Named → Result Turning Refusal = λ source to. Ok (record { source = source; to = to }) in
       let source = found_of (source_of view action.ReEncryptFrom r.source_key_id r.blob) (λ (s : Source). and_then (key_of view r.key_id) (made s)) turning e in
-      let row = found_of (key_of view r.key_id) (made source.value) turning source.came in
-      let same : ◌≡◌ {A = Turning} (record { source = source.value; row = row.value }) turning = ok_same (record { source = source.value; row = row.value }) turning row.came in
+      let to = found_of (key_of view r.key_id) (made source.value) turning source.came in
+      let same : ◌≡◌ {A = Turning} (record { source = source.value; to = to.value }) turning = ok_same (record { source = source.value; to = to.value }) turning to.came in
       subst (HasTurned r) same (record {
-        there = key_there view r.key_id row.value row.is;
+        there = key_there view r.key_id to.value to.is;
         source = source_named view action.ReEncryptFrom r.source_key_id r.blob source.value source.is;
       })
 
@@ -214,11 +232,11 @@ is_sealed facts history x places s (encrypted e blob arn body replied) =
     let seen = view_of facts history x places in
     let served = serves_of facts history x places (reading.Encrypt e) (reply.Encrypted blob arn) body (λ why same. cc) replied in
     let p = passed seen (encrypts seen e) served.out served.is in
-    let came : reply.Encrypted (seals facts p.found e.context e.plaintext places) (arn_of facts p.found.key) ≡ reply.Encrypted blob arn =
+    let came : reply.Encrypted (seals facts p.found.row e.context e.plaintext places) (arn_of facts p.found.row.key) ≡ reply.Encrypted blob arn =
     ap (λ (o : Outcome). o.reply) p.outcome_is ∙ served.reply_is in
     let one = leaves_one facts history x places (reading.Encrypt e) (reply.Encrypted blob arn) one_iv served refl p.left (ap (λ (o : Outcome). o.effect) p.outcome_is) in
     record {
-      row = p.found;
+      row = p.found.row;
       there = key_there seen e.key_id p.found p.found_is;
       blob = cc;
       arn = cc;
@@ -231,16 +249,16 @@ is_sealed facts history x places s (re_encrypted r blob plaintext arn source_arn
     let seen = view_of facts history x places in
     let served = serves_of facts history x places (reading.ReEncrypt r) (reply.ReEncrypted blob arn source_arn) body (λ why same. cc) replied in
     let p = passed seen (re_encrypts seen r) served.out served.is in
-    let came : reply.ReEncrypted (seals facts p.found.row r.context p.ready places) (arn_of facts p.found.row.key) (arn_of facts p.found.source.row.key) ≡ reply.ReEncrypted blob arn source_arn =
+    let came : reply.ReEncrypted (seals facts p.found.to.row r.context p.ready places) (arn_of facts p.found.to.row.key) (arn_of facts p.found.source.row.key) ≡ reply.ReEncrypted blob arn source_arn =
     ap (λ (o : Outcome). o.reply) p.outcome_is ∙ served.reply_is in
     let one = leaves_one facts history x places (reading.ReEncrypt r) (reply.ReEncrypted blob arn source_arn) one_iv served refl p.left (ap (λ (o : Outcome). o.effect) p.outcome_is) in
     let turns = turning_is facts history x places r p.found p.found_is in
     let same = turned facts history x places r p.found p.ready plaintext turns p.own_is opens_to in
-    let blob_is : blob ≡ seals facts p.found.row r.context p.ready places = cc in
+    let blob_is : blob ≡ seals facts p.found.to.row r.context p.ready places = cc in
     record {
-      row = p.found.row;
+      row = p.found.to.row;
       there = turns.there;
-      blob = blob_is ∙ ap (λ (t : List ℕ). seals facts p.found.row r.context t places) (sym same);
+      blob = blob_is ∙ ap (λ (t : List ℕ). seals facts p.found.to.row r.context t places) (sym same);
       arn = cc;
       few = one.few;
       number = one.number;
@@ -251,15 +269,15 @@ is_sealed facts history x places s (data_key key recipient blob plaintext arn bo
     let seen = view_of facts history x places in
     let served = serves_of facts history x places (reading.GenerateDataKey key recipient) (reply.DataKey blob plaintext arn) body (λ why same. cc) replied in
     let p = passed seen (generates_data_key seen key recipient) served.out served.is in
-    let came : reply.DataKey (seals facts p.found key.context (draws facts key.size places) places) (draws facts key.size places) (arn_of facts p.found.key) ≡ reply.DataKey blob plaintext arn =
+    let came : reply.DataKey (seals facts p.found.row key.context (draws facts key.size places) places) (draws facts key.size places) (arn_of facts p.found.row.key) ≡ reply.DataKey blob plaintext arn =
     ap (λ (o : Outcome). o.reply) p.outcome_is ∙ served.reply_is in
     let one = leaves_one facts history x places (reading.GenerateDataKey key recipient) (reply.DataKey blob plaintext arn) (words_and_iv key.size) served refl p.left (ap (λ (o : Outcome). o.effect) p.outcome_is) in
-    let blob_is : blob ≡ seals facts p.found key.context (draws facts key.size places) places = cc in
+    let blob_is : blob ≡ seals facts p.found.row key.context (draws facts key.size places) places = cc in
     let drawn : plaintext ≡ draws facts key.size places = cc in
     record {
-      row = p.found;
+      row = p.found.row;
       there = key_there seen key.key_id p.found p.found_is;
-      blob = blob_is ∙ ap (λ (t : List ℕ). seals facts p.found key.context t places) (sym drawn);
+      blob = blob_is ∙ ap (λ (t : List ℕ). seals facts p.found.row key.context t places) (sym drawn);
       arn = cc;
       few = one.few;
       number = one.number;
@@ -270,11 +288,11 @@ is_sealed facts history x places s (sealed_data_key key blob arn body replied) =
     let seen = view_of facts history x places in
     let served = serves_of facts history x places (reading.GenerateDataKeyWithoutPlaintext key) (reply.SealedDataKey blob arn) body (λ why same. cc) replied in
     let p = passed seen (generates_sealed_data_key seen key) served.out served.is in
-    let came : reply.SealedDataKey (seals facts p.found key.context (draws facts key.size places) places) (arn_of facts p.found.key) ≡ reply.SealedDataKey blob arn =
+    let came : reply.SealedDataKey (seals facts p.found.row key.context (draws facts key.size places) places) (arn_of facts p.found.row.key) ≡ reply.SealedDataKey blob arn =
     ap (λ (o : Outcome). o.reply) p.outcome_is ∙ served.reply_is in
     let one = leaves_one facts history x places (reading.GenerateDataKeyWithoutPlaintext key) (reply.SealedDataKey blob arn) (words_and_iv key.size) served refl p.left (ap (λ (o : Outcome). o.effect) p.outcome_is) in
     record {
-      row = p.found;
+      row = p.found.row;
       there = key_there seen key.key_id p.found p.found_is;
       blob = cc;
       arn = cc;

@@ -14,5 +14,9 @@ mod Asking
 mod Refusing
 mod Referring
 pub mod PageFacts
+mod ListFacts
+mod TokenFacts
+mod PrincipalFacts
+mod Retiring
 mod LawSealings
 pub mod LawFacts

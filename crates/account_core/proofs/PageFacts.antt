@@ -273,8 +273,8 @@ module _ {A B : Type 0} (born : A → ℕ) (rows : List A) (listed : A → Bool)
         split = taken_next is ∙ regroup so_far.done row (rows_behind born (Some (born row)) all);
         last_is = ap (option_map born) (sym (last_pushed None so_far.done row));
         few = let n = length_pushed so_far.done row in
-              let m = ap length so_far.are ∙ same_length so_far.done in
-              below (length so_far.done) so_far.few (λ e. few (m ∙ e)) n;
+            let m = ap length so_far.are ∙ same_length so_far.done in
+            below (length so_far.done) so_far.few (λ e. few (m ∙ e)) n;
       }
         where
           below : (n : ℕ) → n ≤ limit → (n ≡ limit → ⊥) → length (so_far.done ++ row ∷ []) ≡ suc n → length (so_far.done ++ row ∷ []) ≤ limit

@@ -104,12 +104,13 @@ module _ {F R : Type 0} (view : View) (parts : Parts F R) where
         outcome_is = ok_same (given first.value own.value) o (next_of (only_asked parts.dry_run) (Ok (given first.value own.value)) o earnest);
       }
 
-  pub goes_through : (found : F) (ready : R) → parts.found ≡ Ok found → denied view (parts.questions found) ≡ None → unfit_state view (parts.uses found) ≡ None → parts.own found ≡ Ok ready → limited view (parts.effect found ready) ≡ None → only_asked parts.dry_run ≡ None
+  pub goes_through : (found : F) (ready : R) → parts.found ≡ Ok found → denied view (parts.questions found) ≡ None → dead_token view parts.tokens ≡ None → unfit_state view (parts.uses found) ≡ None → parts.own found ≡ Ok ready → limited view (parts.effect found ready) ≡ None → only_asked parts.dry_run ≡ None
       → outcome view parts ≡ Ok (record { reply = parts.reply found ready; effect = parts.effect found ready })
-  goes_through found ready found_is allowed fit own_is left in_earnest =
+  goes_through found ready found_is allowed live fit own_is left in_earnest =
       let rest : F × R → Result Outcome Refusal = λ p. unless (limited view (parts.effect p.0 p.1)) (asked p) in
       ap (λ (f : Result F Refusal). and_then (and_then f (λ (v : F). unless (denied view (parts.questions v)) (live_of v))) rest) found_is
       ∙ ap (λ (o : Option Refusal). and_then (unless o (live_of found)) rest) allowed
+      ∙ ap (λ (o : Option Refusal). and_then (unless o (fit_of found)) rest) live
       ∙ ap (λ (o : Option Refusal). and_then (unless o (own_of found)) rest) fit
       ∙ ap (λ (r : Result R Refusal). and_then (and_then r (λ (v : R). Ok (found, v))) rest) own_is
       ∙ ap (λ (o : Option Refusal). unless o (asked (found, ready))) left
@@ -123,11 +124,12 @@ module _ {F R : Type 0} (view : View) (parts : Parts F R) where
       ∙ one_of_two (limited view (parts.effect found ready)) (only_asked parts.dry_run) (Ok (given found ready))
 
   -- a key's state refuses
-  pub stops_at_state : (found : F) (why : Refusal) → parts.found ≡ Ok found → denied view (parts.questions found) ≡ None → unfit_state view (parts.uses found) ≡ Some why → outcome view parts ≡ Err why
-  stops_at_state found why found_is allowed unfit =
+  pub stops_at_state : (found : F) (why : Refusal) → parts.found ≡ Ok found → denied view (parts.questions found) ≡ None → dead_token view parts.tokens ≡ None → unfit_state view (parts.uses found) ≡ Some why → outcome view parts ≡ Err why
+  stops_at_state found why found_is allowed live unfit =
       let rest : F × R → Result Outcome Refusal = λ p. unless (limited view (parts.effect p.0 p.1)) (asked p) in
       ap (λ (f : Result F Refusal). and_then (and_then f (λ (v : F). unless (denied view (parts.questions v)) (live_of v))) rest) found_is
       ∙ ap (λ (o : Option Refusal). and_then (unless o (live_of found)) rest) allowed
+      ∙ ap (λ (o : Option Refusal). and_then (unless o (fit_of found)) rest) live
       ∙ ap (λ (o : Option Refusal). and_then (unless o (own_of found)) rest) unfit
 
 -- ---- a decision that serves

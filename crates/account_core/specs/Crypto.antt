@@ -21,6 +21,7 @@ use Rattle.account_core.specs.Steps.{unless, and_then, unfit, unsupported, key_o
 use Rattle.account_core.specs.Authority.{on_key, on_other, of_none, of_named}
 use Rattle.account_core.specs.View.{View}
 use Rattle.account_core.specs.declared.checks.Named.{Named}
+use Rattle.enc_context.specs.declared.pairs.Pair.{Pair}
 use Rattle.authority.specs.Setting.{Particulars}
 use Rattle.account_core.specs.Parts.{Parts, takes}
 

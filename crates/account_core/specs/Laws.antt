@@ -29,7 +29,9 @@ use Rattle.key_states.specs.declared.rows.KeyRow.{KeyRow}
 use Rattle.account_core.specs.Ids.{key_id_at}
 use Rattle.account_core.specs.Places.{Places, IsUpTo}
 use Rattle.account_core.specs.Blobs.{BlobName, name_in, named_in}
-use Rattle.account_rows.specs.History.{housekeeping_of}
+use Rattle.account_rows.specs.declared.entries.What.TheVariants as what
+use Rattle.grant_table.specs.Grants.{grant_with}
+use Rattle.account_rows.specs.History.{replay, housekeeping_of}
 use Rattle.account_core.specs.View.{View, view_of, key_held}
 use Rattle.account_core.specs.Steps.{unfit, draws, key_if_given, other_key, alias_of}
 use Rattle.account_core.specs.declared.checks.Named.{Named}
@@ -157,6 +159,12 @@ abbrev pub HouseIsKeptOnce : Type 0
 HouseIsKeptOnce =
     (facts : RealmFacts) (history : List Entry) (clock : ℕ) (entry : Entry) → IsLawful facts history → housekeeping_of history clock ≡ Some entry
     → housekeeping_of (history ++ entry ∷ []) clock ≡ None
+
+-- a grant that an entry of a lawful history drops stays away: at that history, and at every lawful one that begins with it, no grant has its id
+abbrev pub DroppedGrantsStayAway : Type 0
+DroppedGrantsStayAway =
+    (facts : RealmFacts) (history more : List Entry) (entry : Entry) (grant : List ℕ) → IsLawful facts ((history ++ entry ∷ []) ++ more) → entry.what ≡ what.GrantDrop grant
+    → grant_with (replay ((history ++ entry ∷ []) ++ more)).grants grant ≡ None
 
 -- ---- authority
 

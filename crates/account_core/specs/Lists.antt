@@ -37,7 +37,7 @@ use Rattle.account_core.specs.Places.{nothing_used}
 use Rattle.account_core.specs.Steps.{and_then, only_key_of}
 use Rattle.account_core.specs.Authority.{on_key, on_other, of_none, of_key}
 use Rattle.account_core.specs.View.{View, key_held, is_live}
-use Rattle.account_core.specs.Pages.{Part, part_of, behind_marker}
+use Rattle.account_core.specs.Pages.{Part, part_of, behind_marker, PartsMakeTheWhole}
 use Rattle.account_core.specs.Parts.{Parts, takes}
 use Rattle.account_core.specs.Grants.{principal_in, principal_if_given, grant_id_in}
 
@@ -116,6 +116,16 @@ grant_page view part = reply.Grants (record { account = view.facts.account; regi
 
 abbrev pub rotation_page : KeyRow → Part Numbered → Reply
 rotation_page row part = reply.Rotations (record { key = row.key; rotations = map shown_rotation part.rows; next = part.next })
+
+-- ---- the law
+
+-- the parts of each list of a view, joined, are all of its rows behind the place where they begin
+pub record PartsOfListsMakeTheWhole (view : View) : Type 0 where
+  pub keys : PartsMakeTheWhole (λ (row : KeyRow). row.born) (listed_keys view)
+  pub aliases : (key : Option (List ℕ)) → PartsMakeTheWhole (λ (row : AliasRow). row.born) (listed_aliases view key)
+  pub retirable : (retiring : Principal) → PartsMakeTheWhole (λ (grant : GrantRow). grant.born) (retirable_grants view retiring)
+  pub grants : (key : List ℕ) (sought : Sought) → PartsMakeTheWhole (λ (grant : GrantRow). grant.born) (grants_of_key view key sought)
+  pub rotations : (row : KeyRow) → PartsMakeTheWhole (λ (numbered : Numbered). numbered.number) (rotations_of row)
 
 -- ---- lists of the account
 

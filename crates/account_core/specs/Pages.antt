@@ -1,26 +1,21 @@
 -- Parts of lists (AWS KMS API Reference, the members Limit, Marker, NextMarker and Truncated of ListKeys and its kin).
-use Rattle.std.specs.Prelude.{◌≡◌, ℕ, ◌<◌, ◌≤◌, List, [], ◌++◌, length, take, filter, Bool, ◌&&◌, nat_lt, nat_le, if◌then◌else◌, Option, Some, None, option_map, Result, Ok, Err, AllPairs}
-use Rattle.std.specs.List.{list_all, last_or}
-use Rattle.std.specs.Char.{is_ascii_digit}
-use Rattle.std.specs.Str.Parse.{digits_value}
+use Rattle.std.specs.Prelude.{◌≡◌, ℕ, ◌<◌, ◌≤◌, List, [], ◌++◌, length, take, filter, nat_lt, if◌then◌else◌, Option, Some, None, option_map, Result, Ok, Err, AllPairs}
+use Rattle.std.specs.List.{last_or}
+use Rattle.http_front.specs.Digits.{number_in}
 use Rattle.kms_names.specs.Place.{is_behind}
 use Rattle.kms_json.specs.declared.refusals.Refusal.{Refusal}
 use Rattle.kms_json.specs.declared.refusals.Refusal.TheVariants as refusal
 
 -- ---- the marker
 
--- the number that 1 to 18 decimal digits write
-abbrev pub place_of : List ℕ → Option ℕ
-place_of text = if nat_lt 0 (length text) && (nat_le (length text) 18 && list_all is_ascii_digit text) then Some (digits_value 10 text) else None
-
 abbrev pub behind_place : Option ℕ → Result (Option ℕ) Refusal
 behind_place None = Err refusal.InvalidMarker
 behind_place (Some place) = Ok (Some place)
 
--- the place behind which the part begins, where a marker is given
+-- the place behind which the part begins, where a marker is given: a number of 1 to 18 decimal digits
 abbrev pub behind_marker : Option (List ℕ) → Result (Option ℕ) Refusal
 behind_marker None = Ok None
-behind_marker (Some text) = behind_place (place_of text)
+behind_marker (Some text) = behind_place (number_in 18 text)
 
 -- ---- the part
 

@@ -1,6 +1,6 @@
 -- The steps of a decision in their order. Each operation says its own parts of them; the order is written here alone.
-use Rattle.std.specs.Prelude.{ℕ, ◌+◌, ◌^◌, List, [], ◌∷◌, length, filter, ◌&&◌, nat_le, nat_lt, Bool, if◌then◌else◌, Option, Some, None, is_some, option_and_then, Result, Ok, Err}
-use Rattle.std.specs.List.{list_all}
+use Rattle.std.specs.Prelude.{ℕ, ◌+◌, ◌^◌, List, [], ◌∷◌, length, filter, ◌&&◌, nat_le, nat_lt, Bool, if◌then◌else◌, Option, Some, None, is_some, is_none, option_and_then, Result, Ok, Err}
+use Rattle.std.specs.List.{list_any}
 use Rattle.std.specs.Result.{result_ok}
 use Rattle.std.specs.Str.{bytes_eq}
 use Rattle.hex.specs.Hex.{encode_lower, decode_sized}
@@ -68,9 +68,12 @@ grant_id_of text = if_written text (result_ok (decode_sized text 32))
 abbrev pub grant_of_token : View → List ℕ → Option GrantRow
 grant_of_token view token = option_and_then (grant_held view) (grant_id_of token)
 
--- the refusal of tokens, unless each is that of a live grant
+unfoldable pub is_dead : View → List ℕ → Bool
+is_dead view token = is_none (grant_of_token view token)
+
+-- the refusal of tokens where one is that of no live grant
 abbrev pub dead_token : View → List (List ℕ) → Option Refusal
-dead_token view tokens = if list_all (λ (token : List ℕ). is_some (grant_of_token view token)) tokens then None else Some refusal.InvalidGrantToken
+dead_token view tokens = if list_any (is_dead view) tokens then Some refusal.InvalidGrantToken else None
 
 -- ---- key states
 

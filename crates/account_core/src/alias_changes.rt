@@ -6,6 +6,7 @@ use crate::checks::{key_of_alias, only_key_of};
 use crate::particulars::{of_key, of_none};
 use crate::parts::{Changes, Made, Operation, refuse};
 use crate::stops::Stop;
+use crate::texts::LentText;
 use crate::view::View;
 use account_rows::{Entry, Lent, What};
 use kms_json::{Refusal, Reply};
@@ -16,13 +17,9 @@ use std::alloc::Global;
 #[derive(Drop)]
 pub enum AliasChange<'a> {
     /// It is made, to name the key that this text refers to.
-    Create {
-        key_id: &'a Text,
-    },
+    Create { key_id: LentText<'a> },
     /// It names from now on the key that this text refers to.
-    Update {
-        key_id: &'a Text,
-    },
+    Update { key_id: LentText<'a> },
     /// It is deleted.
     Delete,
 }
@@ -95,7 +92,7 @@ impl<'a> ChangingAlias<'a> {
     fn taken(&self) -> Option<Refusal>
         ensures { result ≡ taken self.now.view.now self.now.name.now self.now.change }
     {
-        match self.change {
+        match &self.change {
             AliasChange::Create { .. } if self.view.aliased(self.name).is_some() => {
                 Some(Refusal::AlreadyExists)
             }
@@ -132,15 +129,15 @@ impl<'a> Operation for ChangingAlias<'a> {
     }
 
     fn find(&self, alloc: Global) -> Result<Moving<'a>, Stop> {
-        let old = match self.change {
+        let old = match &self.change {
             AliasChange::Create { .. } => None,
             AliasChange::Update { .. } | AliasChange::Delete => {
                 Some(key_of_alias(self.view, self.name)?)
             }
         };
-        let new = match self.change {
+        let new = match &self.change {
             AliasChange::Create { key_id } | AliasChange::Update { key_id } => {
-                Some(only_key_of(alloc, self.view, key_id)?)
+                Some(only_key_of(alloc, self.view, key_id.text())?)
             }
             AliasChange::Delete => None,
         };

@@ -79,10 +79,7 @@ fn key_named<'a>(view: &View<'a>, reference: Result<KeyRef, NameFault>) -> Resul
 }
 
 // The key that a text refers to; an alias is refused.
-fn only_key<'a>(
-    view: &View<'a>,
-    reference: &Result<KeyRef, NameFault>,
-) -> Result<Lent<'a>, Stop>
+fn only_key<'a>(view: &View<'a>, reference: &Result<KeyRef, NameFault>) -> Result<Lent<'a>, Stop>
     ensures { Gives (key_referred view.now (λ row. row) (λ _. Err refusal.InvalidArn) reference.now) result }
 {
     let found = match reference {

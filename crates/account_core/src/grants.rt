@@ -1,5 +1,7 @@
 // The operations on grants: CreateGrant, RetireGrant and RevokeGrant.
-ghost use Rattle.std.specs.Prelude.{◌≡◌, IfOk};
+ghost use Rattle.std.specs.Prelude.{◌≡◌, [], Some, IfOk, option_map, unwrap_or};
+ghost use Rattle.kms_json.specs.declared.replies.Reply.TheVariants as reply;
+ghost use Rattle.account_rows.specs.declared.entries.What.TheVariants as what;
 ghost use Rattle.account_core.specs.Steps.{Gives};
 ghost use Rattle.account_core.specs.Grants.{constraint_of, pairs_of, principal_in, principal_if_given, grant_id_in, grant_of, creates_grant, retires_grant, revokes_grant};
 
@@ -44,8 +46,9 @@ pub fn principal_in(alloc: Global, text: &Text) -> Result<Principal, Stop>
 {
     match read_principal(alloc, text.as_str()) {
         Ok(principal) => Ok(principal),
+        Err(NameFault::BadArn) => Err(Stop::Refused(Refusal::InvalidArn)),
+        Err(NameFault::BadAlias | NameFault::BadId) => Err(Stop::Refused(Refusal::InvalidArn)),
         Err(NameFault::NoMemory) => Err(Stop::NoMemory),
-        Err(_) => Err(Stop::Refused(Refusal::InvalidArn)),
     }
 }
 
@@ -118,9 +121,10 @@ pub fn creating_grant<'a>(
 }
 
 impl<'a> CreatingGrant<'a> {
-    ghost use Rattle.std.specs.Prelude.{◌≡◌, IfOk, option_map};
-    ghost use Rattle.account_core.specs.Grants.{same_grant, of_grant, made_unless, id_or};
-    ghost use Rattle.account_core.specs.Settling.{effect_with};
+    ghost use Rattle.std.specs.Prelude.{◌≡◌, IfOk, None, option_map};
+    ghost use Rattle.account_core.specs.Ids.{grant_id_at};
+    ghost use Rattle.account_core.specs.Parts.{appends};
+    ghost use Rattle.account_core.specs.Grants.{same_grant, of_grant, made_unless};
 
     // What the request says of itself.
     fn said<'b>(&'b self, found: &'b Granting<'a>) -> Particulars<'b>
@@ -158,7 +162,7 @@ impl<'a> CreatingGrant<'a> {
     // The grant that is made.
     fn added(&self, found: Granting<'a>, grant: GrantId) -> Result<Entry, NoMemory>
         requires { grant ≡ grant_id_at self.now.view.now.facts self.now.view.now.place }
-        ensures { IfOk result (λ entry. appends entry ≡ made_unless None self.now.view.now self.now.x.now found) }
+        ensures { IfOk result (λ entry. appends entry ≡ made_unless None self.now.view.now self.now.x.now found.entry) }
     {
         let name = match &self.x.name {
             Some(name) => Some(name.copy()?),
@@ -302,7 +306,7 @@ impl<'a> Operation for RetiringGrant<'a> {
 
 // A grant is dropped.
 fn dropped(time: u64, grant: &LentGrant<'_>) -> Made
-    ensures { result ≡ record { reply = Done; entry = Some (record { time = time; what = GrantDrop grant.now.grant }) } }
+    ensures { result ≡ record { reply = reply.Done; entry = Some (record { time = time; what = what.GrantDrop grant.now.grant }) } }
 {
     Made {
         reply: Reply::Done,

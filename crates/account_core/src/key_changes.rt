@@ -54,7 +54,7 @@ impl KeyChange {
 
     // What it says to conditions, beside the key.
     fn said<'a>(self, of_key: Particulars<'a>) -> Particulars<'a>
-        ensures { result ≡ said_of self of_key }
+        ensures { result ≡ said_of self of_key.entry }
     {
         match self {
             KeyChange::ScheduleDeletion { days } => Particulars {
@@ -155,9 +155,7 @@ impl<'a> Operation for ChangingKey<'a> {
 
     fn authorize(&self, alloc: Global, found: &Lent<'a>) -> Result<(), Stop> {
         let action = self.change.action();
-        let said = self
-            .change
-            .said(of_key(self.view, &found.row().key));
+        let said = self.change.said(of_key(self.view, &found.row().key));
         self.view.authorize_on(alloc, action, found, &said)
     }
 

@@ -1,7 +1,8 @@
 //! Laws of what the account answers. Each stands as the contract of a function that does nothing.
 
-ghost use Rattle.account_core.specs.Laws.{SealedIsDecryptedAgain, OnePassRepeatsNoIv, PassesShareNoIv, BlobsAreNamed, NamedAreBlobs, TimesNeverFall, HouseIsKeptOnce, KeysDiffer, PassesWhereStatementsAllow, NamesTheFirstDenied, GrantsPermit};
-ghost use Rattle.account_core.specs.Pages.{PartsMakeTheWhole};
+ghost use Rattle.account_core.specs.Laws.{SealedIsDecryptedAgain, OnePassRepeatsNoIv, PassesShareNoIv, BlobsAreNamed, NamedAreBlobs, TimesNeverFall, HouseIsKeptOnce, KeysDiffer, PassesWhereStatementsAllow, NamesTheFirstDenied, GrantsPermit, DroppedGrantsStayAway};
+ghost use Rattle.account_core.specs.View.{View};
+ghost use Rattle.account_core.specs.Lists.{PartsOfListsMakeTheWhole};
 
 /// What Encrypt, ReEncrypt or a data key call answered as sealed under a context, Decrypt opens to the
 /// text that was sealed, at that history and at every lawful one that goes on from it, where the key is
@@ -70,8 +71,14 @@ pub fn grants_permit()
     ensures { GrantsPermit }
 {}
 
+/// A grant that was retired or revoked stays away: at every lawful history that goes on from its
+/// entry no grant has its id.
+pub fn dropped_grants_stay_away()
+    ensures { DroppedGrantsStayAway }
+{}
+
 /// The parts of a list, each behind the marker of the one before it, are the list's rows in order of
 /// making, each once.
 pub fn parts_make_the_whole()
-    ensures { PartsMakeTheWhole }
+    ensures { (view : View) → PartsOfListsMakeTheWhole view }
 {}

@@ -31,6 +31,7 @@ mod re_encrypt;
 mod realm;
 mod sources;
 mod stops;
+mod texts;
 mod view;
 
 pub use account::Account;
@@ -41,6 +42,7 @@ pub use facts::RealmFacts;
 pub use ids::draw_line;
 pub use laws::{
     authority_passes_where_statements_allow, blobs_name_their_keys, denial_names_the_first_denied,
-    grants_permit, house_is_kept_once, keys_differ, one_pass_repeats_no_iv,
-    parts_make_the_whole, passes_share_no_iv, sealed_is_decrypted_again, times_never_fall,
+    dropped_grants_stay_away, grants_permit, house_is_kept_once, keys_differ,
+    one_pass_repeats_no_iv, parts_make_the_whole, passes_share_no_iv, sealed_is_decrypted_again,
+    times_never_fall,
 };

@@ -1,16 +1,16 @@
 // The lists that are shown in parts.
-ghost use Rattle.std.specs.Prelude.{◌≡◌, IfOk};
-ghost use Rattle.account_core.specs.Lists.{shown_constraint, shown_alias, shown_grant, shown_rotation, listed_keys, is_listed_alias, has_sought_id, has_sought_grantee};
+ghost use Rattle.std.specs.Prelude.{◌≡◌, ◌&&◌, ◌+◌, IfOk, option_map, slice_get};
+ghost use Rattle.account_core.specs.Lists.{shown_constraint, shown_grant, has_sought_id, has_sought_grantee};
 
 use crate::lists::Sought;
 use crate::pages::Listing;
 use crate::view::{LentGrant, View};
 use account_rows::{Lent, is_gone};
 use alias_map::AliasRow;
-use grant_table::{Constraint, GrantRow, same_principal};
+use grant_table::{Constraint, GrantRow, copy_of_name, copy_of_principal, same_principal};
 use key_states::{KeyRow, Version};
 use kms_json::{GrantConstraint, ListedAlias, ListedGrant, Rotation};
-use kms_names::{KeyId, NoMemory, Principal, Text};
+use kms_names::{KeyId, NoMemory, Principal};
 use std::alloc::Global;
 use std::marker::Model;
 
@@ -32,6 +32,9 @@ impl<'a> KeysListed<'a> {
 }
 
 impl<'a> Listing for KeysListed<'a> {
+    ghost use Rattle.std.specs.Prelude.{not};
+    ghost use Rattle.account_rows.specs.Changes.{is_gone};
+
     type Row = Lent<'a>;
 
     type Item = KeyId;
@@ -99,6 +102,8 @@ impl<'a> AliasesListed<'a> {
 }
 
 impl<'a> Listing for AliasesListed<'a> {
+    ghost use Rattle.account_core.specs.Lists.{is_listed_alias, shown_alias};
+
     type Row = LentAlias<'a>;
 
     type Item = ListedAlias;
@@ -152,26 +157,6 @@ fn shown_constraint(constraint: &Constraint) -> Result<GrantConstraint, NoMemory
     })
 }
 
-// A principal that may be left out.
-fn copy_of(principal: &Option<Principal>) -> Result<Option<Principal>, NoMemory>
-    ensures { IfOk result (λ copy. copy ≡ principal.now) }
-{
-    match principal {
-        Some(principal) => Ok(Some(principal.copy()?)),
-        None => Ok(None),
-    }
-}
-
-// A name that may be left out.
-fn copy_of_name(name: &Option<Text>) -> Result<Option<Text>, NoMemory>
-    ensures { IfOk result (λ copy. copy ≡ name.now) }
-{
-    match name {
-        Some(name) => Ok(Some(name.copy()?)),
-        None => Ok(None),
-    }
-}
-
 // A grant as replies show it.
 fn shown_grant(grant: &GrantRow) -> Result<ListedGrant, NoMemory>
     ensures { IfOk result (λ shown. shown ≡ shown_grant grant.now) }
@@ -181,7 +166,7 @@ fn shown_grant(grant: &GrantRow) -> Result<ListedGrant, NoMemory>
         key: grant.key,
         created: grant.made,
         grantee: grant.grantee.copy()?,
-        retiring: copy_of(&grant.retiring)?,
+        retiring: copy_of_principal(&grant.retiring)?,
         operations: grant.operations,
         constraint: shown_constraint(&grant.constraint)?,
         name: copy_of_name(&grant.name)?,
@@ -208,6 +193,11 @@ impl<'a> RetirableGrants<'a> {
 }
 
 impl<'a> Listing for RetirableGrants<'a> {
+    ghost use Rattle.std.specs.Prelude.{filter};
+    ghost use Rattle.grant_table.specs.Grants.{has_retiring};
+    ghost use Rattle.account_core.specs.View.{is_live};
+    ghost use Rattle.account_core.specs.Lists.{shown_grant};
+
     type Row = LentGrant<'a>;
 
     type Item = ListedGrant;
@@ -225,8 +215,7 @@ impl<'a> Listing for RetirableGrants<'a> {
     }
 
     fn behind(&self, after: Option<u64>) -> Option<LentGrant<'a>> {
-        let row = self.view.grants().retirable(self.retiring, after)?;
-        Some(LentGrant::new(row))
+        self.view.retirable_grant(self.retiring, after)
     }
 
     fn born(&self, row: &LentGrant<'a>) -> u64 {
@@ -264,6 +253,10 @@ impl<'a> GrantsOfKey<'a> {
 }
 
 impl<'a> Listing for GrantsOfKey<'a> {
+    ghost use Rattle.std.specs.Prelude.{◌&&◌, filter};
+    ghost use Rattle.grant_table.specs.Grants.{is_of_key};
+    ghost use Rattle.account_core.specs.Lists.{has_sought_id, has_sought_grantee, shown_grant};
+
     type Row = LentGrant<'a>;
 
     type Item = ListedGrant;
@@ -281,8 +274,7 @@ impl<'a> Listing for GrantsOfKey<'a> {
     }
 
     fn behind(&self, after: Option<u64>) -> Option<LentGrant<'a>> {
-        let row = self.view.grants().of_key(self.key, after)?;
-        Some(LentGrant::new(row))
+        self.view.grant_of_key(self.key, after)
     }
 
     fn born(&self, row: &LentGrant<'a>) -> u64 {
@@ -322,6 +314,17 @@ pub struct Numbered {
     pub version: Version,
 }
 
+// The version at a place, counted from 0, with its number.
+fn version_at(row: &KeyRow, place: u64) -> Option<Numbered>
+    ensures { result ≡ option_map (λ version. record { number = place + 1; version = version }) (slice_get row.now.versions place) }
+{
+    let version = *row.versions.as_slice().get(place as usize)?;
+    Some(Numbered {
+        number: place + 1,
+        version,
+    })
+}
+
 /// The rotations of a key: all versions but the first, with their numbers.
 #[derive(Drop)]
 pub struct RotationsOf<'a> {
@@ -340,6 +343,9 @@ impl<'a> RotationsOf<'a> {
 }
 
 impl<'a> Listing for RotationsOf<'a> {
+    ghost use Rattle.std.specs.Prelude.{true};
+    ghost use Rattle.account_core.specs.Lists.{rotations_of, shown_rotation};
+
     type Row = Numbered;
 
     type Item = Rotation;
@@ -355,12 +361,7 @@ impl<'a> Listing for RotationsOf<'a> {
     fn in_order(&self) {}
 
     fn behind(&self, after: Option<u64>) -> Option<Numbered> {
-        let place = after.unwrap_or(1).max(1);
-        let version = *self.row.versions.as_slice().get(place as usize)?;
-        Some(Numbered {
-            number: place + 1,
-            version,
-        })
+        version_at(self.row, after.unwrap_or(1).max(1))
     }
 
     fn born(&self, row: &Numbered) -> u64 {

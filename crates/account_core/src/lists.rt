@@ -1,16 +1,18 @@
 // The operations that list.
 ghost use Rattle.std.specs.Prelude.{◌≡◌, IfOk};
 ghost use Rattle.account_core.specs.Steps.{Gives};
-ghost use Rattle.account_core.specs.Lists.{shown_constraint, shown_alias, shown_grant, action_in, key_id_if_given, lists_in, action_on, grant_id_if_given, lists_on};
+ghost use Rattle.account_core.specs.Grants.{principal_if_given};
+ghost use Rattle.account_core.specs.Lists.{action_in, key_id_if_given, lists_in, grant_id_if_given, lists_on};
 
 use crate::checks::only_key_of;
-use crate::grants::{grant_id_in, principal_if_given, principal_in};
+use crate::grants::{grant_id_in, principal_in};
 use crate::listings::{AliasesListed, GrantsOfKey, KeysListed, RetirableGrants, RotationsOf};
 use crate::pages::{behind_marker, part_behind};
 use crate::particulars::{of_key, of_none};
 use crate::parts::{Operation, Reads};
 use crate::places::Uses;
 use crate::stops::Stop;
+use crate::texts::LentText;
 use crate::view::View;
 use account_rows::Lent;
 use draw_lines::DrawLine;
@@ -27,13 +29,9 @@ pub enum AccountList<'a> {
     /// Its keys.
     Keys,
     /// Its aliases, or those of the key that a text refers to.
-    Aliases {
-        key_id: &'a Option<Text>,
-    },
+    Aliases { key_id: Option<LentText<'a>> },
     /// Its grants that a principal may retire, by the principal's ARN.
-    RetirableGrants {
-        retiring: &'a Text,
-    },
+    RetirableGrants { retiring: LentText<'a> },
 }
 
 /// Whose rows are listed.
@@ -64,12 +62,12 @@ impl AccountList<'_> {
 fn key_id_if_given(
     alloc: Global,
     view: &View<'_>,
-    reference: &Option<Text>,
+    reference: &Option<LentText<'_>>,
 ) -> Result<Option<KeyId>, Stop>
     ensures { Gives (key_id_if_given view.now reference.now) result }
 {
     match reference {
-        Some(reference) => Ok(Some(only_key_of(alloc, view, reference)?.row().key)),
+        Some(reference) => Ok(Some(only_key_of(alloc, view, reference.text())?.row().key)),
         None => Ok(None),
     }
 }
@@ -95,7 +93,12 @@ impl<'a> ListingAccount<'a> {
         ensures { IfOk result (λ reply. reply ≡ key_page self.now.view.now (part_of (λ row. row.born) (listed_keys self.now.view.now) self.now.page.now.limit after)) }
     {
         let facts = self.view.facts();
-        let part = part_behind(alloc, &KeysListed::new(self.view), self.page.limit as usize, after)?;
+        let part = part_behind(
+            alloc,
+            &KeysListed::new(self.view),
+            self.page.limit as usize,
+            after,
+        )?;
         Ok(Reply::Keys(KeyPage {
             account: facts.account,
             region: facts.region.copy()?,
@@ -159,14 +162,14 @@ impl<'a> Operation for ListingAccount<'a> {
     }
 
     fn find(&self, alloc: Global) -> Result<ListedIn, Stop> {
-        match self.what {
+        match &self.what {
             AccountList::Keys => Ok(ListedIn::Keys),
             AccountList::Aliases { key_id } => {
                 let key = key_id_if_given(alloc, self.view, key_id)?;
                 Ok(ListedIn::Aliases(key))
             }
             AccountList::RetirableGrants { retiring } => {
-                let retiring = principal_in(alloc, retiring)?;
+                let retiring = principal_in(alloc, retiring.text())?;
                 Ok(ListedIn::Grants(retiring))
             }
         }
@@ -223,8 +226,8 @@ pub enum KeyList<'a> {
     Rotations,
     /// Its grants: the one of an id, those of a grantee, or all.
     Grants {
-        grant_id: &'a Option<Text>,
-        grantee: &'a Option<Text>,
+        grant_id: Option<LentText<'a>>,
+        grantee: Option<LentText<'a>>,
     },
 }
 
@@ -247,11 +250,21 @@ pub struct ListedOf<'a> {
 }
 
 // The id of a grant that a text is, where one is given.
-fn grant_id_if_given(text: &Option<Text>) -> Result<Option<GrantId>, Stop>
+fn grant_id_if_given(text: &Option<LentText<'_>>) -> Result<Option<GrantId>, Stop>
     ensures { Gives (grant_id_if_given text.now) result }
 {
     match text {
-        Some(text) => Ok(Some(grant_id_in(text)?)),
+        Some(text) => Ok(Some(grant_id_in(text.text())?)),
+        None => Ok(None),
+    }
+}
+
+// The principal whose ARN a text is, where one is given.
+fn grantee_if_given(alloc: Global, text: &Option<LentText<'_>>) -> Result<Option<Principal>, Stop>
+    ensures { Gives (principal_if_given text.now) result }
+{
+    match text {
+        Some(text) => Ok(Some(principal_in(alloc, text.text())?)),
         None => Ok(None),
     }
 }
@@ -283,7 +296,7 @@ impl KeyList<'_> {
             }),
             KeyList::Grants { grant_id, grantee } => {
                 let grant = grant_id_if_given(grant_id)?;
-                let grantee = principal_if_given(alloc, grantee)?;
+                let grantee = grantee_if_given(alloc, grantee)?;
                 Ok(Sought { grant, grantee })
             }
         }
@@ -318,7 +331,12 @@ impl<'a> ListingKey<'a> {
         ensures { IfOk result (λ reply. reply ≡ rotation_page lent.now (part_of (λ numbered. numbered.number) (rotations_of lent.now) self.now.page.now.limit after)) }
     {
         let row = lent.row();
-        let part = part_behind(alloc, &RotationsOf::new(row), self.page.limit as usize, after)?;
+        let part = part_behind(
+            alloc,
+            &RotationsOf::new(row),
+            self.page.limit as usize,
+            after,
+        )?;
         Ok(Reply::Rotations(RotationPage {
             key: row.key,
             rotations: RotationList::new(part.items),
@@ -401,7 +419,7 @@ impl<'a> Reads for ListingKey<'a> {
         ready: Option<u64>,
         _line: &mut DrawLine,
     ) -> Result<Reply, NoMemory> {
-        match self.what {
+        match &self.what {
             KeyList::Policies => Ok(Reply::KeyPolicyNames),
             KeyList::Rotations => self.rotations(alloc, &found.row, ready),
             KeyList::Grants { .. } => self.grants(alloc, &found, ready),

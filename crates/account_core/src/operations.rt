@@ -24,6 +24,7 @@ use crate::policies::{GettingPolicy, PuttingPolicy};
 use crate::random::GeneratingRandom;
 use crate::re_encrypt::ReEncrypting;
 use crate::stops::Stop;
+use crate::texts::{LentText, lent_if_given};
 use crate::view::View;
 use draw_lines::DrawLine;
 use kms_json::{Changing, CreateGrant, Page, Reading, Reply};
@@ -61,7 +62,7 @@ fn change_alias(
     change: AliasChange<'_>,
 ) -> Result<Made, Stop>
     requires { is_alias_text alias.now ≡ true }
-    ensures { Makes (outcome view.now (changes_alias view.now alias.now change)) result }
+    ensures { Makes (outcome view.now (changes_alias view.now alias.now change.entry)) result }
 {
     let name = alias_name(alloc, alias)?;
     let changing = ChangingAlias {
@@ -90,7 +91,7 @@ fn list(
 ) -> Result<Reply, Stop>
     requires line { IsLineOf view.now.facts line.old }
     requires places { view.now.places ≡ places_of line.old }
-    ensures { Settles (decided_by (outcome view.now (lists_in view.now what page.now)) (places_of line.old)) line.old result line.new }
+    ensures { Settles (decided_by (outcome view.now (lists_in view.now what.entry page.now)) (places_of line.old)) line.old result line.new }
 {
     read(alloc, &ListingAccount { view, what, page }, line)
 }
@@ -106,7 +107,7 @@ fn list_of_key(
 ) -> Result<Reply, Stop>
     requires line { IsLineOf view.now.facts line.old }
     requires places { view.now.places ≡ places_of line.old }
-    ensures { Settles (decided_by (outcome view.now (lists_on view.now key_id.now what page.now)) (places_of line.old)) line.old result line.new }
+    ensures { Settles (decided_by (outcome view.now (lists_on view.now key_id.now what.entry page.now)) (places_of line.old)) line.old result line.new }
 {
     let listing = ListingKey {
         view,
@@ -169,14 +170,14 @@ pub fn change_body(alloc: Global, view: &View<'_>, body: &Changing) -> Result<Ma
             change_key(alloc, view, key_id, KeyChange::RotateNow)
         }
         Changing::CreateAlias { alias, key_id } => {
+            let key_id = LentText::new(key_id);
             change_alias(alloc, view, alias, AliasChange::Create { key_id })
         }
         Changing::UpdateAlias { alias, key_id } => {
+            let key_id = LentText::new(key_id);
             change_alias(alloc, view, alias, AliasChange::Update { key_id })
         }
-        Changing::DeleteAlias { alias } => {
-            change_alias(alloc, view, alias, AliasChange::Delete)
-        }
+        Changing::DeleteAlias { alias } => { change_alias(alloc, view, alias, AliasChange::Delete) }
         Changing::CreateGrant(x) => create_grant(alloc, view, x),
         Changing::RetireGrant { grant, dry_run } => {
             let retiring = RetiringGrant {
@@ -228,9 +229,11 @@ pub fn read_body(
         }
         Reading::ListKeys { page } => list(alloc, view, AccountList::Keys, page, line),
         Reading::ListAliases { key_id, page } => {
+            let key_id = lent_if_given(key_id);
             list(alloc, view, AccountList::Aliases { key_id }, page, line)
         }
         Reading::ListRetirableGrants { retiring, page } => {
+            let retiring = LentText::new(retiring);
             let what = AccountList::RetirableGrants { retiring };
             list(alloc, view, what, page, line)
         }
@@ -242,8 +245,8 @@ pub fn read_body(
         }
         Reading::ListGrants(x) => {
             let what = KeyList::Grants {
-                grant_id: &x.grant_id,
-                grantee: &x.grantee,
+                grant_id: lent_if_given(&x.grant_id),
+                grantee: lent_if_given(&x.grantee),
             };
             list_of_key(alloc, view, &x.key_id, what, &x.page, line)
         }

@@ -2,25 +2,16 @@
 ghost use Rattle.std.specs.Prelude.{◌≡◌, ◌<◌, ◌≤◌, ℕ, List, Bool, AllPairs, IfOk, option_map, find, filter, map};
 ghost use Rattle.kms_names.specs.Place.{is_behind};
 ghost use Rattle.account_core.specs.Steps.{Gives};
-ghost use Rattle.account_core.specs.Pages.{place_of, behind_marker, part_of};
+ghost use Rattle.account_core.specs.Pages.{behind_marker, part_of};
 
 use crate::stops::Stop;
+use http_front::decimal;
 use kms_json::{Page, Refusal};
 use kms_names::{NoMemory, Text};
 use std::alloc::Global;
 
 // The longest number of a marker, in digits.
 const DIGITS: usize = 18;
-
-// The number that 1 to 18 decimal digits write.
-fn place_of(text: &str) -> Option<u64>
-    ensures { result ≡ place_of text.now }
-{
-    if text.is_empty() || text.len() > DIGITS || !text.bytes().all(|byte| byte.is_ascii_digit()) {
-        return None;
-    }
-    text.parse().ok()
-}
 
 /// The place behind which a part of a list begins, where a marker is given: a text of 1 to 18 decimal digits.
 pub fn behind_marker(page: &Page) -> Result<Option<u64>, Stop>
@@ -29,7 +20,7 @@ pub fn behind_marker(page: &Page) -> Result<Option<u64>, Stop>
     let Some(text) = &page.marker else {
         return Ok(None);
     };
-    match place_of(text.as_str()) {
+    match decimal(text.as_str().as_bytes(), DIGITS) {
         Some(place) => Ok(Some(place)),
         None => Err(Stop::Refused(Refusal::InvalidMarker)),
     }

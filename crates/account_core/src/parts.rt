@@ -1,11 +1,12 @@
 // The steps of a decision in their order. Each operation says its own parts of them; the order is written
 // here alone.
 ghost use Rattle.std.specs.Prelude.{◌≡◌, IfOk, OnOk, OnErr, None, length};
+ghost use Rattle.std.specs.List.{list_any};
 ghost use Rattle.account_core.specs.Places.{places_of, line_at, IsLineOf, IsWithin};
 ghost use Rattle.account_core.specs.View.{View as SeenView};
 ghost use Rattle.account_core.specs.Steps.{Gives, Passes, or_else, stopping};
 ghost use Rattle.account_core.specs.Authority.{denied};
-ghost use Rattle.account_core.specs.Parts.{Parts, takes, cleared, outcome, decided_by, spent, full, overfull, limited, only_asked, after, unfit_state, entries_full, bytes_full, rotations_full, keys_full, grant_id_of, grant_of_token, dead_token, aliases_full, grants_full};
+ghost use Rattle.account_core.specs.Parts.{Parts, takes, cleared, outcome, decided_by, spent, full, overfull, limited, only_asked, after, unfit_state, entries_full, bytes_full, rotations_full, keys_full, grant_id_of, grant_of_token, is_dead, dead_token, aliases_full, grants_full};
 ghost use Rattle.account_core.specs.Settling.{Settles, Makes, effect_with};
 
 use crate::places::{Places, Uses};
@@ -28,6 +29,7 @@ const ROTATIONS: u32 = 10;
 
 // How many grants a key has at most, and how many there are at most in all.
 const KEY_GRANTS: usize = 5_000;
+
 const GRANTS: usize = 50_000;
 
 // How many aliases an account has at most.
@@ -156,17 +158,29 @@ pub fn grant_of_token<'a>(view: &View<'a>, token: &Text) -> Option<LentGrant<'a>
     view.grant(&grant_id_of(token.as_str())?)
 }
 
-// The refusal of tokens, unless each is that of a live grant.
+// Whether a token is that of no live grant.
+#[tactic(auto, unfolding(crate::specs::Parts::is_dead))]
+fn is_dead(view: &View<'_>, token: &Text) -> bool
+    ensures { result ≡ is_dead view.now token.now }
+{
+    grant_of_token(view, token).is_none()
+}
+
+// Whether some token is that of no live grant.
+fn some_dead(view: &View<'_>, tokens: &[Text]) -> bool
+    ensures { result ≡ list_any (is_dead view.now) tokens.now }
+{
+    tokens.iter().any(|token| is_dead(view, token))
+}
+
+// The refusal of tokens where one is that of no live grant.
 fn dead_token(view: &View<'_>, tokens: &[Text]) -> Option<Refusal>
     ensures { result ≡ dead_token view.now tokens.now }
 {
-    let live = tokens
-        .iter()
-        .all(|token| grant_of_token(view, token).is_some());
-    if live {
-        None
-    } else {
+    if some_dead(view, tokens) {
         Some(Refusal::InvalidGrantToken)
+    } else {
+        None
     }
 }
 

@@ -25,6 +25,18 @@ pub struct Turning<'a> {
     pub to: Named<'a>,
 }
 
+impl Turning<'_> {
+    ghost use Rattle.std.specs.Prelude.{◌≡◌};
+    ghost use Rattle.account_core.specs.Crypto.{same_key};
+
+    // Whether the text is sealed anew under the key that sealed it.
+    fn turns_to_same(&self) -> bool
+        ensures { result ≡ same_key self.now }
+    {
+        same_key(self.source.key(), &self.to.row.row().key)
+    }
+}
+
 /// ReEncrypt.
 #[derive(Drop)]
 pub struct ReEncrypting<'a> {
@@ -32,6 +44,38 @@ pub struct ReEncrypting<'a> {
     pub view: &'a View<'a>,
     /// What it asks.
     pub x: &'a ReEncrypt,
+}
+
+impl<'a> ReEncrypting<'a> {
+    ghost use Rattle.std.specs.Prelude.{◌≡◌};
+    ghost use Rattle.account_core.specs.Crypto.{of_source, of_destination};
+
+    // What the request says of the key that sealed the text.
+    fn from<'b>(&'b self, found: &'b Turning<'a>) -> Particulars<'b>
+        ensures { result ≡ of_source self.now.view.now self.now.x.now found.now }
+    {
+        let source = &found.source;
+        Particulars {
+            same_key: Some(found.turns_to_same()),
+            ..of_context(
+                self.view,
+                source.key(),
+                source.alias(),
+                &self.x.source_context,
+            )
+        }
+    }
+
+    // What it says of the key to seal it anew.
+    fn to<'b>(&'b self, found: &'b Turning<'a>) -> Particulars<'b>
+        ensures { result ≡ of_destination self.now.view.now self.now.x.now found.now }
+    {
+        let key = &found.to.row.row().key;
+        Particulars {
+            same_key: Some(found.turns_to_same()),
+            ..of_context(self.view, key, &found.to.alias, &self.x.context)
+        }
+    }
 }
 
 impl<'a> Operation for ReEncrypting<'a> {
@@ -60,21 +104,11 @@ impl<'a> Operation for ReEncrypting<'a> {
     }
 
     fn authorize(&self, alloc: Global, found: &Turning<'a>) -> Result<(), Stop> {
-        let source = &found.source;
-        let key = &found.to.row.row().key;
-        let same_key = Some(same_key(source.key(), key));
-        let from = Particulars {
-            same_key,
-            ..of_context(self.view, source.key(), source.alias(), &self.x.source_context)
-        };
-        let to = Particulars {
-            same_key,
-            ..of_context(self.view, key, &found.to.alias, &self.x.context)
-        };
+        let source = found.source.lent();
         self.view
-            .authorize_on(alloc, Action::ReEncryptFrom, source.lent(), &from)?;
+            .authorize_on(alloc, Action::ReEncryptFrom, source, &self.from(found))?;
         self.view
-            .authorize_on(alloc, Action::ReEncryptTo, &found.to.row, &to)
+            .authorize_on(alloc, Action::ReEncryptTo, &found.to.row, &self.to(found))
     }
 
     fn tokens(&self) -> &[Text] {

@@ -64,7 +64,7 @@ fn held<'a>(alloc: Global, view: &View<'a>, action: Action, key: &KeyId) -> Resu
 
 // The alias that the request names a key by.
 fn alias_of(named: Option<Named<'_>>) -> Option<AliasName>
-    ensures { result ≡ alias_of named }
+    ensures { result ≡ alias_of named.entry }
 {
     match named {
         Some(named) => named.alias,

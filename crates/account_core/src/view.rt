@@ -60,12 +60,13 @@ impl<'a> Model for View<'a> {
 }
 
 impl<'a> View<'a> {
-    ghost use Rattle.std.specs.Prelude.{◌≡◌, ◌<◌, ◌≤◌, IfOk, None, Some, length, option_map};
+    ghost use Rattle.std.specs.Prelude.{◌≡◌, ◌<◌, ◌≤◌, IfOk, None, Some, AllPairs, length, option_map};
     ghost use Rattle.authority.specs.Setting.{callers_policies};
     ghost use Rattle.key_states.specs.declared.rows.KeyRow.{KeyRow};
     ghost use Rattle.account_rows.specs.History.{replay, key_with, key_behind, most_bytes};
     ghost use Rattle.account_rows.specs.Sizes.{bytes_in};
     ghost use Rattle.account_core.specs.Parts.{unfit_one};
+    ghost use Rattle.grant_table.specs.Grants.{grant_of_key, grant_retirable};
     ghost use Rattle.account_core.specs.View.{key_held, aliased, is_live, grant_held};
     ghost use Rattle.account_core.specs.Steps.{Passes, arn_of};
     ghost use Rattle.account_core.specs.Authority.{setting_of, granted, may_on_key, may_on_other, denied_at, denied_one, on_key, on_other, retiring};
@@ -100,9 +101,10 @@ impl<'a> View<'a> {
         self.facts
     }
 
-    /// The number of keys, with those that are gone.
+    /// The number of keys, with those that are gone. Each was made before those behind it.
     pub fn number_of_keys(&self) -> usize
-        ensures { result ≡ length self.now.keys }
+        ensures number { result ≡ length self.now.keys }
+        ensures rise { AllPairs (λ (p q : KeyRow). p.born < q.born) self.now.keys }
     {
         self.rows.number_of_keys()
     }
@@ -163,6 +165,20 @@ impl<'a> View<'a> {
             Some(grant) if self.is_live(grant) => Some(LentGrant::new(grant)),
             _ => None,
         }
+    }
+
+    /// The first grant of a key, in order of making, that was made behind a place, or the first of all.
+    pub fn grant_of_key(&self, key: &KeyId, after: Option<u64>) -> Option<LentGrant<'a>>
+        ensures { result ≡ grant_of_key self.now.grants key.now after }
+    {
+        Some(LentGrant::new(self.grants().of_key(key, after)?))
+    }
+
+    /// The same of the grants that a principal may retire.
+    pub fn retirable_grant(&self, retiring: &Principal, after: Option<u64>) -> Option<LentGrant<'a>>
+        ensures { result ≡ grant_retirable self.now.grants retiring.now after }
+    {
+        Some(LentGrant::new(self.grants().retirable(retiring, after)?))
     }
 
     /// The place of the next entry.
@@ -271,7 +287,8 @@ impl<'a> View<'a> {
         ensures { IfOk result (λ b. b ≡ may_on_key self.now policy.now action key.now said.now) }
     {
         let setting = self.setting();
-        match setting.standing(alloc, Some(policy), action, arn, said)? {
+        let standing = setting.standing(alloc, Some(policy), action, arn, said)?;
+        match standing {
             Standing::Denied => Ok(false),
             Standing::Allowed => Ok(true),
             Standing::IfGranted => self.granted(alloc, action, key, said),

@@ -99,7 +99,7 @@ fn is_behind(after: Option<u64>, born: u64) -> bool
 }
 
 impl Rows {
-    ghost use Rattle.std.specs.Prelude.{◌≡◌, ◌≤◌, ◌++◌, ◌∷◌, [], length, IfOk, slice_get};
+    ghost use Rattle.std.specs.Prelude.{◌≡◌, ◌≤◌, ◌++◌, ◌∷◌, [], length, IfOk, slice_get, AllPairs, ◌<◌};
     ghost use Rattle.std.specs.Option.{option_map};
     ghost use Rattle.account_rows.specs.History.{replay, latest_of, housekeeping_of, most_entries, most_bytes, has_room, key_with, key_behind, IsFitting};
     ghost use Rattle.account_rows.specs.Sizes.{bytes_in};
@@ -196,9 +196,10 @@ impl Rows {
         }
     }
 
-    /// The number of keys.
+    /// The number of keys. Each was made before those behind it.
     pub fn number_of_keys(&self) -> usize
-        ensures { result ≡ length (replay self.now).keys }
+        ensures number { result ≡ length (replay self.now).keys }
+        ensures rise { AllPairs (λ (p q : KeyRow). p.born < q.born) (replay self.now).keys }
     {
         self.keys.len()
     }

@@ -23,7 +23,7 @@ use std::sync::Wait;
 use std::{fs, io, rt};
 
 // The scripts, each with the cases that show one thing.
-const SCRIPTS: [&str; 16] = [
+const SCRIPTS: [&str; 20] = [
     "first_path.txt",
     "pieces.txt",
     "faults.txt",
@@ -40,6 +40,10 @@ const SCRIPTS: [&str; 16] = [
     "key_policies.txt",
     "key_states.txt",
     "rotation.txt",
+    "aliases.txt",
+    "lists.txt",
+    "grants.txt",
+    "sessions.txt",
 ];
 
 // How many cases held, and how many didn't.

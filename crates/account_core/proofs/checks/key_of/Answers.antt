@@ -6,5 +6,5 @@ use Rattle.account_core.proofs.checks.key_of.Goals as goal
 
 pub returns : goal.returns
 returns c =
-    key_found c.args.view.now c.args.reference.now c.in_ok-read.read c.key_referred.result
-    (c.in_ok-read.ensures ∙ ap (λ (facts : RealmFacts). reference_of facts c.args.reference.now) c.facts.ensures) c.key_referred.ensures
+    key_found c.args.view.now c.args.reference.now c.in_ok-read.read
+    (c.in_ok-read.ensures ∙ ap (λ (facts : RealmFacts). reference_of facts c.args.reference.now) c.facts.ensures) c.key_named.result c.key_named.ensures

@@ -6,5 +6,5 @@ use Rattle.account_core.proofs.checks.only_key_of.Goals as goal
 
 pub returns : goal.returns
 returns c =
-    only_key_found c.args.view.now c.args.reference.now c.in_ok-read.read c.key_referred.result
-    (c.in_ok-read.ensures ∙ ap (λ (facts : RealmFacts). reference_of facts c.args.reference.now) c.facts.ensures) c.key_referred.ensures
+    only_key_found c.args.view.now c.args.reference.now c.in_ok-read.read
+    (c.in_ok-read.ensures ∙ ap (λ (facts : RealmFacts). reference_of facts c.args.reference.now) c.facts.ensures) c.only_key.result c.only_key.ensures

@@ -1,4 +1,4 @@
-use Rattle.std.proofs.Common.{◌≡◌, ◌∙◌, length, rules}
+use Rattle.std.proofs.Common.{◌≡◌, ◌∙◌, length, codes, rules, arith}
 use Rattle.account_core.proofs.KeyIds.{id_of_parts}
 use Rattle.account_core.proofs.ids.key_id.Goals as goal
 
@@ -10,5 +10,5 @@ returns c =
     let n : length c.end-digest.result ≡ 32 = search rules in
     let m : length c.place_bytes-place.result ≡ 6 = search rules in
     let k : length c.write_at-2.new.text ≡ 16 = search rules in
-    c.new.ensures ∙ id_of_parts root c.to_be_bytes.result c.place_bytes-place.result c.end-digest.result c.write_at.new.text c.write_at-2.new.text c.args.facts.now.boot c.args.place
+    c.new.ensures ∙ id_of_parts (codes "key") 10 (omega arith) root c.to_be_bytes.result c.place_bytes-place.result c.end-digest.result c.write_at.new.text c.write_at-2.new.text c.args.facts.now.boot c.args.place
     digest c.to_be_bytes.ensures c.place_bytes-place.ensures n m k c.write_at.ensures c.write_at-2.ensures

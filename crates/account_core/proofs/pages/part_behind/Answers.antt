@@ -37,7 +37,7 @@ loop-row-preserved-in_ok-push g c =
     let shown = g.L.Listing.shown c.args.listing.now in
     let not : length c.loop-row.items.items ≢ c.args.limit = search rules in
     let next = one_taken born rows listed shown c.args.limit c.args.after c.loop-row.invariant c.in-Some.row (sym c.behind.ensures ∙ c.in-Some.is) (sym c.lists.ensures ∙ c.if-lists.true)
-        not in
+    not in
     let items : c.push.new.self.items ≡ c.loop-row.items.items ++ shown c.in-Some.row ∷ [] = search rules in
     let there = subst (Gathered born rows listed shown c.args.limit c.args.after (Some (born c.in-Some.row)) (Some (born c.in-Some.row))) (sym items) next in
     subst (λ (n : ℕ). Gathered born rows listed shown c.args.limit c.args.after (Some n) (Some n) c.push.new.self.items) (sym c.born.ensures) there

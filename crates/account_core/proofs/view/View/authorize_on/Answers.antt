@@ -1,18 +1,19 @@
-use Rattle.std.proofs.Common.{ℕ, List, Some, Option, ap, ◌∙◌, subst}
-use Rattle.authority.specs.Allowed.{is_allowed}
+use Rattle.std.proofs.Common.{◌≡◌, Option, refl, ap, ap₂, ◌∙◌, sym, subst}
+use Rattle.policy_doc.specs.declared.policies.Policy.{Policy}
 use Rattle.kms_json.specs.declared.refusals.Refusal.{Refusal}
 use Rattle.key_states.specs.declared.rows.KeyRow.{KeyRow}
 use Rattle.account_core.specs.Steps.{Passes, arn_of}
-use Rattle.account_core.specs.Authority.{Question, setting_of}
+use Rattle.account_core.specs.Authority.{on_key, may_on_key}
 use Rattle.account_core.proofs.Asking.{as_asked}
 use Rattle.account_core.proofs.view.View.authorize_on.Goals as goal
+
+pub may_on_key-requires : goal.may_on_key-requires
+may_on_key-requires c = c.as_str.ensures.value ∙ c.in_ok-arn.ensures
 
 pub returns : goal.returns
 returns c =
     let view = c.args.self.now in
-    let q : Question = record { action = c.args.action; key = Some c.args.lent.now; particulars = c.args.particulars.now } in
-    let resource = c.in_ok-resource.resource in
-    let there = c.in_ok-resource.ensures ∙ ap (λ (row : KeyRow). arn_of view.facts row.key) c.row.ensures.row in
-    let allowed = c.in_ok-allowed.ensures
-    ∙ ap (λ (r : List ℕ). is_allowed (setting_of view) (Some c.policy.result.now) (record { action = c.args.action; resource = r; particulars = c.args.particulars.now })) c.as_str.ensures.value in
-    subst (λ (wanted : Option Refusal). Passes wanted c.pass.result) (as_asked view q resource (Some c.policy.result.now) c.in_ok-allowed.allowed there (ap Some c.policy.ensures) allowed) c.pass.ensures
+    let there = c.in_ok-arn.ensures ∙ ap (λ (row : KeyRow). arn_of view.facts row.key) c.row.ensures.row in
+    let allowed = c.in_ok-allowed.ensures ∙ ap₂ (λ (p : Policy) (row : KeyRow). may_on_key view p c.args.action row.key c.args.said.now) c.policy.ensures c.row.ensures.row in
+    subst (λ (wanted : Option Refusal). Passes wanted c.pass.result)
+    (as_asked view (on_key c.args.action c.args.lent.now c.args.said.now) c.args.action c.in_ok-arn.arn c.in_ok-allowed.allowed refl there allowed) c.pass.ensures

@@ -1,0 +1,5 @@
+use Rattle.account_core.proofs.Asking.{grants_permit}
+use Rattle.account_core.proofs.laws.grants_permit.Goals as goal
+
+pub returns : goal.returns
+returns c = grants_permit
