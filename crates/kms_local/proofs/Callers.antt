@@ -7,7 +7,7 @@ use Rattle.kms_names.specs.Principal.{IsPrincipal, principal_text}
 use Rattle.kms_names.specs.declared.principals.Principal.{Principal}
 use Rattle.kms_names.proofs.PrincipalFacts.{one_principal}
 use Rattle.account_core.specs.Decide.{account_of}
-use Rattle.kms_local.specs.Settings.{IsPrincipalOf, Names}
+use Rattle.kms_local.specs.Settings.{Names}
 
 module _ (account text : List ℕ) (p : Principal) (form : IsPrincipal p) (arn : text ≡ principal_text p) where
   named_where : (b : Bool) → bytes_eq (account_of p) account ≡ b → Names account text (if b then Some p else None)

@@ -1,5 +1,5 @@
 -- The callers of a configuration are of its account.
-use Rattle.std.proofs.Common.{◌≡◌, ℕ, List, [], ◌∷◌, Bool, true, false, if◌then◌else◌, Option, Some, None, Result, Ok, Err, refl, ap, sym, ◌∙◌, subst}
+use Rattle.std.proofs.Common.{◌≡◌, ℕ, List, [], ◌∷◌, Bool, true, false, if◌then◌else◌, Option, Some, None, Result, Ok, Err, refl, ap, subst}
 use Rattle.std.specs.Prelude.{All, option_and_then, codes}
 use Rattle.std.specs.Str.{bytes_eq}
 use Rattle.std.proofs.lemmas.List.Elements.{All-nil, All-cons, All-head, All-tail}
@@ -15,12 +15,12 @@ use Rattle.sigv4_check.specs.Credentials.{placed}
 use Rattle.sigv4_check.specs.declared.credentials.Credential.{Credential}
 use Rattle.kms_config.specs.declared.config.Basics.{Basics}
 use Rattle.kms_config.specs.declared.config.Config.{Config}
-use Rattle.kms_config.specs.Answers.{◌>>=◌, at}
-use Rattle.kms_config.specs.Members.{text_in, members_in, none_other}
+use Rattle.kms_config.specs.Answers.{◌>>=◌}
+use Rattle.kms_config.specs.Members.{text_in, members_in}
 use Rattle.kms_config.specs.Lists.{items_from}
-use Rattle.kms_config.specs.Forms.{if_of, principal_in, principal_at}
+use Rattle.kms_config.specs.Forms.{if_of, principal_at}
 use Rattle.kms_config.specs.Credentials.{credential_by, credential_of, next_credential}
-use Rattle.kms_config.specs.Config.{pointer, config_of, basics_in, lists_by, lists_in, config_in, IsConfigOf}
+use Rattle.kms_config.specs.Config.{pointer, config_of, basics_in, lists_by, lists_in, IsConfigOf}
 
 -- ---- a value that is there came of each step
 

@@ -1,5 +1,5 @@
 -- What commands with a file do.
-use Rattle.std.proofs.Common.{◌≡◌, ◌⊎◌, inl, inr, ℕ, List}
+use Rattle.std.proofs.Common.{inl, inr, ℕ, List}
 use Rattle.kms_io.specs.Shelf.{Shelf}
 use Rattle.kms_io.specs.Files.{Asks, MayAsk}
 use Rattle.kms_config.specs.declared.config.Config.{Config}

@@ -1,11 +1,11 @@
 -- Which command words are.
-use Rattle.std.proofs.Common.{◌≡◌, ◌≢◌, ℕ, List, [], ◌∷◌, Bool, true, false, Option, Some, None, refl, ap, sym, ◌∙◌, map, string_bytes, if◌then◌else◌}
+use Rattle.std.proofs.Common.{◌≡◌, ◌≢◌, List, [], ◌∷◌, Bool, true, false, Option, None, refl, ap, sym, ◌∙◌, map, string_bytes, if◌then◌else◌}
 use Rattle.std.specs.List.{list_any}
 use Rattle.std.specs.Prelude.{String}
 use Rattle.std.specs.Global.{Global}
 use Rattle.clap.specs.Words.{Row, Text, Kinds, fault_of, subcommand_of}
 use Rattle.clap.proofs.WalkLemmas.{list_any-map}
-use Rattle.kms_local.specs.Words.{Command, is_stray, whole_line, named_command, unless_refused, command_of}
+use Rattle.kms_local.specs.Words.{is_stray, whole_line, named_command, unless_refused, command_of}
 
 -- one of the words is one that no command has, by the words as they are given
 pub stray_in : (words : List (String Global)) → list_any (λ word. is_stray (string_bytes word)) words ≡ list_any is_stray (map string_bytes words)

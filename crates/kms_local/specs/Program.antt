@@ -1,5 +1,5 @@
 -- What the program does.
-use Rattle.std.specs.Prelude.{◌≡◌, ◌⊎◌, ◌++◌, ℕ, List, length, decimal, codes, Bool, true, false, Option, None, Some, option_and_then, slice_get}
+use Rattle.std.specs.Prelude.{◌≡◌, ◌⊎◌, ◌++◌, ℕ, List, length, decimal, codes, Option, None, Some, option_and_then, slice_get}
 use Rattle.kms_io.specs.Wire.{Wire, RoseBy}
 use Rattle.kms_io.specs.Shelf.{Shelf}
 use Rattle.kms_io.specs.Files.{Asks, MayAsk}

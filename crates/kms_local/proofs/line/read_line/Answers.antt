@@ -1,4 +1,4 @@
-use Rattle.std.proofs.Common.{ap, ◌≡◌, ◌∙◌, [], true, refl, inl, inr, List, ℕ, map, string_bytes, subst}
+use Rattle.std.proofs.Common.{ap, ◌≡◌, ◌∙◌, [], true, refl, inl, inr, List, map, string_bytes, subst}
 use Rattle.clap.specs.Words.{Text, app_of, fault_of, is_simple_and_free, kind_of, IsAmong, Kinds}
 use Rattle.clap.proofs.OnLiterals.{clap_on_literals}
 use Rattle.kms_local.specs.Words.{whole_line}

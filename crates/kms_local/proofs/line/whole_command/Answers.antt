@@ -1,11 +1,10 @@
-use Rattle.std.proofs.Common.{ap, ap₂, ◌≡◌, ◌∙◌, codes, true, false, ◌||◌}
+use Rattle.std.proofs.Common.{ap, ap₂, ◌≡◌, ◌∙◌, true}
 use Rattle.std.proofs.lemmas.Result.{IfOk-weaker}
 use Rattle.clap.specs.Words.{App, app_of, with_subcommand}
-use Rattle.clap.specs.declared.builder.command.Command.TheViews.{out-Command}
 use Rattle.clap.specs.declared.builder.command.Command.{Command}
 use Rattle.clap.specs.declared.builder.command.Command.TheOpen.{Command-F}
 use Rattle.clap.specs.Simple.{app_of_fields}
-use Rattle.kms_local.specs.Words.{run_line, check_line, bare_line, whole_line}
+use Rattle.kms_local.specs.Words.{run_line, bare_line}
 use Rattle.kms_local.proofs.line.whole_command.Goals as goal
 
 pub returns : goal.returns

@@ -1,6 +1,6 @@
 use Rattle.std.proofs.Common.{subst}
 use Rattle.kms_io.specs.Wire.{Wire}
-use Rattle.kms_local.specs.Program.{around, Checks, WithFile, configured}
+use Rattle.kms_local.specs.Program.{around, Checks, configured}
 use Rattle.kms_local.proofs.Programs.{widened}
 use Rattle.kms_local.proofs.program.check_file.Goals as goal
 

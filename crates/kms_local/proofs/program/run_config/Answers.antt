@@ -2,7 +2,7 @@ use Rattle.std.proofs.Common.{subst, option_map, Option}
 use Rattle.std.specs.Prelude.{IfSome}
 use Rattle.kms_local.specs.declared.settings.Settings.{Settings}
 use Rattle.kms_local.specs.Settings.{IsConfigured}
-use Rattle.kms_local.specs.Program.{RunsConfig, serves}
+use Rattle.kms_local.specs.Program.{serves}
 use Rattle.kms_local.proofs.program.run_config.Goals as goal
 
 pub returns-in-Ok-Some : goal.returns-in-Ok-Some

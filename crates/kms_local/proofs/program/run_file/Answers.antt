@@ -1,6 +1,6 @@
 use Rattle.std.proofs.Common.{subst, option_map}
 use Rattle.kms_io.specs.Wire.{Wire}
-use Rattle.kms_local.specs.Program.{around, RunsConfig, WithFile, configured}
+use Rattle.kms_local.specs.Program.{around, RunsConfig, configured}
 use Rattle.kms_local.proofs.Programs.{widened}
 use Rattle.kms_local.proofs.program.run_file.Goals as goal
 

@@ -2,7 +2,7 @@ use Rattle.std.proofs.Common.{refl, subst}
 use Rattle.kms_local.specs.Words.{values_in}
 use Rattle.kms_local.specs.Settings.{UnlessMemory}
 use Rattle.kms_local.specs.declared.settings.RunOption.{RunOption}
-use Rattle.kms_local.specs.Program.{SaysLine, refused_line, path_of, RunsValues, serves, refuses}
+use Rattle.kms_local.specs.Program.{SaysLine, refused_line, path_of, serves, refuses}
 use Rattle.kms_local.proofs.program.run_values.Goals as goal
 
 pub returns-in-Ok : goal.returns-in-Ok

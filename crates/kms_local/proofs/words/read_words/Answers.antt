@@ -1,6 +1,5 @@
-use Rattle.std.proofs.Common.{◌≡◌, ◌∙◌, Err, true, false, refl, sym, ap, List, ℕ, map, string_bytes}
-use Rattle.std.specs.List.{list_any}
-use Rattle.kms_local.specs.Words.{is_stray, named_command}
+use Rattle.std.proofs.Common.{◌∙◌, Err, sym, ap, map, string_bytes}
+use Rattle.kms_local.specs.Words.{named_command}
 use Rattle.kms_local.proofs.WordFacts.{stray_in, stray_is_none, command_is, refused_is_none}
 use Rattle.kms_local.proofs.words.read_words.Goals as goal
 
