@@ -62,7 +62,7 @@ module _ (account : List ℕ) where
 
   one_of : (creds : List Credential) (path : List ℕ) (value : Data) (members : Members) (c : Credential) → credential_of account creds path value members ≡ Ok c → IsOf c
   unfolding credential_of
-  one_of creds path value members c is = member_of value c.principal (made_by path _ _ _ _ c is)
+  one_of creds path value _ c is = member_of value c.principal (made_by path _ _ _ _ c is)
 
   placed_where : (b : Bool) (c other : Credential) (creds later : List Credential) → IsOf c → All IsOf (other ∷ creds) → All IsOf later → All IsOf (if b then c ∷ other ∷ creds else other ∷ later)
   placed_where true c other creds later one all more = All-cons IsOf c (other ∷ creds) one all
@@ -99,7 +99,7 @@ listed_by basics (Ok cs) (Ok ps) None config is =
 listed_of : (value : Data) (members : Members) (basics : Basics) (config : Config) → lists_in value members basics ≡ Ok config
     → All (λ (c : Credential). account_of c.principal ≡ config.facts.account) config.credentials
 unfolding lists_in
-listed_of value members basics config is =
+listed_of value _ basics config is =
     let listed = listed_by basics _ _ _ config is in
     let items = step_is _ (items_from (next_credential basics.account (pointer (codes "credentials"))) [] 0) config.credentials listed.0 in
     subst (λ (account : List ℕ). All (λ (c : Credential). account_of c.principal ≡ account) config.credentials) listed.1
