@@ -20,7 +20,7 @@ use crate::outbox::{send, send_reply};
 use crate::trust::Trust;
 use crate::waiting::{Awaited, await_message};
 use http_front::{Cut, HttpFault};
-use kms_io::{Clock, Gate, Link};
+use kms_io::{Clock, Gate, Link, Point};
 use kms_json::{Ask, AskBody, JsonFault, Refusal, Reply};
 use kms_names::{NoMemory, Principal, Text};
 use publish_pass::{Answered, Pass, Realm, Service, Unread, answer_with};
@@ -340,6 +340,7 @@ fn serve_one<W: Wait, R: Realm, L: Link, C: Clock, G: Gate>(
             if !respond(host, pass, link, &cut, inbox.bytes(), now, closes) {
                 return Some(SessionEnd::WriteFault);
             }
+            host.gate.at(Point::AfterReply);
             inbox.drop_front(cut.len());
             if closes {
                 Some(SessionEnd::Closed)
@@ -350,6 +351,7 @@ fn serve_one<W: Wait, R: Realm, L: Link, C: Clock, G: Gate>(
         Awaited::Bad(fault) => {
             let now = clock.now();
             if respond_fault(pass, link, fault, now) {
+                host.gate.at(Point::AfterReply);
                 Some(SessionEnd::Closed)
             } else {
                 Some(SessionEnd::WriteFault)
@@ -371,7 +373,8 @@ fn serve_one<W: Wait, R: Realm, L: Link, C: Clock, G: Gate>(
 /// `InvalidSignatureException`, in this order), and asks nothing of the account. The condition is that
 /// whoever may be the caller is of the service's account. The clock is asked once for each message
 /// answered. The buffer of 147,456 bytes is reserved before the first byte is
-/// taken, and nothing is read while it holds a whole message. It makes at most 100,000 answers.
+/// taken, and nothing is read while it holds a whole message. It makes at most 100,000 answers. The gate
+/// is called at `AfterReply` once each reply was written whole.
 pub fn serve_session<W: Wait, R: Realm, L: Link, C: Clock, G: Gate>(
     rt: &W,
     alloc: Global,

@@ -1,5 +1,5 @@
 -- What was sealed in a run of the machine.
-use Rattle.std.proofs.Common.{◌≡◌, ℕ, zero, suc, ◌+◌, ◌^◌, ◌<◌, ◌≤◌, ◌==◌, Bool, true, false, cond, List, [], ◌∷◌, ◌++◌, length, take, drop, refl, ap, sym, ◌∙◌, subst, arith, length-append, lt_of_not-le}
+use Rattle.std.proofs.Common.{◌≡◌, ℕ, zero, suc, ◌+◌, ◌^◌, ◌<◌, ◌≤◌, ◌==◌, Bool, true, false, cond, None, List, [], ◌∷◌, ◌++◌, length, take, drop, refl, ap, sym, ◌∙◌, subst, arith, length-append, append_assoc, lt_of_not-le}
 use Rattle.std.proofs.lemmas.List.{take-append-le, take-append-drop, map-append, length-take-le}
 use Rattle.std.proofs.lemmas.Bool.{false≢true}
 use Rattle.std.proofs.lemmas.Bool.Decides.{nat_tests}
@@ -9,11 +9,13 @@ use native.Mathlib.Decide.{dec_le}
 use Rattle.account_core.specs.declared.facts.RealmFacts.{RealmFacts}
 use Rattle.account_core.specs.History.{Entry}
 use Rattle.account_core.specs.declared.places.Places.{Places}
+use Rattle.grant_table.specs.Grants.{grant_with}
+use Rattle.account_rows.specs.History.{replay}
 use Rattle.account_core.specs.Decide.{IsLawful, empty, longer}
-use Rattle.account_core.specs.Laws.{PassGoesOn, TimesNeverFall, SealedIsDecryptedAgain, OnePassRepeatsNoIv, PassesShareNoIv, AsksToOpen, reply_to, exception_of, unless_excepted}
+use Rattle.account_core.specs.Laws.{PassGoesOn, TimesNeverFall, SealedIsDecryptedAgain, DroppedGrantsStayAway, OnePassRepeatsNoIv, PassesShareNoIv, AsksToOpen, reply_to, exception_of, unless_excepted}
 use Rattle.kms_json.specs.declared.replies.Reply.TheVariants.{Decrypted}
 use Rattle.publish_pass.specs.Pairs.{entries_of}
-use Rattle.publish_pass.specs.Machine.{State, read, places_after, SealedStaysReadable, NoVectorTwice, NoVectorShared}
+use Rattle.publish_pass.specs.Machine.{State, read, places_after, SealedStaysReadable, DroppedStaysAway, NoVectorTwice, NoVectorShared}
 use Rattle.publish_pass.proofs.Lists.{prefix_trans, prefix_shorter}
 use Rattle.publish_pass.proofs.Kept.{reached, goes, ran}
 
@@ -67,6 +69,20 @@ readable times law facts p before after s t k j x y places others sealing run mo
 
 lawful_first : (facts : RealmFacts) (k : ℕ) (pairs : List (Entry × ℕ)) → IsLawful facts (entries_of pairs) → IsLawful facts (entries_of (take k pairs))
 lawful_first facts k pairs lawful = subst (IsLawful facts) (sym (entries_of-take k pairs)) (lawful_take facts k (entries_of pairs) lawful)
+
+pub dropped_stays_away : TimesNeverFall → DroppedGrantsStayAway → DroppedStaysAway
+dropped_stays_away times law facts p n j before after s t history more entry grant run further seen drops le there =
+    let here = reached facts p times before s run in
+    let grown = goes facts p times before after s t run further in
+    let first : List Entry = entries_of (take (s.seen n) s.history) in
+    let last : List Entry = entries_of (take j t.history) in
+    let later : s.seen n ≤ t.seen n = grown.1.seen n in
+    let begins = prefix_entries (take (s.seen n) s.history) (take j t.history) (begins_later s.history t.history (s.seen n) j grown.1.history (here.seen n) (omega arith) there) in
+    let lawful : IsLawful facts last = lawful_first facts j t.history grown.0.history.lawful in
+    let joined : first ++ begins.0 ≡ last = begins.1 in
+    let same : (history ++ entry ∷ []) ++ (more ++ begins.0) ≡ last =
+    sym (append_assoc (history ++ entry ∷ []) more begins.0) ∙ ap (λ (h : List Entry). h ++ begins.0) (sym seen) ∙ joined in
+    subst (λ (h : List Entry). grant_with (replay h).grants grant ≡ None) same (law facts history (more ++ begins.0) entry grant (subst (IsLawful facts) (sym same) lawful) drops)
 
 cond_self : (n : ℕ) (x y : Places) (b : Bool) → (n == n) ≡ b → cond b x y ≡ x
 cond_self n x y true is = refl

@@ -11,6 +11,9 @@ use Rattle.account_core.specs.declared.facts.RealmFacts.{RealmFacts}
 use Rattle.account_core.specs.History.{Entry}
 use Rattle.account_core.specs.declared.places.Places.{Places}
 use Rattle.account_core.specs.Places.{IsUpTo}
+use Rattle.grant_table.specs.Grants.{grant_with}
+use Rattle.account_rows.specs.declared.entries.What.TheVariants as what
+use Rattle.account_rows.specs.History.{replay}
 use Rattle.account_core.specs.History.{housekeeping_of}
 use Rattle.account_core.specs.Decide.{decide, IsProper}
 use Rattle.account_core.specs.Laws.{Sealing, HasSealed, AsksToOpen, reply_to, iv_in, PassGoesOn, exception_of, unless_excepted}
@@ -122,6 +125,16 @@ SealedStaysReadable =
     → IsProper facts x → HasSealed facts (entries_of (take k s.history)) x places sealing
     → AreIdentityPolicies (callers_policies facts.identities y.caller) → (asks : AsksToOpen facts (entries_of (take j t.history)) y others sealing.blob sealing.context)
     → reply_to facts (entries_of (take j t.history)) y others ≡ unless_excepted (exception_of sealing.arn asks.held.stored) (Decrypted sealing.plaintext sealing.arn)
+
+-- a grant that is dropped in what a pass has seen stays away: at every history that the pass may be answered at, then or later, no grant
+-- has its id
+abbrev pub DroppedStaysAway : Type 0
+DroppedStaysAway =
+    (facts : RealmFacts) (p n j : ℕ) (before after : List Event) (s t : State) (history more : List Entry) (entry : Entry) (grant : List ℕ)
+    → Runs facts p start before s → Runs facts p s after t
+    → entries_of (take (s.seen n) s.history) ≡ (history ++ entry ∷ []) ++ more → entry.what ≡ what.GrantDrop grant
+    → t.seen n ≤ j → j ≤ length t.history
+    → grant_with (replay (entries_of (take j t.history))).grants grant ≡ None
 
 -- two requests of one pass that each sealed a text have given them different initialization vectors
 abbrev pub NoVectorTwice : Type 0

@@ -1,5 +1,5 @@
 use Rattle.publish_pass.proofs.Kept.{always}
-use Rattle.publish_pass.proofs.Again.{readable, no_vector_twice, no_vector_shared}
+use Rattle.publish_pass.proofs.Again.{readable, dropped_stays_away, no_vector_twice, no_vector_shared}
 use Rattle.publish_pass.proofs.laws.machine_law.Goals as goal
 
 pub returns-clause-holds : goal.returns-clause-holds
@@ -7,6 +7,9 @@ returns-clause-holds c = always c.times_never_fall.ensures
 
 pub returns-clause-readable : goal.returns-clause-readable
 returns-clause-readable c = readable c.times_never_fall.ensures c.sealed_is_decrypted_again.ensures
+
+pub returns-clause-dropped : goal.returns-clause-dropped
+returns-clause-dropped c = dropped_stays_away c.times_never_fall.ensures c.dropped_grants_stay_away.ensures
 
 pub returns-clause-vectors : goal.returns-clause-vectors
 returns-clause-vectors c = no_vector_twice c.times_never_fall.ensures c.one_pass_repeats_no_iv.ensures

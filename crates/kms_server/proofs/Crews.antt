@@ -1,0 +1,126 @@
+-- Workers in order, and what their passes learn.
+use Rattle.std.proofs.Common.{◌≡◌, ◌≢◌, ◌↔◌, ◌<◌, ◌≤◌, ◌+◌, ◌*◌, ℕ, zero, suc, List, [], ◌∷◌, ◌++◌, length, length-append, map, get_or, take, drop, below_more, Bool, refl, sym, subst, inr, ap, ap₂, ◌∙◌, arith}
+use Rattle.std.specs.Prelude.{All, sum}
+use Rattle.std.proofs.lemmas.List.Sums.{sum-map, sum_by-cons}
+use Rattle.std.proofs.lemmas.List.Elements.{All-map, All-head, All-tail, All-cons}
+use Rattle.std.specs.Prelude.{All, IsTrue, Result, Ok, Err, OnOk, OnErr}
+use Rattle.std.specs.List.{slice_set}
+use Rattle.std.proofs.lemmas.List.{get_or-set_same, get_or-set_other, get_or_default}
+use mathlib.Core.List.{IsPrefix}
+use Rattle.account_core.specs.declared.facts.RealmFacts.{RealmFacts}
+use Rattle.publish_pass.specs.Pass.{Pass, fresh_pass, fresh_passes, KeepsHouse, WantsHouse}
+use Rattle.publish_pass.proofs.Meeting.{learns_self, learns_trans}
+use Rattle.kms_session.specs.declared.trust.Trust.{Trust}
+use Rattle.kms_server.specs.Work.{WorkerState, Works, takes_all, gives_up}
+use Rattle.kms_server.specs.Crew.{Pairwise, none, both, Settles, taken_by}
+
+-- what is so place by place is so in order
+pub pairwise_each : {A X : Type 0} (P : X → X → Type 0) (f : A → X) (xs ys : List A) → length ys ≡ length xs
+    → ((i : ℕ) (d : A) → i < length xs → P (f (get_or xs i d)) (f (get_or ys i d))) → Pairwise P (map f xs) (map f ys)
+pairwise_each P f [] [] same each = none
+pairwise_each P f [] (y ∷ ys) same each = absurd (omega arith)
+pairwise_each P f (x ∷ xs) [] same each = absurd (omega arith)
+pairwise_each P f (x ∷ xs) (y ∷ ys) same each =
+    both (each 0 x (omega arith)) (pairwise_each P f xs ys (omega arith) (λ i d h. each (suc i) d (omega arith)))
+
+pub map_map : {A X Y : Type 0} (f : X → Y) (g : A → X) (xs : List A) → map f (map g xs) ≡ map (λ x. f (g x)) xs
+map_map f g [] = refl
+map_map f g (x ∷ xs) = ap (λ ys. f (g x) ∷ ys) (map_map f g xs)
+
+pub settles_self : (s : WorkerState) → Settles s s
+settles_self s = record { learns = learns_self s.pass; others = refl }
+
+pub settles_then : (s t u : WorkerState) → Settles s t → Settles t u → Settles s u
+settles_then s t u p q = record { learns = learns_trans s.pass t.pass u.pass p.learns q.learns; others = cc }
+
+-- the first of them settles further
+pub first_settles : {s t u : WorkerState} {ss ts : List WorkerState} → Pairwise Settles (s ∷ ss) (t ∷ ts) → Settles t u → Pairwise Settles (s ∷ ss) (u ∷ ts)
+first_settles {s} {t} {u} (both p h) q = both (settles_then s t u p q) h
+
+pub settled_all : (ss : List WorkerState) → Pairwise Settles ss ss
+settled_all [] = none
+settled_all (s ∷ ss) = both (settles_self s) (settled_all ss)
+
+pub settle_on : (ss ts us : List WorkerState) → Pairwise Settles ss ts → Pairwise Settles ts us → Pairwise Settles ss us
+settle_on [] [] [] none none = none
+settle_on [] [] (u ∷ us) h k = elim k [ ]
+settle_on [] (t ∷ ts) us h k = elim h [ ]
+settle_on (s ∷ ss) [] us h k = elim h [ ]
+settle_on (s ∷ ss) (t ∷ ts) [] h k = elim k [ ]
+settle_on (s ∷ ss) (t ∷ ts) (u ∷ us) (both p h) (both q k) = both (settles_then s t u p q) (settle_on ss ts us h k)
+
+taken_cons : (s : WorkerState) (ss : List WorkerState) → taken_by (s ∷ ss) ≡ s.taken + taken_by ss
+taken_cons s ss =
+    let taken : WorkerState → ℕ = λ w. w.taken in
+    sum-map taken (s ∷ ss) ∙ sum_by-cons taken s ss ∙ ap (λ (n : ℕ). s.taken + n) (sym (sum-map taken ss))
+
+-- what was taken stays so
+pub taken_settled : (ss ts : List WorkerState) → Pairwise Settles ss ts → taken_by ts ≡ taken_by ss
+taken_settled [] [] none = refl
+taken_settled [] (t ∷ ts) h = elim h [ ]
+taken_settled (s ∷ ss) [] h = elim h [ ]
+taken_settled (s ∷ ss) (t ∷ ts) (both p h) =
+    taken_cons t ts ∙ ap₂ (λ m n. m + n) (ap (λ (w : WorkerState). w.taken) p.others) (taken_settled ss ts h) ∙ sym (taken_cons s ss)
+
+-- a worker takes no more than it may
+pub works_few : {trust : Trust} {n : ℕ} {s t : WorkerState} → Works trust n s t → t.taken ≤ n
+works_few (takes_all run is in_) = omega (arith, is)
+works_few (gives_up run few h) = let same : _ ≡ _ = ap (λ (w : WorkerState). w.taken) h.others in omega (arith, few, same)
+
+pub taken_few : {trust : Trust} (n : ℕ) (ss ts : List WorkerState) → n ≤ 1000000000 → Pairwise (Works trust n) ss ts → taken_by ts ≤ length ss * 1000000000
+taken_few n [] [] few none = omega arith
+taken_few n [] (t ∷ ts) few h = elim h [ ]
+taken_few n (s ∷ ss) [] few h = elim h [ ]
+taken_few n (s ∷ ss) (t ∷ ts) few (both p h) =
+    let here : t.taken ≤ n = works_few p in
+    let rest : taken_by ts ≤ length ss * 1000000000 = taken_few n ss ts few h in
+    let all : taken_by (t ∷ ts) ≡ t.taken + taken_by ts = taken_cons t ts in
+    omega arith
+
+pub length_fresh : (facts : RealmFacts) (n : ℕ) → length (fresh_passes facts n) ≡ n
+length_fresh facts zero = refl
+length_fresh facts (suc n) = let size : length (fresh_passes facts n ++ fresh_pass facts (suc n) ∷ []) ≡ length (fresh_passes facts n) + 1 = length-append (fresh_passes facts n) (fresh_pass facts (suc n) ∷ []) in
+    let before : length (fresh_passes facts n) ≡ n = length_fresh facts n in
+    omega arith
+
+-- one more place is related, and those below it stay so
+pub related_more : {A : Type 0} (P : A → A → Type 0) (xs ys : List A) (i : ℕ) (e y : A) → i < length ys
+    → ((k : ℕ) (d : A) → k < i → P (get_or xs k d) (get_or ys k d)) → ((d : A) → get_or ys i d ≡ get_or xs i d) → P (get_or ys i e) y
+    → (k : ℕ) (d : A) → k < i + 1 → P (get_or xs k d) (get_or (slice_set ys i y) k d)
+related_more P xs ys i e y within below kept here k d lt =
+    below_more (λ (j : ℕ). P (get_or xs j d) (get_or (slice_set ys i y) j d)) i
+    (λ j h. let apart : j ≢ i = omega arith in subst (λ z. P (get_or xs j d) z) (sym (get_or-set_other ys i j y d apart)) (below j d h))
+    (subst (λ z. P (get_or xs i d) z) (sym (get_or-set_same ys i y d within)) (subst (λ z. P z y) (get_or_default ys i e d within ∙ kept d) here))
+    k lt
+
+-- places above it stay as they were
+pub kept_more : {A : Type 0} (xs ys : List A) (i : ℕ) (y : A) → ((k : ℕ) (d : A) → i ≤ k → get_or ys k d ≡ get_or xs k d)
+    → (k : ℕ) (d : A) → i + 1 ≤ k → get_or (slice_set ys i y) k d ≡ get_or xs k d
+kept_more xs ys i y above k d le = let apart : k ≢ i = omega arith in get_or-set_other ys i k y d apart ∙ above k d (omega arith)
+
+-- housekeeping was done, or for want of memory at most that
+pub house_left : {A E : Type 0} (r : Result A E) (s t : Pass) (moment : ℕ) → OnOk r (KeepsHouse s moment t) → OnErr r (WantsHouse s moment t) → WantsHouse s moment t
+house_left (Ok done) s t moment kept wants = record { met = kept.met; seen = kept.seen; left = inr kept.kept }
+house_left (Err lacks) s t moment kept wants = wants
+
+-- the first of a list, and what is left of it
+pub first_and_rest : {A : Type 0} (xs rest : List A) (x : A) → 0 < length xs → x ≡ get_or xs 0 x → rest ≡ take 0 xs ++ drop (0 + 1) xs → x ∷ rest ≡ xs
+first_and_rest [] rest x some is left = absurd (omega arith)
+first_and_rest (y ∷ ys) rest x some is left = ap₂ (λ a b. a ∷ b) is left
+
+pub all_unmap : {A X : Type 0} (P : X → Type 0) (f : A → X) (xs : List A) → All P (map f xs) → All (λ x. P (f x)) xs
+all_unmap P f [] all = λ k d lt. absurd (omega arith)
+all_unmap P f (x ∷ xs) all = All-cons (λ y. P (f y)) x xs (All-head P (f x) (map f xs) all) (all_unmap P f xs (All-tail P (f x) (map f xs) all))
+
+-- what holds of each is told of each, through what is seen of them
+pub tells_all : {A X : Type 0} (P : X → Type 0) (f : A → X) (xs ys : List A) (told : Bool) → ys ≡ xs → (IsTrue told ↔ All (λ x. P (f x)) ys) → IsTrue told ↔ All P (map f xs)
+tells_all P f xs ys told same tells =
+    let both_ways = subst (λ zs. IsTrue told ↔ All (λ x. P (f x)) zs) same tells in
+    (λ h. All-map P f xs (both_ways.0 h), λ all. both_ways.1 (all_unmap P f xs all))
+
+-- what a slice of a whole vector left is what the vector then holds
+pub written_back : {A : Type 0} (n : ℕ) (xs rest : List A) → n ≡ length xs → take n (xs ++ rest) ≡ xs
+written_back zero [] rest same = refl
+written_back (suc n) [] rest same = absurd (omega arith)
+written_back zero (x ∷ xs) rest same = absurd (omega arith)
+written_back (suc n) (x ∷ xs) rest same = ap (λ ys. x ∷ ys) (written_back n xs rest (omega arith))

@@ -1,0 +1,64 @@
+-- What a server does.
+use Rattle.std.specs.Prelude.{◌≡◌, ◌⊎◌, ℕ, List, ◌++◌, take, drop, Option}
+use Rattle.kms_io.specs.Wire.{RoseBy}
+use Rattle.kms_io.specs.Listening.{Listening}
+use Rattle.kms_io.specs.Doorway.{Doorway}
+use Rattle.kms_io.specs.Door.{AsksFor, MayAskFor, Closes}
+use Rattle.account_core.specs.declared.facts.RealmFacts.{RealmFacts}
+use Rattle.publish_pass.specs.Pass.{fresh_passes}
+use Rattle.kms_session.specs.declared.trust.Trust.{Trust}
+use Rattle.kms_server.specs.declared.server.Order.{Order}
+use Rattle.kms_server.specs.declared.server.Outcome.{Outcome}
+use Rattle.kms_server.specs.declared.server.Outcome.TheVariants as outcome
+use Rattle.kms_server.specs.declared.server.Served.{Served}
+use Rattle.kms_server.specs.Work.{WorkerState, Works}
+use Rattle.kms_server.specs.Crew.{Pairwise, IsCrew, Finishes}
+
+-- the address of a door, how many workers there are, and how many connections each takes
+pub record Wanted : Type 0 where
+  pub address : List ℕ
+  pub workers : ℕ
+  pub connections : ℕ
+
+abbrev pub wanted_by : Order → Wanted
+wanted_by order = record { address = order.address.now; workers = order.workers; connections = order.connections }
+
+-- what a door shows, and what the clocks tell, in order
+pub record Surroundings : Type 0 where
+  pub door : Doorway
+  pub clocks : List (Option (List ℕ))
+
+abbrev pub surroundings : Doorway → List (Option (List ℕ)) → Surroundings
+surroundings door clocks = record { door = door; clocks = clocks }
+
+-- The door was opened once, and each worker took its connections with a pass of one service, which had no entries at first, and with
+-- a clock of its own. In the end the ears went back to the door and the clocks to their places.
+pub record ServesDoor (facts : RealmFacts) (trust : Trust) (wanted : Wanted) (served : Served) (old new : Surroundings) : Type 0 where
+  pub opened : Doorway
+  pub asked : AsksFor old.door wanted.address wanted.workers opened
+  pub crew : List WorkerState
+  pub is_crew : IsCrew (fresh_passes facts wanted.workers) (take wanted.workers old.clocks) crew
+  pub ends : List WorkerState
+  pub work : Pairwise (Works trust wanted.connections) crew ends
+  pub ears : List Listening
+  pub told : List (Option (List ℕ))
+  pub finishes : Finishes facts wanted.workers wanted.connections ends served ears told
+  pub closed : Closes opened ears new.door
+  pub clocks : new.clocks ≡ told ++ drop wanted.workers old.clocks
+
+-- the door was asked once and failed, and no clock was asked
+pub record FindsShut (wanted : Wanted) (old new : Surroundings) : Type 0 where
+  pub asked : AsksFor old.door wanted.address wanted.workers new.door
+  pub rose : RoseBy 1 old.door.faults new.door.faults
+  pub clocks : new.clocks ≡ old.clocks
+
+-- for want of memory nobody worked: the door was asked at most once, and no clock was asked
+pub record OpensNothing (wanted : Wanted) (old new : Surroundings) : Type 0 where
+  pub asked : (new.door ≡ old.door) ⊎ MayAskFor old.door wanted.address wanted.workers new.door
+  pub clocks : new.clocks ≡ old.clocks
+
+-- what comes of what is wanted
+abbrev pub Fulfils : RealmFacts → Trust → Wanted → Outcome → Surroundings → Surroundings → Type 0
+Fulfils facts trust wanted (outcome.Served served) old new = ServesDoor facts trust wanted served old new
+Fulfils facts trust wanted outcome.Shut old new = FindsShut wanted old new
+Fulfils facts trust wanted outcome.NoMemory old new = OpensNothing wanted old new

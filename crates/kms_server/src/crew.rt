@@ -1,0 +1,182 @@
+// The workers of a server, from their passes, ears and clocks to the end of their work.
+ghost use Rattle.std.specs.Prelude.{◌≡◌, ◌↔◌, ◌≤◌, ◌<◌, ◌+◌, ◌++◌, ◌∷◌, ◌^◌, ℕ, [], All, IsTrue, length, map, take, drop, slice_index_or, vec_len, vec_capacity, false};
+ghost use mathlib.Core.List.{IsPrefix};
+ghost use Rattle.kms_io.specs.Door.{IsNewEar};
+ghost use Rattle.kms_session.specs.Callers.{IsOfAccount};
+ghost use Rattle.kms_server.specs.Work.{Works};
+ghost use Rattle.publish_pass.specs.Pass.{Learns};
+ghost use Rattle.kms_server.specs.Crew.{Pairwise, Settles, FirstIsLongest, taken_by};
+ghost use Rattle.kms_server.specs.States.{state_of, states_of};
+
+use crate::worker::{Host, Worker, work};
+use kms_io::{Clock, Ear, Gate};
+use publish_pass::{Pass, Realm, Service};
+use std::sync::Wait;
+use std::thread;
+use std::thread::Threads;
+
+/// A worker for each pass, with the ears and the first clocks in order.
+pub fn gather<R: Realm, E: Ear, C: Clock + Drop>(
+    mut passes: Vec<Pass<R>>,
+    ears: &mut Vec<E>,
+    clocks: &mut Vec<C>,
+    crew: &mut Vec<Worker<R, E, C>>,
+)
+    requires room { vec_len passes ≤ vec_capacity crew.old }
+    requires nobody { crew.old.items ≡ [] }
+    requires ears { vec_len ears.old ≡ vec_len passes }
+    requires clocks { vec_len passes ≤ vec_len clocks.old }
+    requires new { All (λ ear. IsNewEar (E.shows ear)) ears.old.items }
+    ensures passes { map (λ worker. worker.pass) crew.new.items ≡ passes.items }
+    ensures clocks { map (λ worker. worker.clock) crew.new.items ≡ take (vec_len passes) clocks.old.items }
+    ensures ears { All (λ worker. IsNewEar (E.shows worker.ear)) crew.new.items }
+    ensures taken { All (λ worker. worker.taken ≡ 0) crew.new.items }
+    ensures size { vec_len crew.new ≡ vec_len passes }
+    ensures rest { clocks.new.items ≡ drop (vec_len passes) clocks.old.items }
+    ensures none { ears.new.items ≡ [] }
+    ensures ears_room { vec_capacity ears.new ≡ vec_capacity ears.old }
+    ensures clocks_room { vec_capacity clocks.new ≡ vec_capacity clocks.old }
+{
+    while !passes.is_empty() {
+        crew.push_reserved(Worker {
+            pass: passes.remove(0),
+            ear: ears.remove(0),
+            clock: clocks.remove(0),
+            taken: 0,
+        });
+    }
+}
+
+// Lets each worker work in a thread of its own, where one can be had, until the last is done.
+fn work_each<
+    W: Threads + Wait + Sync,
+    R: Realm + Send + Sync,
+    G: Gate + Sync,
+    E: Ear + Send,
+    C: Clock + Send + Drop,
+>(host: &Host<'_, W, R, G>, crew: &mut [Worker<R, E, C>])
+where
+    E::Conn: Send,
+    requires some { 0 < length crew.old }
+    requires trust { IsOfAccount R.facts.account host.now.trust.now }
+    requires is_in { All (λ worker. (E.shows worker.ear).is_out ≡ false) crew.old }
+    requires new { All (λ worker. worker.taken ≡ 0) crew.old }
+    ensures { (i : ℕ) (d : _) → i < length crew.old → Works host.now.trust.now host.now.connections (state_of C.told E.shows (slice_index_or crew.old i d)) (state_of C.told E.shows (slice_index_or crew.new i d)) }
+{
+    let threads = crew.len();
+    thread::for_each_mut(host.rt, crew, threads, &|_, worker| work(host, worker));
+}
+
+/// Lets all workers work, each in a thread of its own where one can be had, until the last is done.
+pub fn work_all<
+    W: Threads + Wait + Sync,
+    R: Realm + Send + Sync,
+    G: Gate + Sync,
+    E: Ear + Send,
+    C: Clock + Send + Drop,
+>(host: &Host<'_, W, R, G>, crew: &mut [Worker<R, E, C>])
+where
+    E::Conn: Send,
+    requires some { 0 < length crew.old }
+    requires trust { IsOfAccount R.facts.account host.now.trust.now }
+    requires is_in { All (λ worker. (E.shows worker.ear).is_out ≡ false) crew.old }
+    requires new { All (λ worker. worker.taken ≡ 0) crew.old }
+    ensures { Pairwise (Works host.now.trust.now host.now.connections) (states_of C.told E.shows crew.old) (states_of C.told E.shows crew.new) }
+{
+    work_each(host, crew);
+}
+
+// Lets a worker's pass learn the whole history.
+fn settle<W: Wait, R: Realm, E: Ear, C: Clock + Drop>(
+    rt: &W,
+    service: &Service<R>,
+    worker: &mut Worker<R, E, C>,
+)
+    ensures { Settles (state_of C.told E.shows worker.old) (state_of C.told E.shows worker.new) }
+{
+    worker.pass.settle(rt, service);
+}
+
+/// Lets each worker's pass learn the whole history.
+pub fn settle_all<W: Wait, R: Realm, E: Ear, C: Clock + Drop>(
+    rt: &W,
+    service: &Service<R>,
+    crew: &mut [Worker<R, E, C>],
+)
+    ensures { Pairwise Settles (states_of C.told E.shows crew.old) (states_of C.told E.shows crew.new) }
+{
+    for worker in crew.iter_mut() {
+        settle(rt, service, worker);
+    }
+}
+
+// Lets a pass learn what each of these workers tells.
+fn learn_from<R: Realm, E: Ear, C: Clock + Drop>(pass: &mut Pass<R>, crew: &[Worker<R, E, C>])
+    ensures learns { Learns pass.old pass.new }
+    ensures begins { All (λ worker. IsPrefix worker.pass.history pass.new.history) crew.now }
+{
+    for worker in crew {
+        pass.learn(&worker.pass.tell());
+    }
+}
+
+/// Lets the first worker's pass learn what each other one tells, and gives how many entries it then holds.
+pub fn learn_all<R: Realm, E: Ear, C: Clock + Drop>(crew: &mut Vec<Worker<R, E, C>>) -> u64
+    requires { 0 < vec_len crew.old }
+    ensures settles { Pairwise Settles (states_of C.told E.shows crew.old.items) (states_of C.told E.shows crew.new.items) }
+    ensures longest { FirstIsLongest R.facts R.passes result (states_of C.told E.shows crew.new.items) }
+    ensures size { vec_len crew.new ≡ vec_len crew.old }
+{
+    let mut first = crew.remove(0);
+    learn_from(&mut first.pass, crew);
+    let front = first.pass.seen();
+    put_first(crew, first);
+    front
+}
+
+/// How many connections the workers took, of so many that each could take.
+pub fn taken_by<R: Realm, E: Ear, C: Clock + Drop>(crew: &[Worker<R, E, C>]) -> u64
+    requires { taken_by (states_of C.told E.shows crew.now) < 2 ^ 64 }
+    ensures { result ≡ taken_by (states_of C.told E.shows crew.now) }
+{
+    crew.iter().map(|worker| worker.taken).sum()
+}
+
+/// Whether each worker took all its connections.
+pub fn took_all<R: Realm, E: Ear, C: Clock + Drop>(
+    crew: &[Worker<R, E, C>],
+    connections: u64,
+) -> bool
+    ensures { IsTrue result ↔ All (λ worker. worker.taken ≡ connections) crew.now }
+{
+    crew.iter().all(|worker| worker.taken == connections)
+}
+
+/// Puts an item before those that there are.
+pub fn put_first<T: Drop>(items: &mut Vec<T>, item: T)
+    requires { vec_len items.old < vec_capacity items.old }
+    ensures items { items.new.items ≡ item ∷ items.old.items }
+    ensures room { vec_capacity items.old ≤ vec_capacity items.new }
+{
+    match items.insert(0, item) {
+        Ok(()) => {}
+        Err(_) => unreachable!(),
+    }
+}
+
+/// Puts the workers' ears and clocks, in order, before those that there are.
+pub fn disband<R: Realm, E: Ear, C: Clock + Drop>(
+    mut crew: Vec<Worker<R, E, C>>,
+    ears: &mut Vec<E>,
+    clocks: &mut Vec<C>,
+)
+    requires ears { vec_len ears.old + vec_len crew ≤ vec_capacity ears.old }
+    requires clocks { vec_len clocks.old + vec_len crew ≤ vec_capacity clocks.old }
+    ensures ears { ears.new.items ≡ map (λ worker. worker.ear) crew.items ++ ears.old.items }
+    ensures clocks { clocks.new.items ≡ map (λ worker. worker.clock) crew.items ++ clocks.old.items }
+{
+    while let Some(worker) = crew.pop() {
+        put_first(ears, worker.ear);
+        put_first(clocks, worker.clock);
+    }
+}

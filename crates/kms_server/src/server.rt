@@ -1,0 +1,201 @@
+// A server, from the opening of its door to its closing.
+ghost use Rattle.std.specs.Prelude.{◌≡◌, ◌≤◌, ◌<◌, ◌+◌, ◌++◌, ◌^◌, ℕ, List, [], Option, map, vec_len, vec_capacity};
+ghost use Rattle.publish_pass.specs.Rules.{Names};
+ghost use Rattle.publish_pass.specs.Pass.{fresh_passes};
+ghost use Rattle.kms_session.specs.Callers.{IsOfAccount};
+ghost use Rattle.kms_server.specs.Crew.{Finishes, taken_by};
+ghost use Rattle.kms_server.specs.States.{states_of};
+ghost use Rattle.kms_server.specs.Server.{wanted_by, surroundings, Fulfils};
+
+use crate::crew::{disband, gather, learn_all, settle_all, taken_by, took_all, work_all};
+use crate::worker::{Host, Worker};
+use account_core::RealmFacts;
+use kms_io::{Clock, Door, Ear, Gate, Opened};
+use kms_session::Trust;
+use publish_pass::{Opening, Pass, Realm, Service, open_service};
+use std::alloc::Global;
+use std::marker::Brand;
+use std::sync::Wait;
+use std::thread::Threads;
+
+/// What is to be served.
+#[derive(Clone, Copy)]
+pub struct Order<'a> {
+    /// The address of the door.
+    pub address: &'a str,
+    /// How many workers there are, from 1 to 64.
+    pub workers: u16,
+    /// How many connections each worker takes, from 1 to 1,000,000,000.
+    pub connections: u64,
+}
+
+/// What was served.
+#[derive(Clone, Copy, Debug, PartialEq, Eq)]
+pub struct Served {
+    /// How many connections were taken.
+    pub connections: u64,
+    /// How many entries the longest history has that a pass holds.
+    pub front: u64,
+    /// Whether each worker took all its connections.
+    pub is_whole: bool,
+}
+
+/// What came of an order.
+#[derive(Clone, Copy, Debug, PartialEq, Eq)]
+pub enum Outcome {
+    /// The workers worked, and the ears are back at the door.
+    Served(Served),
+    /// The door couldn't be opened.
+    Shut,
+    /// A growth of memory was refused before anybody worked.
+    NoMemory,
+}
+
+// Ends the work of a crew: its passes learn the whole history, and its ears and clocks are put before those that
+// there are.
+fn finish<W: Wait, R: Realm, E: Ear, C: Clock + Drop>(
+    rt: &W,
+    service: &Service<R>,
+    connections: u64,
+    mut crew: Vec<Worker<R, E, C>>,
+    ears: &mut Vec<E>,
+    clocks: &mut Vec<C>,
+) -> Served
+    requires some { 0 < vec_len crew }
+    requires few { taken_by (states_of C.told E.shows crew.items) < 2 ^ 64 }
+    requires nobody { ears.old.items ≡ [] }
+    requires ears { vec_len crew ≤ vec_capacity ears.old }
+    requires clocks { vec_len clocks.old + vec_len crew ≤ vec_capacity clocks.old }
+    ensures { (told : List (Option (List ℕ))) × (map C.told clocks.new.items ≡ told ++ map C.told clocks.old.items) × Finishes R.facts R.passes connections (states_of C.told E.shows crew.items) result (map E.shows ears.new.items) told }
+{
+    settle_all(rt, service, crew.as_mut_slice());
+    let front = learn_all(&mut crew);
+    let served = Served {
+        connections: taken_by(&crew),
+        front,
+        is_whole: took_all(&crew, connections),
+    };
+    disband(crew, ears, clocks);
+    served
+}
+
+// Serves at a door with the passes of a service.
+fn serve_with<
+    W: Threads + Wait + Sync,
+    R: Realm + Send + Sync,
+    C: Clock + Send + Drop,
+    D: Door,
+    G: Gate + Sync,
+>(
+    host: &Host<'_, W, R, G>,
+    passes: Vec<Pass<R>>,
+    order: &Order<'_>,
+    clocks: &mut Vec<C>,
+    door: &mut D,
+) -> Outcome
+where
+    <D::Listener as Ear>::Conn: Send,
+    requires passes { passes.items ≡ fresh_passes R.facts R.passes }
+    requires trust { IsOfAccount R.facts.account host.now.trust.now }
+    requires workers { (R.passes ≡ order.now.workers) × (0 < order.now.workers) × (order.now.workers ≤ 64) }
+    requires connections { (host.now.connections ≡ order.now.connections) × (order.now.connections ≤ 1000000000) }
+    requires clocks { vec_len clocks.old ≡ 64 }
+    ensures { Fulfils R.facts host.now.trust.now (wanted_by order.now) result (surroundings (D.shows door.old) (map C.told clocks.old.items)) (surroundings (D.shows door.new) (map C.told clocks.new.items)) }
+{
+    let Ok(mut crew) = Vec::with_capacity(host.alloc, passes.len()) else {
+        return Outcome::NoMemory;
+    };
+    let mut ears = Vec::new(host.alloc);
+    match door.open(order.address, order.workers, &mut ears) {
+        Opened::Open => {}
+        Opened::Failed => return Outcome::Shut,
+        Opened::NoMemory => return Outcome::NoMemory,
+    }
+    gather(passes, &mut ears, clocks, &mut crew);
+    work_all(host, crew.as_mut_slice());
+    let served = finish(
+        host.rt,
+        host.service,
+        order.connections,
+        crew,
+        &mut ears,
+        clocks,
+    );
+    door.close(ears);
+    Outcome::Served(served)
+}
+
+// Opens the service and serves.
+fn serve_realm<
+    W: Threads + Wait + Sync,
+    R: Realm + Send + Sync,
+    C: Clock + Send + Drop,
+    D: Door,
+    G: Gate + Sync,
+>(
+    rt: &W,
+    alloc: Global,
+    opening: Opening,
+    trust: &Trust,
+    order: &Order<'_>,
+    clocks: &mut Vec<C>,
+    door: &mut D,
+    gate: &G,
+) -> Outcome
+where
+    <D::Listener as Ear>::Conn: Send,
+    requires ledger { (opening.name ≡ R.name) × (opening.parts ≡ R.parts) }
+    requires names { Names R.book R.facts R.passes opening.shown }
+    requires workers { (opening.shown.whole.passes ≡ order.now.workers) × (0 < order.now.workers) × (order.now.workers ≤ 64) }
+    requires connections { order.now.connections ≤ 1000000000 }
+    requires trust { IsOfAccount opening.shown.whole.facts.account trust.now }
+    requires clocks { vec_len clocks.old ≡ 64 }
+    ensures { Fulfils opening.shown.whole.facts trust.now (wanted_by order.now) result (surroundings (D.shows door.old) (map C.told clocks.old.items)) (surroundings (D.shows door.new) (map C.told clocks.new.items)) }
+{
+    let Ok((service, passes)) = open_service::<W, R>(rt, alloc, opening) else {
+        return Outcome::NoMemory;
+    };
+    let host = Host {
+        rt,
+        alloc,
+        service: &service,
+        trust,
+        gate,
+        connections: order.connections,
+    };
+    let outcome = serve_with(&host, passes, order, clocks, door);
+    service.shut(rt);
+    outcome
+}
+
+/// Serves an account that has no entries yet, at a door. Each worker has a pass of one service, an ear of the
+/// door and one of the clocks, and takes its connections one after another, each in a thread of its own where
+/// one can be had. The conditions are 1 to 64 workers, at most 1,000,000,000 connections each, 64 clocks, and
+/// that whoever may be the caller is of the account.
+///
+/// A worker whose ear fails 16 times in a row takes no more. After the last worker is done every pass learns
+/// the whole history, the ears go back to the door and the clocks to their places. `Shut` comes only where the
+/// door failed, and `NoMemory` only before anybody worked.
+pub fn serve<W: Threads + Wait + Sync, C: Clock + Send + Drop, D: Door, G: Gate + Sync>(
+    rt: &W,
+    alloc: Global,
+    facts: RealmFacts,
+    trust: &Trust,
+    order: &Order<'_>,
+    clocks: &mut Vec<C>,
+    door: &mut D,
+    gate: &G,
+) -> Outcome
+where
+    <D::Listener as Ear>::Conn: Send,
+    requires workers { (0 < order.now.workers) × (order.now.workers ≤ 64) }
+    requires connections { order.now.connections ≤ 1000000000 }
+    requires trust { IsOfAccount facts.account trust.now }
+    requires clocks { vec_len clocks.old ≡ 64 }
+    ensures { Fulfils facts trust.now (wanted_by order.now) result (surroundings (D.shows door.old) (map C.told clocks.old.items)) (surroundings (D.shows door.new) (map C.told clocks.new.items)) }
+{
+    let Ok(opening) = Opening::new(rt, alloc, facts, order.workers) else {
+        return Outcome::NoMemory;
+    };
+    serve_realm::<W, Brand, C, D, G>(rt, alloc, opening, trust, order, clocks, door, gate)
+}

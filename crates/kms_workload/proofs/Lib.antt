@@ -1,0 +1,4 @@
+pub mod MessageLemmas
+pub mod LineLemmas
+pub mod ReplyLemmas
+pub mod SessionLemmas

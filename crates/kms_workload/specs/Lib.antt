@@ -1,0 +1,11 @@
+pub mod Facts
+pub mod Words
+pub mod Requests
+pub mod Workload
+pub mod Lines
+pub mod Replies
+pub mod Seconds
+pub mod Clock
+pub mod Session
+pub mod Summary
+pub mod Tally

@@ -1,0 +1,29 @@
+-- One session of a new service.
+use Rattle.std.specs.Prelude.{◌≡◌, ℕ, List, [], Option, Some, length, Bool, true, false}
+use Rattle.kms_io.specs.Wire.{Wire}
+use Rattle.account_core.specs.declared.facts.RealmFacts.{RealmFacts}
+use Rattle.publish_pass.specs.Pass.{Pass, fresh_pass}
+use Rattle.kms_session.specs.declared.trust.Trust.{Trust}
+use Rattle.kms_session.specs.declared.session.SessionEnd.{SessionEnd}
+use Rattle.kms_session.specs.declared.session.SessionEnd.TheVariants.{Ended, Closed, CutOff, ReadFault, WriteFault, NoMemory}
+use Rattle.kms_session.specs.Session.{outside, EndsBy}
+use Rattle.kms_workload.specs.declared.serve.Past.{Past}
+
+-- one session is served from an empty history, and ends so, with so many entries
+pub record Serving (facts : RealmFacts) (trust : Trust) (past : Past) (old : Wire) (told : Option (List ℕ)) (new : Wire) (later : Option (List ℕ)) : Type 0 where
+  pub pass : Pass
+  pub ends : EndsBy trust past.end (outside old told (fresh_pass facts 1)) (outside new later pass)
+  pub front : past.front ≡ length pass.history
+
+-- a link in memory that has these bytes to give
+abbrev pub wire_before : List ℕ → Wire
+wire_before input = record { taken = Some []; written = Some []; left = Some input; moves = Some []; read_faults = 0; write_faults = 0 }
+
+-- all that the link had to give is answered, or the last reply closed the session
+abbrev pub is_over : SessionEnd → Bool
+is_over Ended = true
+is_over Closed = true
+is_over CutOff = false
+is_over ReadFault = false
+is_over WriteFault = false
+is_over NoMemory = false
