@@ -1,5 +1,6 @@
 mod Callers
 mod Configured
 mod WordFacts
-mod BootFacts
+mod NumberFacts
 mod Programs
+mod Clocks

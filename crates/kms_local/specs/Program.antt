@@ -1,11 +1,13 @@
 -- What the program does.
-use Rattle.std.specs.Prelude.{◌≡◌, ◌⊎◌, ◌++◌, ℕ, List, length, decimal, codes, Option, None, Some, option_and_then, slice_get}
+use Rattle.std.specs.Prelude.{◌≡◌, ◌⊎◌, ◌++◌, ◌∷◌, ℕ, List, [], length, decimal, codes, drop, Bool, true, false, Option, None, Some}
 use Rattle.kms_io.specs.Wire.{Wire, RoseBy}
 use Rattle.kms_io.specs.Shelf.{Shelf}
+use Rattle.kms_io.specs.Doorway.{Doorway}
 use Rattle.kms_io.specs.Files.{Asks, MayAsk}
 use Rattle.account_core.specs.declared.facts.RealmFacts.{RealmFacts}
 use Rattle.kms_config.specs.declared.config.Config.{Config}
 use Rattle.kms_session.specs.declared.trust.Trust.{Trust}
+use Rattle.kms_session.specs.declared.trust.Trust.TheVariants.{Signed}
 use Rattle.kms_local.specs.declared.settings.Settings.{Settings}
 use Rattle.kms_local.specs.declared.settings.RunOption.{RunOption}
 use Rattle.kms_local.specs.declared.settings.RunOption.TheVariants.{Account, Region, Root, Boot, As}
@@ -13,13 +15,12 @@ use Rattle.kms_session.specs.declared.session.SessionEnd.{SessionEnd}
 use Rattle.kms_session.specs.declared.session.SessionEnd.TheVariants.{Ended, Closed, CutOff, ReadFault, WriteFault, NoMemory}
 use Rattle.publish_pass.specs.Pass.{Pass, fresh_pass}
 use Rattle.kms_session.specs.Session.{outside, SendsWhole, SendsShort, EndsBy}
-use Rattle.kms_local.specs.Words.{Command, RunValues, run, run_file, check, command_of}
+use Rattle.kms_server.specs.declared.server.Served.{Served}
+use Rattle.kms_server.specs.Server.{Wanted, Surroundings, surroundings, ServesDoor, FindsShut, OpensNothing}
+use Rattle.kms_workload.specs.Summary.{Summarizes}
+use Rattle.kms_local.specs.Words.{Command, RunValues, ServeValues, run, run_file, check, serve, load, command_of}
 use Rattle.kms_local.specs.Settings.{IsSettings, IsRefusedAt, IsConfigured, IsNobody}
 use Rattle.kms_local.specs.Files.{IsFileOf, IsFileRefused, IsFileTooLong}
-
--- what the first of these tells, where there is one and it tells
-abbrev pub first_told : {C : Type 0} → (C → Option (List ℕ)) → List C → Option (List ℕ)
-first_told told clocks = option_and_then told (slice_get clocks 0)
 
 -- what the link and the files show, and what the first clock tells
 pub record Around : Type 0 where
@@ -49,6 +50,10 @@ refused_line path = codes "configuration refused at " ++ path ++ codes "\n"
 -- the line of a configuration with so many credentials and so many principals with policies
 abbrev pub checked_line : ℕ → ℕ → List ℕ
 checked_line credentials principals = codes "ok credentials " ++ decimal credentials ++ codes " principals " ++ decimal principals ++ codes "\n"
+
+-- the line of so many connections, and of the most entries that a pass holds
+abbrev pub served_line : ℕ → ℕ → List ℕ
+served_line connections front = codes "served " ++ decimal connections ++ codes " front " ++ decimal front ++ codes "\n"
 
 -- the line was written, or a front of it, and then the link failed
 abbrev pub SaysLine : List ℕ → Wire → Wire → Type 0
@@ -127,13 +132,89 @@ pub data WithFile (file : List ℕ) (status : ℕ) (old new : Around) (Does : Co
   not_configured : RunsNoFile file status old new → Asks old.shelf file new.shelf → WithFile file status old new Does
   lacks : Rests 7 status old new → MayAsk old.shelf file new.shelf → WithFile file status old new Does
 
--- what the program does for a command, or for words that are none
-abbrev pub Does : Option Command → ℕ → Around → Around → Type 0
-Does None status old new = Says usage_line 2 status old new × (new.shelf ≡ old.shelf)
-Does (Some (run values)) status old new = RunsValues values status old new × (new.shelf ≡ old.shelf)
-Does (Some (run_file file caller)) status old new = WithFile file status old new (λ config. RunsConfig config caller status old new)
-Does (Some (check file)) status old new = WithFile file status old new (λ config. Checks config status old new)
+-- ---- all that the program uses
 
--- what the program does for these words; or there is no memory to read them
-abbrev pub Runs : List (List ℕ) → ℕ → Around → Around → Type 0
-Runs words status old new = Does (command_of words) status old new ⊎ (Rests 7 status old new × (new.shelf ≡ old.shelf))
+-- what the link, the files and the door show, and what the clocks tell, in order
+pub record Everything : Type 0 where
+  pub wire : Wire
+  pub shelf : Shelf
+  pub door : Doorway
+  pub clocks : List (Option (List ℕ))
+
+abbrev pub everything : Wire → Shelf → Doorway → List (Option (List ℕ)) → Everything
+everything wire shelf door clocks = record { wire = wire; shelf = shelf; door = door; clocks = clocks }
+
+-- what the first clock tells
+abbrev pub first_of : List (Option (List ℕ)) → Option (List ℕ)
+first_of [] = None
+first_of (told ∷ others) = told
+
+-- the same for one that uses the link, the first clock and the files alone
+abbrev pub one_of : Everything → Around
+one_of all = around all.wire (first_of all.clocks) all.shelf
+
+-- no door is opened, and no other clock than the first is asked
+pub record LeavesOthers (old new : Everything) : Type 0 where
+  pub door : new.door ≡ old.door
+  pub clocks : drop 1 new.clocks ≡ drop 1 old.clocks
+
+-- no door is opened, and no clock is asked
+pub record AsksNone (old new : Everything) : Type 0 where
+  pub door : new.door ≡ old.door
+  pub clocks : new.clocks ≡ old.clocks
+
+-- nothing but the link is used
+pub record AsksNothing (old new : Everything) : Type 0 where
+  pub shelf : new.shelf ≡ old.shelf
+  pub none : AsksNone old new
+
+-- ---- a server
+
+-- what `serve` wants
+abbrev pub wanted_of : ServeValues → Wanted
+wanted_of values = record { address = values.address; workers = values.workers; connections = values.connections }
+
+-- Lines are written. If all is well the status is 0, or 6 where they can't be written whole; else it is 5 whether they can or not.
+abbrev pub Reports : Bool → List ℕ → ℕ → Wire → Wire → Type 0
+Reports true lines status old new = (SendsWhole old new lines × (status ≡ 0)) ⊎ (SendsShort old new lines × (status ≡ 6))
+Reports false lines status old new = SaysLine lines old new × (status ≡ 5)
+
+abbrev pub around_door : Everything → Surroundings
+around_door all = surroundings all.door all.clocks
+
+-- what `serve` does, once the file is a configuration: its connections are served, and then comes the line of what was served, unless
+-- there is no memory for it; or the door can't be opened; or there is no memory to serve
+pub data ServesConfig (config : Config) (values : ServeValues) (status : ℕ) (old new : Everything) : Type 0 where
+  serves : (served : Served) → ServesDoor config.facts (Signed config.credentials) (wanted_of values) served (around_door old) (around_door new)
+      → Reports served.is_whole (served_line served.connections served.front) status old.wire new.wire → ServesConfig config values status old new
+  serves_unsaid : (served : Served) → ServesDoor config.facts (Signed config.credentials) (wanted_of values) served (around_door old) (around_door new)
+      → new.wire ≡ old.wire → status ≡ 7 → ServesConfig config values status old new
+  finds_shut : FindsShut (wanted_of values) (around_door old) (around_door new) → new.wire ≡ old.wire → status ≡ 5 → ServesConfig config values status old new
+  lacks : OpensNothing (wanted_of values) (around_door old) (around_door new) → new.wire ≡ old.wire → status ≡ 7 → ServesConfig config values status old new
+
+-- what `serve` does: the file was asked for, and then the door
+pub data ServesFile (values : ServeValues) (status : ℕ) (old new : Everything) : Type 0 where
+  configured : (config : Config) → IsFileOf old.shelf values.file config → Asks old.shelf values.file new.shelf → ServesConfig config values status old new → ServesFile values status old new
+  otherwise : WithFile values.file status (one_of old) (one_of new) (λ config. ⊥) → AsksNone old new → ServesFile values status old new
+
+-- ---- a workload
+
+-- what `load` does: the lines that sum up a run of its requests; or there is no memory
+pub data Sums (seed requests status : ℕ) (old new : Wire) : Type 0 where
+  sums : (lines : List ℕ) → Summarizes seed requests lines → Reports true lines status old new → Sums seed requests status old new
+  lacks : new ≡ old → status ≡ 7 → Sums seed requests status old new
+
+-- ---- the program
+
+-- what it does for a command, or for words that are none
+abbrev pub Does : Option Command → ℕ → Everything → Everything → Type 0
+Does None status old new = Says usage_line 2 status (one_of old) (one_of new) × AsksNothing old new
+Does (Some (run values)) status old new = RunsValues values status (one_of old) (one_of new) × (new.shelf ≡ old.shelf) × LeavesOthers old new
+Does (Some (run_file file caller)) status old new = WithFile file status (one_of old) (one_of new) (λ config. RunsConfig config caller status (one_of old) (one_of new)) × LeavesOthers old new
+Does (Some (check file)) status old new = WithFile file status (one_of old) (one_of new) (λ config. Checks config status (one_of old) (one_of new)) × AsksNone old new
+Does (Some (serve values)) status old new = ServesFile values status old new
+Does (Some (load seed requests)) status old new = Sums seed requests status old.wire new.wire × AsksNothing old new
+
+-- what it does for these words; or there is no memory to read them
+abbrev pub Runs : List (List ℕ) → ℕ → Everything → Everything → Type 0
+Runs words status old new = Does (command_of words) status old new ⊎ (Rests 7 status (one_of old) (one_of new) × AsksNothing old new)

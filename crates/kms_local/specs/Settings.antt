@@ -1,15 +1,12 @@
 -- What the values of `run` stand for, and which of them is refused.
-use Rattle.std.specs.Prelude.{◌≡◌, ℕ, List, [], length, Option, Some, None, IsSome, Ok, option_and_then}
+use Rattle.std.specs.Prelude.{◌≡◌, ℕ, List, [], length, Option, Some, None, IsSome, Ok}
 use Rattle.std.specs.List.{AllPass}
 use Rattle.hex.specs.Hex.{decode_of, is_hex_digit}
-use Rattle.http_front.specs.Digits.{number_in}
 use Rattle.kms_names.specs.Account.{IsAccountNumber}
-use Rattle.kms_names.specs.Reading.{some_if}
 use Rattle.kms_names.specs.Region.{IsRegion}
 use Rattle.kms_names.specs.Principal.{IsPrincipal, principal_text}
 use Rattle.kms_names.specs.declared.principals.Principal.{Principal}
 use Rattle.account_core.specs.Decide.{account_of}
-use Rattle.kms_config.specs.Forms.{is_boot}
 use Rattle.kms_config.specs.declared.config.Config.{Config}
 use Rattle.kms_session.specs.declared.trust.Trust.{Trust}
 use Rattle.kms_session.specs.declared.trust.Trust.TheVariants.{Word, Signed}
@@ -18,20 +15,16 @@ use Rattle.kms_local.specs.declared.settings.RunOption.{RunOption}
 use Rattle.kms_local.specs.declared.settings.RunOption.TheVariants.{Account, Region, Root, Boot, As}
 use Rattle.kms_local.specs.declared.settings.SettingFault.{SettingFault}
 use Rattle.kms_local.specs.declared.settings.SettingFault.TheVariants as setting
+use Rattle.kms_local.specs.Numbers.{number_or}
 use Rattle.kms_local.specs.Words.{RunValues}
 
 -- 64 hex digits of either case
 abbrev pub IsRootSecret : List ℕ → Type 0
 IsRootSecret text = (length text ≡ 64) × AllPass is_hex_digit text
 
--- a number of 1 to 20 decimal digits, from 1 to 4294967295
-abbrev pub boot_in : List ℕ → Option ℕ
-boot_in text = option_and_then (λ boot. some_if (is_boot boot) boot) (number_in 20 text)
-
--- the same where it is given, and else 1
+-- a number of 1 to 20 decimal digits, from 1 to 4294967295, where it is given, and else 1
 abbrev pub boot_of : Option (List ℕ) → Option ℕ
-boot_of None = Some 1
-boot_of (Some text) = boot_in text
+boot_of text = number_or 1 1 4294967295 text
 
 -- the text is the ARN of this principal, who is of the account
 pub record IsPrincipalOf (account text : List ℕ) (p : Principal) : Type 0 where

@@ -1,13 +1,16 @@
 -- The words of the command line.
-use Rattle.std.specs.Prelude.{◌-◌, ◌&&◌, ◌||◌, not, Bool, true, ℕ, nat_eq, List, [], ◌∷◌, length, take, slice_index, codes, Option, None, Some, option_map, if◌then◌else◌}
+use Rattle.std.specs.Prelude.{◌-◌, ◌&&◌, ◌||◌, not, Bool, true, ℕ, nat_eq, List, [], ◌∷◌, length, take, slice_index, codes, Option, None, Some, option_map, option_and_then, if◌then◌else◌}
 use Rattle.std.specs.List.{list_any}
 use Rattle.std.specs.Option.{is_some}
 use Rattle.std.specs.Str.{bytes_eq}
 use Rattle.clap.specs.Words.{App, Rule, Row, Text, Kinds, new_app, new_rule, with_rule, with_subcommand, first_of, fault_of, subcommand_of}
 use Rattle.kms_names.specs.Reading.{after_front}
-use Rattle.kms_local.specs.declared.words.RunWords.{RunWords}
-use Rattle.kms_local.specs.declared.words.Asked.{Asked}
-use Rattle.kms_local.specs.declared.words.Asked.TheVariants as asked
+use Rattle.kms_local.specs.declared.asked.RunWords.{RunWords}
+use Rattle.kms_local.specs.declared.asked.ServeWords.{ServeWords}
+use Rattle.kms_local.specs.declared.asked.LoadWords.{LoadWords}
+use Rattle.kms_local.specs.declared.asked.Asked.{Asked}
+use Rattle.kms_local.specs.declared.asked.Asked.TheVariants as asked
+use Rattle.kms_local.specs.Numbers.{number_within, number_or}
 
 -- ---- the command line, as `clap` reads it
 
@@ -27,12 +30,20 @@ run_line =
 abbrev pub check_line : App
 check_line = with_value (new_app (codes "check")) (codes "config")
 
+-- `serve` with its options
+abbrev pub serve_line : App
+serve_line = with_value (with_value (with_value (with_value (new_app (codes "serve")) (codes "config")) (codes "listen")) (codes "workers")) (codes "connections")
+
+-- `load` with its options
+abbrev pub load_line : App
+load_line = with_value (with_value (new_app (codes "load")) (codes "seed")) (codes "requests")
+
 -- one of the commands, and nothing before it
 abbrev pub bare_line : App
 bare_line = let app = new_app (codes "kms_local") in record app { top = record app.top { no_binary_name = true; subcommand_required = true } }
 
 abbrev pub whole_line : App
-whole_line = with_subcommand (with_subcommand bare_line run_line.top) check_line.top
+whole_line = with_subcommand (with_subcommand (with_subcommand (with_subcommand bare_line run_line.top) check_line.top) serve_line.top) load_line.top
 
 -- ---- words that no command has
 
@@ -58,11 +69,21 @@ pub record RunValues : Type 0 where
   pub boot : Option (List ℕ)
   pub caller : List ℕ
 
--- `run` with values, `run` with a file and perhaps a caller, or `check` with a file
+-- the values of `serve`: the file, the address, how many workers there are, and how many connections each takes
+pub record ServeValues : Type 0 where
+  pub file : List ℕ
+  pub address : List ℕ
+  pub workers : ℕ
+  pub connections : ℕ
+
+-- `run` with values, `run` with a file and perhaps a caller, `check` with a file, `serve` with its values, or `load` with a seed and a
+-- number of requests
 pub data Command : Type 0 where
   run : RunValues → Command
   run_file : List ℕ → Option (List ℕ) → Command
   check : List ℕ → Command
+  serve : ServeValues → Command
+  load : ℕ → ℕ → Command
 
 -- account, region, root secret and caller are all given
 abbrev pub values_of : Option Text → Option Text → Option Text → Option Text → Option Text → Option Command
@@ -86,10 +107,38 @@ run_of rows =
 abbrev pub check_of : List Row → Option Command
 check_of rows = option_map check (first_of (codes "config") rows)
 
+-- the file and the address are given, and the numbers are within their bounds
+abbrev pub served_by : Option Text → Option Text → Option ℕ → Option ℕ → Option Command
+served_by None address workers connections = None
+served_by (Some file) None workers connections = None
+served_by (Some file) (Some address) None connections = None
+served_by (Some file) (Some address) (Some workers) None = None
+served_by (Some file) (Some address) (Some workers) (Some connections) =
+    Some (serve (record { file = file; address = address; workers = workers; connections = connections }))
+
+-- 1 to 64 workers (4), each with 1 to 1,000,000,000 connections (as many)
+abbrev pub serve_of : List Row → Option Command
+serve_of rows =
+    served_by (first_of (codes "config") rows) (first_of (codes "listen") rows) (number_or 4 1 64 (first_of (codes "workers") rows)) (number_or 1000000000 1 1000000000 (first_of (codes "connections") rows))
+
+-- both numbers are given, and within their bounds
+abbrev pub loaded_by : Option ℕ → Option ℕ → Option Command
+loaded_by None requests = None
+loaded_by (Some seed) None = None
+loaded_by (Some seed) (Some requests) = Some (load seed requests)
+
+-- a seed of 64 bits, and 1 to 100,000 requests
+abbrev pub load_of : List Row → Option Command
+load_of rows = loaded_by (option_and_then (number_within 0 18446744073709551615) (first_of (codes "seed") rows)) (option_and_then (number_within 1 100000) (first_of (codes "requests") rows))
+
 -- by the name of the command and the values of its options
 abbrev pub named_command : Option (Text × List Row) → Option Command
 named_command None = None
-named_command (Some (name, rows)) = if bytes_eq name (codes "run") then run_of rows else check_of rows
+named_command (Some (name, rows)) =
+    if bytes_eq name (codes "run") then run_of rows
+    else (if bytes_eq name (codes "check") then check_of rows
+    else (if bytes_eq name (codes "serve") then serve_of rows
+    else load_of rows))
 
 abbrev pub unless_refused : Kinds → Option (Text × List Row) → Option Command
 unless_refused [] named = named_command named
@@ -110,7 +159,12 @@ values_in words = record {
   caller = words.caller.now;
 }
 
+abbrev pub serve_values_in : ServeWords → ServeValues
+serve_values_in words = record { file = words.file.now; address = words.address.now; workers = words.workers; connections = words.connections }
+
 abbrev pub shown : Asked → Command
 shown (asked.Run words) = run (values_in words)
 shown (asked.RunFile file caller) = run_file file.now (option_map (λ caller. caller.now) caller)
 shown (asked.Check file) = check file.now
+shown (asked.Serve words) = serve (serve_values_in words)
+shown (asked.Load words) = load words.seed words.requests

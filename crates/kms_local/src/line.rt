@@ -2,7 +2,7 @@
 ghost use Rattle.std.specs.Prelude.{◌≡◌, ◌≢◌, [], Err, IfOk, false, map, string_bytes};
 ghost use Rattle.clap.specs.Words.{app_of, rule_of, fault_of, subcommand_rows_of, subcommand_of};
 ghost use Rattle.clap.specs.declared.builder.command.Command.TheViews.{out-Command};
-ghost use Rattle.kms_local.specs.Words.{value_option, with_value, run_line, check_line, whole_line};
+ghost use Rattle.kms_local.specs.Words.{value_option, with_value, run_line, check_line, serve_line, load_line, whole_line};
 ghost use Rattle.kms_local.specs.declared.line.LineFault.TheVariants.{Refused, NoMemory};
 
 use clap::error::ErrorKind;
@@ -66,16 +66,40 @@ fn check_command<'a>(alloc: Global) -> Result<Command<'a>, AllocError>
     with_value(alloc, Command::new(alloc, "check"), "config")
 }
 
+fn serve_command<'a>(alloc: Global) -> Result<Command<'a>, AllocError>
+    ensures app { IfOk result (λ c. app_of c ≡ serve_line) }
+    ensures local { IfOk result (λ c. (out-Command c).has_globals ≡ false) }
+{
+    let bare = Command::new(alloc, "serve");
+    let one = with_value(alloc, bare, "config")?;
+    let two = with_value(alloc, one, "listen")?;
+    let three = with_value(alloc, two, "workers")?;
+    with_value(alloc, three, "connections")
+}
+
+fn load_command<'a>(alloc: Global) -> Result<Command<'a>, AllocError>
+    ensures app { IfOk result (λ c. app_of c ≡ load_line) }
+    ensures local { IfOk result (λ c. (out-Command c).has_globals ≡ false) }
+{
+    let bare = Command::new(alloc, "load");
+    let one = with_value(alloc, bare, "seed")?;
+    with_value(alloc, one, "requests")
+}
+
 fn whole_command<'a>(alloc: Global) -> Result<Command<'a>, AllocError>
     ensures { IfOk result (λ c. app_of c ≡ whole_line) }
 {
     let run = run_command(alloc)?;
     let check = check_command(alloc)?;
+    let serve = serve_command(alloc)?;
+    let load = load_command(alloc)?;
     Command::new(alloc, "kms_local")
         .no_binary_name(true)
         .subcommand_required(true)
         .subcommand(run)?
-        .subcommand(check)
+        .subcommand(check)?
+        .subcommand(serve)?
+        .subcommand(load)
 }
 
 /// The matches of the words, if they are a command.

@@ -1,7 +1,7 @@
 // The lines that the program writes.
 ghost use Rattle.std.specs.Prelude.{◌≡◌, IfOk, OnOk, OnErr, string_bytes, codes, MatchBool};
 ghost use Rattle.kms_session.specs.Session.{SendsWhole, SendsShort};
-ghost use Rattle.kms_local.specs.Program.{SaysLine, usage_line, path_of, refused_line, checked_line};
+ghost use Rattle.kms_local.specs.Program.{SaysLine, usage_line, path_of, refused_line, checked_line, served_line};
 
 use crate::settings::RunOption;
 use kms_io::Link;
@@ -91,5 +91,27 @@ pub fn tell_checked<L: Link>(
     ensures nothing { OnErr result (L.shows link.new ≡ L.shows link.old) }
 {
     let line = checked_line(alloc, credentials, principals)?;
+    Ok(send(link, line.as_bytes()))
+}
+
+// The line of so many connections, and of the most entries that a pass holds.
+fn served_line(alloc: Global, connections: u64, front: u64) -> Result<String, AllocError>
+    ensures { IfOk result (λ line. string_bytes line ≡ served_line connections front) }
+{
+    format!(in alloc; "served {connections} front {front}\n")
+}
+
+/// Writes how many connections were taken, and the most entries that a pass holds; false where it can't be
+/// written whole. Without memory for the line nothing is written.
+pub fn tell_served<L: Link>(
+    alloc: Global,
+    link: &mut L,
+    connections: u64,
+    front: u64,
+) -> Result<bool, NoMemory>
+    ensures told { IfOk result (λ whole. MatchBool whole (SendsWhole (L.shows link.old) (L.shows link.new) (served_line connections front)) (SendsShort (L.shows link.old) (L.shows link.new) (served_line connections front))) }
+    ensures nothing { OnErr result (L.shows link.new ≡ L.shows link.old) }
+{
+    let line = served_line(alloc, connections, front)?;
     Ok(send(link, line.as_bytes()))
 }

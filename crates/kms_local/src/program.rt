@@ -1,21 +1,23 @@
 // The program, but for its handles.
-ghost use Rattle.std.specs.Prelude.{◌≡◌, ℕ, List, Option, Some, drop, map, string_bytes, option_map, vec_len, IfOk, IfErr};
+ghost use Rattle.std.specs.Prelude.{◌≡◌, ℕ, List, Option, Some, map, string_bytes, option_map, vec_len};
 ghost use Rattle.kms_io.specs.Shelf.{Shelf};
-ghost use Rattle.kms_io.specs.Files.{Asks};
 ghost use Rattle.publish_pass.specs.Rules.{Names};
 ghost use Rattle.kms_session.specs.Callers.{IsOfAccount};
 ghost use Rattle.kms_session.specs.declared.trust.Trust.TheVariants.{Signed};
 ghost use Rattle.kms_local.specs.Words.{values_in, shown};
-ghost use Rattle.kms_local.specs.Files.{IsFileOf};
-ghost use Rattle.kms_local.specs.Program.{around, first_told, status_of_end, Serving, Refuses, RunsValues, RunsConfig, Checks, WithFile, Does, Runs};
+ghost use Rattle.kms_local.specs.Program.{around, everything, status_of_end, Serving, RunsValues, RunsConfig, Checks, WithFile, Does, Runs};
 
-use crate::files::{Loaded, load_config};
-use crate::lines::{say_refused, say_refused_at, say_refused_whole, say_usage, tell_checked};
+use crate::asked::{Asked, RunWords};
+use crate::configs::obtain_config;
+use crate::lines::{say_refused, say_usage, tell_checked};
+use crate::loading::load;
+use crate::serving::serve_file;
 use crate::settings::{RunOption, SettingFault, Settings, configured, read_settings};
-use crate::words::{Asked, RunWords, read_words};
+use crate::statuses::{CUT_OFF, MISUSED, NO_MEMORY, REFUSED, UNREAD, UNWRITTEN};
+use crate::words::read_words;
 use kms_config::Config;
-use kms_io::{Clock, Door, Files, Gate, Link};
-use kms_names::{NoMemory, Text};
+use kms_io::{Clock, Door, Ear, Files, Gate, Link};
+use kms_names::NoMemory;
 use kms_session::{SessionEnd, Trust, serve_session};
 use publish_pass::{Opening, Realm, open_service};
 use std::alloc::Global;
@@ -23,22 +25,12 @@ use std::marker::Brand;
 use std::sync::Wait;
 use std::thread::Threads;
 
-// The statuses of a configuration that is refused, of a read or a file that failed, of a write that
-// failed, and of want of memory.
-const REFUSED: u8 = 3;
-
-const UNREAD: u8 = 5;
-
-const UNWRITTEN: u8 = 6;
-
-const NO_MEMORY: u8 = 7;
-
 fn status(end: SessionEnd) -> u8
     ensures { result ≡ status_of_end end }
 {
     match end {
         SessionEnd::Ended | SessionEnd::Closed => 0,
-        SessionEnd::CutOff => 4,
+        SessionEnd::CutOff => CUT_OFF,
         SessionEnd::ReadFault => UNREAD,
         SessionEnd::WriteFault => UNWRITTEN,
         SessionEnd::NoMemory => NO_MEMORY,
@@ -154,39 +146,6 @@ fn check_config<L: Link>(alloc: Global, config: &Config, link: &mut L) -> u8
     }
 }
 
-// Writes that a file is refused at a path, and gives the status.
-fn refuse<L: Link>(alloc: Global, path: Text, link: &mut L) -> u8
-    ensures { (clock : Option (List ℕ)) (shelf later : Shelf) → Refuses path result (around (L.shows link.old) clock shelf) (around (L.shows link.new) clock later) }
-{
-    match say_refused_at(alloc, link, path.as_str()) {
-        Ok(()) => REFUSED,
-        Err(NoMemory) => NO_MEMORY,
-    }
-}
-
-// The configuration that a file holds; else what was to be written is, and this is the status.
-fn obtain_config<F: Files, L: Link>(
-    alloc: Global,
-    files: &mut F,
-    link: &mut L,
-    file: &str,
-) -> Result<Config, u8>
-    ensures config { IfOk result (λ config. IsFileOf (F.shows files.old) file.now config × Asks (F.shows files.old) file.now (F.shows files.new) × (L.shows link.new ≡ L.shows link.old)) }
-    ensures callers { IfOk result (λ config. IsOfAccount config.facts.account (Signed config.credentials)) }
-    ensures status { IfErr result (λ status. (clock : Option (List ℕ)) → WithFile file.now status (around (L.shows link.old) clock (F.shows files.old)) (around (L.shows link.new) clock (F.shows files.new)) (λ config. ⊥)) }
-{
-    match load_config(alloc, files, file) {
-        Loaded::Config(config) => Ok(config),
-        Loaded::Refused(path) => Err(refuse(alloc, path, link)),
-        Loaded::TooLong => {
-            say_refused_whole(link);
-            Err(REFUSED)
-        }
-        Loaded::Failed => Err(UNREAD),
-        Loaded::NoMemory => Err(NO_MEMORY),
-    }
-}
-
 // `run` with a file.
 fn run_file<W: Wait, F: Files, L: Link, C: Clock, G: Gate>(
     rt: &W,
@@ -219,42 +178,66 @@ fn check_file<F: Files, L: Link>(alloc: Global, file: &str, files: &mut F, link:
 }
 
 // Does what a command asks.
-fn obey<W: Wait, F: Files, L: Link, C: Clock, G: Gate>(
+fn obey<
+    W: Threads + Wait + Sync,
+    F: Files,
+    L: Link,
+    C: Clock + Send + Drop,
+    D: Door,
+    G: Gate + Sync,
+>(
     rt: &W,
     alloc: Global,
     asked: Asked<'_>,
     files: &mut F,
-    clock: &mut C,
+    clocks: &mut Vec<C>,
     link: &mut L,
+    door: &mut D,
     gate: &G,
 ) -> u8
-    ensures { Does (Some (shown asked.entry)) result (around (L.shows link.old) (C.told clock.old) (F.shows files.old)) (around (L.shows link.new) (C.told clock.new) (F.shows files.new)) }
+where
+    <D::Listener as Ear>::Conn: Send,
+    requires { vec_len clocks.old ≡ 64 }
+    ensures { Does (Some (shown asked.entry)) result
+        (everything (L.shows link.old) (F.shows files.old) (D.shows door.old) (map C.told clocks.old.items))
+        (everything (L.shows link.new) (F.shows files.new) (D.shows door.new) (map C.told clocks.new.items)) }
 {
     match asked {
-        Asked::Run(words) => run_values(rt, alloc, &words, clock, link, gate),
-        Asked::RunFile(file, caller) => run_file(rt, alloc, file, caller, files, clock, link, gate),
+        Asked::Run(words) => run_values(rt, alloc, &words, &mut clocks[0], link, gate),
+        Asked::RunFile(file, caller) => {
+            run_file(rt, alloc, file, caller, files, &mut clocks[0], link, gate)
+        }
         Asked::Check(file) => check_file(alloc, file, files, link),
+        Asked::Serve(words) => serve_file(rt, alloc, &words, files, clocks, link, door, gate),
+        Asked::Load(words) => load(rt, alloc, words, link, gate),
     }
 }
 
 /// Does all that the program does, and gives its status.
 ///
 /// The words are one of these, with the options in any order, each `--name value` or `--name=value` and
-/// at most once. From an empty history `run` serves one session on the link, with the first clock.
+/// at most once. Each begins with an empty history.
 ///
-/// * `run --account A --region R --root HEX --as ARN`, and perhaps `--boot N` (1): whoever sends a
-///   message counts as the principal of the ARN.
-/// * `run --config FILE`: the file's account is served, and messages are signed with one of its
-///   credentials; with `--as ARN` whoever sends a message counts as that principal of the account.
+/// * `run --account A --region R --root HEX --as ARN`, and perhaps `--boot N` (1): one session is served on
+///   the link, with the first clock. Whoever sends a message counts as the principal of the ARN.
+/// * `run --config FILE`: the same for the file's account. Messages are signed with one of its credentials;
+///   with `--as ARN` whoever sends a message counts as that principal of the account.
 /// * `check --config FILE`: writes how many credentials and how many principals with policies the file
 ///   has.
+/// * `serve --config FILE --listen ADDRESS`, and perhaps `--workers W` (1 to 64, else 4) and
+///   `--connections K` (1 to 1,000,000,000, else as many): the door is opened once, at the address, and W
+///   workers take K connections each, one after another, with the first W clocks. Messages are signed. In
+///   the end a line tells how many connections were taken, and the most entries that a pass holds.
+/// * `load --seed N --requests M` (M from 1 to 100,000): the workload of the seed is served in memory, and
+///   five lines sum it up.
 ///
 /// Status 2 is for other words (a usage line is written); 3 for a configuration that is refused, or the
 /// first value of `run` that has not its form (a line names the path, or `/` and the option); 4 for
-/// input that ended inside a message; 5 for a read that failed, of the link or of the file; 6 for a
-/// write that failed; 7 for want of memory before anything was taken; and 0 otherwise. Where the line
-/// of status 2 or 3 can't be written whole the status stays. The files are asked for the file of
-/// `--config` alone, once, and no door is opened yet.
+/// input that ended inside a message; 5 for a read that failed, of the link or of the file, for a door that
+/// couldn't be opened, and where the ear of a worker failed 16 times in a row; 6 for a write that failed; 7
+/// for want of memory (of `run` with nothing taken); and 0 otherwise. Where the line of status 2, 3 or 5
+/// can't be written whole the status stays. The files are asked for the file of `--config` alone, once, and
+/// the door is opened by `serve` alone.
 pub fn kms_main<
     W: Threads + Wait + Sync,
     F: Files,
@@ -269,19 +252,21 @@ pub fn kms_main<
     files: &mut F,
     link: &mut L,
     clocks: &mut Vec<C>,
-    _door: &mut D,
+    door: &mut D,
     gate: &G,
 ) -> u8
+where
+    <D::Listener as Ear>::Conn: Send,
     requires { vec_len clocks.old ≡ 64 }
-    ensures runs { Runs (map string_bytes words.now) result (around (L.shows link.old) (first_told C.told clocks.old.items) (F.shows files.old)) (around (L.shows link.new) (first_told C.told clocks.new.items) (F.shows files.new)) }
-    ensures other_clocks { drop 1 clocks.new.items ≡ drop 1 clocks.old.items }
-    ensures no_door { D.shows _door.new ≡ D.shows _door.old }
+    ensures { Runs (map string_bytes words.now) result
+        (everything (L.shows link.old) (F.shows files.old) (D.shows door.old) (map C.told clocks.old.items))
+        (everything (L.shows link.new) (F.shows files.new) (D.shows door.new) (map C.told clocks.new.items)) }
 {
     match read_words(alloc, words) {
-        Ok(Some(asked)) => obey(rt, alloc, asked, files, &mut clocks[0], link, gate),
+        Ok(Some(asked)) => obey(rt, alloc, asked, files, clocks, link, door, gate),
         Ok(None) => {
             say_usage(link);
-            2
+            MISUSED
         }
         Err(NoMemory) => NO_MEMORY,
     }

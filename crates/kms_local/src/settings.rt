@@ -1,17 +1,16 @@
 // What the values of `run` stand for.
 ghost use Rattle.std.specs.Prelude.{◌≡◌, ◌↔◌, length, if◌then◌else◌, Some, None, IsSome, IfSome, IfOk, IfErr, IfNone, OnErr, Ok, option_map};
 ghost use Rattle.std.specs.Str.{bytes_eq};
-ghost use Rattle.std.specs.List.{AllPass, list_all};
-ghost use Rattle.std.specs.Char.{is_ascii_digit};
+ghost use Rattle.std.specs.List.{AllPass};
 ghost use Rattle.hex.specs.Hex.{decode_of, is_hex_digit};
-ghost use Rattle.http_front.specs.Digits.{is_decimal};
 ghost use Rattle.account_core.specs.Decide.{account_of};
 ghost use Rattle.kms_session.specs.Callers.{IsOfAccount};
 ghost use Rattle.kms_session.specs.declared.trust.Trust.TheVariants.{Signed};
 ghost use Rattle.kms_local.specs.Words.{values_in};
-ghost use Rattle.kms_local.specs.Settings.{boot_in, boot_of, IsSettings, IsConfigured, IsNobody, Names, UnlessMemory};
+ghost use Rattle.kms_local.specs.Settings.{boot_of, IsSettings, IsConfigured, IsNobody, Names, UnlessMemory};
 
-use crate::words::RunWords;
+use crate::asked::RunWords;
+use crate::numbers::number_or;
 use account_core::{IdentityList, RealmFacts};
 use hex::FromHex;
 use kms_config::Config;
@@ -56,8 +55,8 @@ pub struct Settings {
     pub trust: Trust,
 }
 
-// The most digits of a boot number, leading zeros among them.
-const DIGITS: usize = 20;
+// The last boot number: they have 32 bits.
+const LAST_BOOT: u64 = 4_294_967_295;
 
 fn read_root(text: &str) -> Option<[u8; 32]>
     ensures value { IfSome result (λ root. decode_of text.now ≡ Ok root) }
@@ -92,37 +91,12 @@ fn read_caller(
     }
 }
 
-fn are_digits(text: &[u8]) -> bool
-    ensures { result ≡ list_all is_ascii_digit text.now }
-{
-    text.iter().all(|byte| byte.is_ascii_digit())
-}
-
-fn is_number(text: &str) -> bool
-    ensures { result ≡ is_decimal 20 text.now }
-{
-    !text.is_empty() && text.len() <= DIGITS && are_digits(text.as_bytes())
-}
-
-fn boot_in(text: &str) -> Option<u32>
-    ensures { result ≡ boot_in text.now }
-{
-    if !is_number(text) {
-        return None;
-    }
-    match text.parse::<u32>() {
-        Ok(boot) if boot > 0 => Some(boot),
-        _ => None,
-    }
-}
-
+// The boot number, 1 where none is given.
 fn boot_of(text: Option<&str>) -> Option<u32>
     ensures { result ≡ boot_of (option_map (λ text. text.now) text.entry) }
 {
-    match text {
-        Some(text) => boot_in(text),
-        None => Some(1),
-    }
+    let boot = number_or(text, 1, 1, LAST_BOOT)?;
+    Some(boot as u32)
 }
 
 /// What the words of `run` stand for. The first option is named whose value has not its form: an

@@ -1,9 +1,8 @@
-// The program's entry over a link in memory: a key is made and described. The key's id was computed with
-// Python's hmac.
+// The program's entry over a link, files and a door in memory. The key's id was computed with Python's hmac.
 ghost use Rattle.std.specs.Prelude.{◌≡◌, vec_len, IfOk};
 
 use crate::kms_main;
-use kms_io::{MemoryClock, MemoryDoor, MemoryFiles, MemoryLink, NoGate};
+use kms_io::{MemoryClock, MemoryDoor, MemoryEar, MemoryFiles, MemoryLink, NoGate};
 use std::alloc::{AllocError, Global};
 use std::sync::Wait;
 use std::test::Fail;
@@ -39,46 +38,32 @@ fn clocks(alloc: Global) -> Result<Vec<MemoryClock>, AllocError>
     Ok(clocks)
 }
 
-#[test]
-fn a_key_is_made_and_described(rt: HostRuntime) -> Result<(), Fail> {
-    let alloc = rt.alloc();
-    let mut words = Vec::new(alloc);
-    for word in RUN {
-        words.push(String::from_str(alloc, word)?)?;
-    }
-    let mut clocks = clocks(alloc)?;
-    let mut files = MemoryFiles::new(alloc, Vec::new(alloc), Vec::new(alloc));
-    let mut door = MemoryDoor::new(alloc, Vec::new(alloc), Vec::new(alloc));
-    let input = REQUESTS.as_bytes().to_vec(alloc)?;
-    let none = Vec::new(alloc);
-    let mut link = MemoryLink::new(alloc, input, none, Vec::new(alloc), Vec::new(alloc));
-    let status = kms_main(
-        &rt,
-        alloc,
-        &words,
-        &mut files,
-        &mut link,
-        &mut clocks,
-        &mut door,
-        &NoGate,
-    );
-    assert_eq!(rt; status, 0);
-    assert!(rt; link.written() == REPLIES.as_bytes());
-    Ok(())
-}
-
 const CONFIG: &str =
     "{\"account\":\"111122223333\",\"region\":\"us-east-1\",\"root\":\"0000000000000000000000000000000000000000000000000000000000000000\",\"boot\":1,\"credentials\":[{\"accessKeyId\":\"AKIDEXAMPLE\",\"secret\":\"wJalrXUtnFEMI/K7MDENG+bPxRfiCYEXAMPLEKEY\",\"principal\":\"arn:aws:iam::111122223333:root\"}],\"policies\":[{\"principal\":\"arn:aws:iam::111122223333:user/ann\",\"documents\":[]}]}";
 
 const USAGE: &str = "usage: kms_local run|serve|load|check\n";
 
-const ZEROS: &str = "0000000000000000000000000000000000000000000000000000000000000000";
+// Signed for the credential of the configuration, at second 1700000000.
+const SIGNED: &str =
+    "POST / HTTP/1.1\r\nHost: localhost\r\nContent-Type: application/x-amz-json-1.1\r\nX-Amz-Date: 20231114T221320Z\r\nX-Amz-Target: TrentService.CreateKey\r\nContent-Length: 2\r\nAuthorization: AWS4-HMAC-SHA256 Credential=AKIDEXAMPLE/20231114/us-east-1/kms/aws4_request, SignedHeaders=content-type;host;x-amz-date;x-amz-target, Signature=e70f7b807a807fcf422dc13b84b1dfb16f4b930094d8c9710d5f4dc0d39ea53d\r\n\r\n{}";
 
-// The status for these words and no input, where what is written is this.
+// A door of one ear with one connection, which asks for a key.
+fn door(alloc: Global) -> Result<MemoryDoor, AllocError> {
+    let mut connections = Vec::new(alloc);
+    let input = SIGNED.as_bytes().to_vec(alloc)?;
+    let none = Vec::new(alloc);
+    connections.push(MemoryLink::new(alloc, input, none, Vec::new(alloc), Vec::new(alloc)))?;
+    let mut ears = Vec::new(alloc);
+    ears.push(MemoryEar::new(alloc, connections, Vec::new(alloc)))?;
+    Ok(MemoryDoor::new(alloc, ears, Vec::new(alloc)))
+}
+
+// The status for these words and this input, where what is written is this.
 fn status_of<W: Threads + Wait + Sync>(
     rt: &W,
     alloc: Global,
     words: &[&str],
+    input: &str,
     written: &str,
 ) -> Result<Option<u8>, AllocError> {
     let mut owned = Vec::new(alloc);
@@ -86,25 +71,16 @@ fn status_of<W: Threads + Wait + Sync>(
         owned.push(String::from_str(alloc, word)?)?;
     }
     let mut clocks = clocks(alloc)?;
-    let mut listed = Vec::new(alloc);
-    for (name, content) in [("config", CONFIG), ("none", "{}"), ("text", "boot")] {
-        let bytes = content.as_bytes().to_vec(alloc)?;
-        listed.push((String::from_str(alloc, name)?, bytes))?;
-    }
-    listed.push((
-        String::from_str(alloc, "long")?,
-        vec![in alloc; 32; 4_194_305]?,
-    ))?;
-    let mut files = MemoryFiles::new(alloc, listed, Vec::new(alloc));
-    let mut door = MemoryDoor::new(alloc, Vec::new(alloc), Vec::new(alloc));
-    let none = Vec::new(alloc);
-    let mut link = MemoryLink::new(
-        alloc,
-        none,
-        Vec::new(alloc),
-        Vec::new(alloc),
-        Vec::new(alloc),
+    let file = (
+        String::from_str(alloc, "config")?,
+        CONFIG.as_bytes().to_vec(alloc)?,
     );
+    let listed = vec![in alloc; file]?;
+    let mut files = MemoryFiles::new(alloc, listed, Vec::new(alloc));
+    let mut door = door(alloc)?;
+    let input = input.as_bytes().to_vec(alloc)?;
+    let none = Vec::new(alloc);
+    let mut link = MemoryLink::new(alloc, input, none, Vec::new(alloc), Vec::new(alloc));
     let status = kms_main(
         rt,
         alloc,
@@ -123,220 +99,40 @@ fn status_of<W: Threads + Wait + Sync>(
 }
 
 #[test]
-fn words_have_statuses(rt: HostRuntime) -> Result<(), Fail> {
+fn a_key_is_made_and_described(rt: HostRuntime) -> Result<(), Fail> {
+    let found = status_of(&rt, rt.alloc(), &RUN, REQUESTS, REPLIES)?;
+    assert_eq!(rt; found, Some(0));
+    Ok(())
+}
+
+#[test]
+fn one_worker_serves_a_connection(rt: HostRuntime) -> Result<(), Fail> {
     let alloc = rt.alloc();
-    let region = "configuration refused at /region\n";
-    let boot = "configuration refused at /boot\n";
-    let caller = "configuration refused at /as\n";
-    let table = [
-        (&["walk"][..], 2, USAGE),
-        (&[][..], 2, USAGE),
-        (&["--help"][..], 2, USAGE),
-        (&["run", "--help"][..], 2, USAGE),
-        (&["help"][..], 2, USAGE),
-        (&["check"][..], 2, USAGE),
-        (
-            &["check", "--config", "config"][..],
-            0,
-            "ok credentials 1 principals 1\n",
-        ),
-        (
-            &["check", "--config=config"][..],
-            0,
-            "ok credentials 1 principals 1\n",
-        ),
-        (
-            &["check", "--config", "config", "--config", "config"][..],
-            2,
-            USAGE,
-        ),
-        (&["check", "--conf", "config"][..], 2, USAGE),
-        (&["check", "--config", "config", "more"][..], 2, USAGE),
-        (&["check", "--config", "config", ""][..], 2, USAGE),
-        (&["check", "--config", "config", "-"][..], 2, USAGE),
-        (&["check", "--", "--config", "config"][..], 2, USAGE),
-        (&["check", "--config="][..], 2, USAGE),
-        (&["check", "--config=="][..], 5, ""),
-        (&["check", "--config", "missing"][..], 5, ""),
-        (
-            &["check", "--config", "none"][..],
-            3,
-            "configuration refused at /account\n",
-        ),
-        (
-            &["check", "--config", "text"][..],
-            3,
-            "configuration refused at /\n",
-        ),
-        (
-            &["check", "--config", "long"][..],
-            3,
-            "configuration refused at /\n",
-        ),
-        (&["run", "--config", "config"][..], 0, ""),
-        (
-            &[
-                "run",
-                "--as=arn:aws:iam::111122223333:user/ann",
-                "--config",
-                "config",
-            ][..],
-            0,
-            "",
-        ),
-        (
-            &[
-                "run",
-                "--as",
-                "arn:aws:iam::111122223334:root",
-                "--config",
-                "config",
-            ][..],
-            3,
-            caller,
-        ),
-        (
-            &["run", "--config", "none", "--as", "x"][..],
-            3,
-            "configuration refused at /account\n",
-        ),
-        (&["run", "--config", "config", "--boot", "1"][..], 2, USAGE),
-        (&["run", "--config", "missing"][..], 5, ""),
-        (
-            &[
-                "run",
-                "--as",
-                "x",
-                "--root",
-                ZEROS,
-                "--region",
-                "R",
-                "--account",
-                "111122223333",
-            ][..],
-            3,
-            region,
-        ),
-        (
-            &[
-                "run",
-                "--as",
-                "x",
-                "--root",
-                ZEROS,
-                "--region",
-                "r",
-                "--account",
-                "111122223333",
-                "--boot",
-                "0",
-            ][..],
-            3,
-            boot,
-        ),
-        (
-            &[
-                "run",
-                "--as",
-                "x",
-                "--root",
-                ZEROS,
-                "--region",
-                "r",
-                "--account",
-                "111122223333",
-                "--boot",
-                "4294967296",
-            ][..],
-            3,
-            boot,
-        ),
-        (
-            &[
-                "run",
-                "--as",
-                "x",
-                "--root",
-                ZEROS,
-                "--region",
-                "r",
-                "--account",
-                "111122223333",
-                "--boot",
-                "000000000000000000001",
-            ][..],
-            3,
-            boot,
-        ),
-        (
-            &[
-                "run",
-                "--as",
-                "x",
-                "--root",
-                ZEROS,
-                "--region",
-                "r",
-                "--account",
-                "111122223333",
-                "--boot",
-                "+1",
-            ][..],
-            3,
-            boot,
-        ),
-        (
-            &[
-                "run",
-                "--as",
-                "x",
-                "--root",
-                ZEROS,
-                "--region",
-                "r",
-                "--account",
-                "111122223333",
-                "--boot",
-                "00001",
-            ][..],
-            3,
-            caller,
-        ),
-        (
-            &[
-                "run",
-                "--as",
-                "x",
-                "--root",
-                ZEROS,
-                "--region",
-                "r",
-                "--account",
-                "111122223333",
-                "--boot",
-                "4294967295",
-            ][..],
-            3,
-            caller,
-        ),
-        (
-            &[
-                "run",
-                "--root",
-                ZEROS,
-                "--region",
-                "r",
-                "--account",
-                "111122223333",
-            ][..],
-            2,
-            USAGE,
-        ),
-        (&["--account", "111122223333", "run"][..], 2, USAGE),
+    let one = [
+        "serve",
+        "--config",
+        "config",
+        "--listen=here",
+        "--workers=1",
+        "--connections=01",
     ];
-    for (words, status, written) in table {
-        let found = status_of(&rt, alloc, words, written)?;
-        assert_eq!(rt; found, Some(status), "{words:?}");
-    }
+    let found = status_of(&rt, alloc, &one, "", "served 1 front 1\n")?;
+    assert_eq!(rt; found, Some(0));
+    Ok(())
+}
+
+#[test]
+fn a_door_with_fewer_ears_is_shut(rt: HostRuntime) -> Result<(), Fail> {
+    let alloc = rt.alloc();
+    let four = ["serve", "--config", "config", "--listen", "here"];
+    assert_eq!(rt; status_of(&rt, alloc, &four, "", "")?, Some(5));
+    Ok(())
+}
+
+#[test]
+fn the_empty_word_is_no_command(rt: HostRuntime) -> Result<(), Fail> {
+    let alloc = rt.alloc();
+    let words = ["check", "--config", "config", ""];
+    assert_eq!(rt; status_of(&rt, alloc, &words, "", USAGE)?, Some(2));
     Ok(())
 }

@@ -1,39 +1,19 @@
 // The words of the command line.
-ghost use Rattle.std.specs.Prelude.{◌≡◌, ◌≢◌, ◌||◌, [], Err, IfOk, option_map, map, string_bytes};
+ghost use Rattle.std.specs.Prelude.{◌≡◌, ◌≢◌, ◌≤◌, ◌||◌, [], Err, IfOk, IfSome, option_map, option_and_then, map, string_bytes};
 ghost use Rattle.std.specs.List.{list_any};
 ghost use Rattle.clap.specs.Words.{first_of, rows_of, found_of, subcommand_rows_of};
-ghost use Rattle.kms_local.specs.Words.{ends_in_equals, is_valueless, is_stray, values_of, form_of, run_of, check_of, named_command, command_of, shown};
+ghost use Rattle.kms_local.specs.Numbers.{number_within};
+ghost use Rattle.kms_local.specs.Words.{ends_in_equals, is_valueless, is_stray, values_of, form_of, run_of, check_of, served_by, serve_of, loaded_by, load_of, named_command, command_of, shown};
 
+use crate::asked::{Asked, LoadWords, RunWords, ServeWords};
 use crate::line::{LineFault, read_line};
+use crate::numbers::{number_or, number_within};
 use clap::ArgMatches;
 use kms_names::NoMemory;
 use std::alloc::Global;
 
-/// What the words of `run` name.
-#[derive(Clone, Copy)]
-pub struct RunWords<'a> {
-    /// The value of `--account`.
-    pub account: &'a str,
-    /// The value of `--region`.
-    pub region: &'a str,
-    /// The value of `--root`.
-    pub root: &'a str,
-    /// The value of `--boot`, where it is given.
-    pub boot: Option<&'a str>,
-    /// The value of `--as`.
-    pub caller: &'a str,
-}
-
-/// What the words ask.
-#[derive(Clone, Copy)]
-pub enum Asked<'a> {
-    /// `run` with the values of its options.
-    Run(RunWords<'a>),
-    /// `run` with the values of `--config` and of `--as`, where that is given.
-    RunFile(&'a str, Option<&'a str>),
-    /// `check` with the value of `--config`.
-    Check(&'a str),
-}
+// The most connections of a worker, which it takes where no number is given.
+const CONNECTIONS: u64 = 1_000_000_000;
 
 fn ends_in_equals(text: &[u8]) -> bool
     ensures { result ≡ ends_in_equals text.now }
@@ -131,21 +111,89 @@ fn check_in<'a>(matches: &ArgMatches<'a>) -> Option<Asked<'a>>
     Some(Asked::Check(file))
 }
 
+// `serve` with the values of its options, if all that it needs are given.
+fn served_by<'a>(
+    file: Option<&'a str>,
+    address: Option<&'a str>,
+    workers: Option<u64>,
+    connections: Option<u64>,
+) -> Option<Asked<'a>>
+    requires workers { IfSome workers (λ number. (1 ≤ number) × (number ≤ 64)) }
+    requires connections { IfSome connections (λ number. (1 ≤ number) × (number ≤ 1000000000)) }
+    ensures { option_map shown result ≡ served_by (option_map (λ s. s.now) file.entry) (option_map (λ s. s.now) address.entry) workers connections }
+{
+    Some(Asked::Serve(ServeWords {
+        file: file?,
+        address: address?,
+        workers: workers? as u16,
+        connections: connections?,
+    }))
+}
+
+fn serve_in<'a>(matches: &ArgMatches<'a>) -> Option<Asked<'a>>
+    ensures { option_map shown result ≡ serve_of (rows_of (found_of matches.now)) }
+{
+    served_by(
+        value_in(matches, "config"),
+        value_in(matches, "listen"),
+        number_or(value_in(matches, "workers"), 4, 1, 64),
+        number_or(
+            value_in(matches, "connections"),
+            CONNECTIONS,
+            1,
+            CONNECTIONS,
+        ),
+    )
+}
+
+// The number of an option that is given.
+fn number_in(matches: &ArgMatches<'_>, name: &str, least: u64, most: u64) -> Option<u64>
+    ensures number { result ≡ option_and_then (number_within least most) (first_of name.now (rows_of (found_of matches.now))) }
+    ensures bounds { IfSome result (λ number. (least ≤ number) × (number ≤ most)) }
+{
+    let text = value_in(matches, name)?;
+    number_within(text, least, most)
+}
+
+// `load` with its numbers, if both are given.
+fn loaded_by<'a>(seed: Option<u64>, requests: Option<u64>) -> Option<Asked<'a>>
+    requires { IfSome requests (λ number. (1 ≤ number) × (number ≤ 100000)) }
+    ensures { option_map shown result ≡ loaded_by seed requests }
+{
+    Some(Asked::Load(LoadWords {
+        seed: seed?,
+        requests: requests? as u32,
+    }))
+}
+
+fn load_in<'a>(matches: &ArgMatches<'a>) -> Option<Asked<'a>>
+    ensures { option_map shown result ≡ load_of (rows_of (found_of matches.now)) }
+{
+    loaded_by(
+        number_in(matches, "seed", 0, u64::MAX),
+        number_in(matches, "requests", 1, 100_000),
+    )
+}
+
 // What the command with its options asks.
 fn asked_in<'a>(matches: &ArgMatches<'a>) -> Option<Asked<'a>>
     ensures { option_map shown result ≡ named_command (subcommand_rows_of matches.now) }
 {
     let (name, inner) = matches.subcommand()?;
-    if name == "run" {
-        run_in(inner)
-    } else {
-        check_in(inner)
+    match name {
+        "run" => run_in(inner),
+        "check" => check_in(inner),
+        "serve" => serve_in(inner),
+        _ => load_in(inner),
     }
 }
 
 /// What the words ask, if they are a command: `run` with `--account`, `--region`, `--root` and `--as`, and
-/// perhaps `--boot`; `run` with `--config` and perhaps `--as`; `check` with `--config`. An option is
-/// written `--name value` or `--name=value`, at most once and in any order.
+/// perhaps `--boot`; `run` with `--config` and perhaps `--as`; `check` with `--config`; `serve` with
+/// `--config` and `--listen`, and perhaps `--workers` (1 to 64, else 4) and `--connections` (1 to
+/// 1,000,000,000, else as many); `load` with `--seed` (0 to 2^64 - 1) and `--requests` (1 to 100,000). A
+/// number has 1 to 20 decimal digits. An option is written `--name value` or `--name=value`, at most once
+/// and in any order.
 pub fn read_words<'a>(alloc: Global, words: &'a [String]) -> Result<Option<Asked<'a>>, NoMemory>
     ensures { IfOk result (λ asked. option_map shown asked ≡ command_of (map string_bytes words.entry.now)) }
 {

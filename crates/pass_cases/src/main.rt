@@ -4,6 +4,7 @@
 
 mod beside;
 mod requests;
+mod retirement;
 mod scenes;
 
 ghost use Rattle.std.specs.Prelude.{◌≡◌};
@@ -14,6 +15,7 @@ use beside::beside;
 use kms_names::{AccountNumber, NoMemory, Text};
 use publish_pass::{Opening, Pass, Realm, open_service};
 use requests::{Failure, Host};
+use retirement::retirement;
 use scenes::{housekeeping, many, telling, told_nothing};
 use std::alloc::Global;
 use std::marker::Brand;
@@ -36,11 +38,19 @@ fn facts(alloc: Global) -> Result<Option<RealmFacts>, NoMemory> {
     }))
 }
 
+// What two passes show.
+#[derive(Clone, Copy)]
+enum Scene {
+    Beside,
+    Retirement,
+}
+
 // Opens a service, shows a scene of two passes, and shuts it.
 fn two_passes<R: Realm + Send + Sync, W: rt::Runtime<A = Global> + Threads + Wait + Sync>(
     rt: &W,
     opening: Opening,
     facts: &RealmFacts,
+    scene: Scene,
 ) -> Result<(), Failure>
     requires ledger { (opening.name ≡ R.name) × (opening.parts ≡ R.parts) }
     requires names { Names R.book R.facts R.passes opening.shown }
@@ -53,7 +63,7 @@ fn two_passes<R: Realm + Send + Sync, W: rt::Runtime<A = Global> + Threads + Wai
         service: &service,
         facts,
     };
-    let shown = show_two(&host, &mut passes);
+    let shown = show_two(&host, &mut passes, scene);
     service.shut(rt);
     shown
 }
@@ -61,12 +71,16 @@ fn two_passes<R: Realm + Send + Sync, W: rt::Runtime<A = Global> + Threads + Wai
 fn show_two<R: Realm + Send + Sync, W: rt::Runtime + Threads + Wait + Sync>(
     host: &Host<'_, W, R>,
     passes: &mut [Pass<R>],
+    scene: Scene,
 ) -> Result<(), Failure>
     requires { host.now.facts.now ≡ R.facts }
 {
     let [one, two] = passes else {
         return Err(Failure::Unlike);
     };
+    if let Scene::Retirement = scene {
+        return retirement(host, one, two);
+    }
     told_nothing(host, one, two)?;
     telling(host, one, two)?;
     housekeeping(host, one, two)?;
@@ -101,7 +115,9 @@ fn show_all<W: rt::Runtime<A = Global> + Threads + Wait + Sync>(rt: &W) -> Resul
         return Err(Failure::Unlike);
     };
     let two = Opening::new(rt, alloc, facts.copy()?, 2)?;
-    two_passes::<Brand, W>(rt, two, &facts)?;
+    two_passes::<Brand, W>(rt, two, &facts, Scene::Beside)?;
+    let two = Opening::new(rt, alloc, facts.copy()?, 2)?;
+    two_passes::<Brand, W>(rt, two, &facts, Scene::Retirement)?;
     let many = Opening::new(rt, alloc, facts.copy()?, 64)?;
     many_passes::<Brand, W>(rt, many, &facts)
 }

@@ -1,20 +1,31 @@
-// What the root of the account asks.
+// What the root of the account asks, or ann.
 ghost use Rattle.std.specs.Prelude.{◌≡◌, false, IfOk};
 ghost use Rattle.kms_json.specs.Asks.{changes_account};
-ghost use Rattle.account_core.specs.Decide.{IsProper};
+ghost use Rattle.account_core.specs.Decide.{IsProper, account_of};
 
 use account_core::RealmFacts;
 use kms_io::Gate;
 use kms_json::{Ask, JsonFault, read_ask};
-use kms_names::{NoMemory, Principal};
+use kms_names::{NoMemory, Principal, Text};
 use publish_pass::{Answered, Pass, Realm, Service, Unread};
 use std::alloc::Global;
 use std::io;
 use std::sync::Wait;
 
-/// A request of the root: its operation, its body, and how many entries it wants.
+/// Who asks.
+#[derive(Clone, Copy)]
+pub enum Caller {
+    /// The root of the account.
+    Root,
+    /// Its user `ann`, who has no policies.
+    Ann,
+}
+
+/// A request: who sends it, its operation, its body, and how many entries it wants.
 #[derive(Clone, Copy)]
 pub struct Request<'a> {
+    /// The one who asks.
+    pub caller: Caller,
     /// The operation, as `CreateKey`.
     pub operation: &'a str,
     /// The body, a JSON text.
@@ -26,6 +37,15 @@ pub struct Request<'a> {
 // The second at which all is asked.
 const NOW: u64 = 1_700_000_000;
 
+fn principal(alloc: Global, facts: &RealmFacts, caller: Caller) -> Result<Principal, NoMemory>
+    ensures { IfOk result (λ principal. account_of principal ≡ facts.now.account) }
+{
+    Ok(match caller {
+        Caller::Root => Principal::Root(facts.account),
+        Caller::Ann => Principal::User(facts.account, Text::from_str(alloc, "ann")?),
+    })
+}
+
 fn ask(alloc: Global, facts: &RealmFacts, request: &Request<'_>) -> Result<Ask, JsonFault>
     ensures { IfOk result (λ ask. IsProper facts.now ask) }
 {
@@ -35,7 +55,7 @@ fn ask(alloc: Global, facts: &RealmFacts, request: &Request<'_>) -> Result<Ask, 
     };
     Ok(Ask {
         body: read_ask(alloc, target.as_bytes(), request.body.as_bytes())?,
-        caller: Principal::Root(facts.account),
+        caller: principal(alloc, facts, request.caller)?,
         moment: NOW,
         after: request.after,
     })

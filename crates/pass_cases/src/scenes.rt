@@ -1,7 +1,7 @@
 // What passes see of one another, on one thread.
 ghost use Rattle.std.specs.Prelude.{◌≡◌};
 
-use crate::requests::{Failure, Host, Request, answer};
+use crate::requests::{Caller, Failure, Host, Request, answer};
 use kms_io::{Gate, NoGate};
 use publish_pass::{Answered, Pass, Realm};
 use std::rt;
@@ -18,13 +18,16 @@ const POLICY: &str =
 const HELLO: &str =
     "{\"KeyId\":\"10284733-057c-2825-aeb4-000000000000\",\"Plaintext\":\"aGVsbG8=\"}";
 
-const MAKE: Request<'static> = Request {
+/// A key is made.
+pub const MAKE: Request<'static> = Request {
+    caller: Caller::Root,
     operation: "CreateKey",
     body: "{}",
     after: None,
 };
 
 const PUT: Request<'static> = Request {
+    caller: Caller::Root,
     operation: "PutKeyPolicy",
     body: POLICY,
     after: None,
@@ -32,12 +35,15 @@ const PUT: Request<'static> = Request {
 
 // Automatic rotation of it from 90 days on.
 const TURN: Request<'static> = Request {
+    caller: Caller::Root,
     operation: "EnableKeyRotation",
     body: "{\"KeyId\":\"10284733-057c-2825-aeb4-000000000000\",\"RotationPeriodInDays\":90}",
     after: None,
 };
 
-const SEAL: Request<'static> = Request {
+/// A text is sealed under it.
+pub const SEAL: Request<'static> = Request {
+    caller: Caller::Root,
     operation: "Encrypt",
     body: HELLO,
     after: None,
@@ -46,6 +52,7 @@ const SEAL: Request<'static> = Request {
 /// A look at the key that waits for so many entries.
 pub fn look(after: u64) -> Request<'static> {
     Request {
+        caller: Caller::Root,
         operation: "DescribeKey",
         body: KEY,
         after: Some(after),
@@ -73,8 +80,8 @@ pub fn make<R: Realm, W: Wait>(
     answer(host, pass, &MAKE, &NoGate)
 }
 
-// Asks, and shows the status and the number of entries.
-fn show<R: Realm, W: rt::Runtime + Wait>(
+/// Asks, and shows the status and the number of entries.
+pub fn show<R: Realm, W: rt::Runtime + Wait>(
     host: &Host<'_, W, R>,
     pass: &mut Pass<R>,
     what: &str,

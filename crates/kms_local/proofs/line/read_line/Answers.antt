@@ -1,4 +1,4 @@
-use Rattle.std.proofs.Common.{ap, ◌≡◌, ◌∙◌, [], true, refl, inl, inr, List, map, string_bytes, subst}
+use Rattle.std.proofs.Common.{ap, sym, ◌≡◌, ◌∙◌, [], true, refl, inl, inr, List, map, string_bytes, subst}
 use Rattle.clap.specs.Words.{Text, app_of, fault_of, is_simple_and_free, kind_of, IsAmong, Kinds}
 use Rattle.clap.proofs.OnLiterals.{clap_on_literals}
 use Rattle.kms_local.specs.Words.{whole_line}
@@ -7,6 +7,12 @@ use Rattle.kms_local.proofs.line.read_line.Goals as goal
 simple : is_simple_and_free whole_line ≡ true
 unfolding clap_on_literals
 simple = refl
+
+pub returns-in-Ok-clause-ok : goal.returns-in-Ok-clause-ok
+returns-in-Ok-clause-ok c =
+    let words : List Text = map string_bytes c.args.words.now in
+    let line_is : app_of c.in_ok-whole_command.field-0 ≡ whole_line = c.in_ok-whole_command.ensures in
+    ap (λ a. fault_of a words) (sym line_is) ∙ c.in-Ok.ensures.kinds (ap is_simple_and_free line_is ∙ simple)
 
 pub returns : goal.returns
 returns c =

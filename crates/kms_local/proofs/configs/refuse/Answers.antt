@@ -1,6 +1,6 @@
 use Rattle.std.proofs.Common.{ℕ, List, refl, inl, subst}
 use Rattle.kms_local.specs.Program.{SaysLine, refused_line}
-use Rattle.kms_local.proofs.program.refuse.Goals as goal
+use Rattle.kms_local.proofs.configs.refuse.Goals as goal
 
 pub returns-in-Ok : goal.returns-in-Ok
 returns-in-Ok g c = λ clock shelf later. inl (record {

@@ -1,6 +1,6 @@
 use Rattle.kms_local.specs.Program.{around}
 use Rattle.kms_local.proofs.Programs.{refused_file}
-use Rattle.kms_local.proofs.program.obtain_config.Goals as goal
+use Rattle.kms_local.proofs.configs.obtain_config.Goals as goal
 
 pub returns-in-Refused-clause-status : goal.returns-in-Refused-clause-status
 returns-in-Refused-clause-status g c = λ clock.
