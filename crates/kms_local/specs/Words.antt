@@ -7,7 +7,6 @@ use Rattle.clap.specs.Words.{App, Rule, Row, Text, Kinds, new_app, new_rule, wit
 use Rattle.kms_names.specs.Reading.{after_front}
 use Rattle.kms_local.specs.declared.asked.RunWords.{RunWords}
 use Rattle.kms_local.specs.declared.asked.ServeWords.{ServeWords}
-use Rattle.kms_local.specs.declared.asked.LoadWords.{LoadWords}
 use Rattle.kms_local.specs.declared.asked.Asked.{Asked}
 use Rattle.kms_local.specs.declared.asked.Asked.TheVariants as asked
 use Rattle.kms_local.specs.Numbers.{number_within, number_or}
