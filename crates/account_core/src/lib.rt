@@ -32,6 +32,7 @@ mod realm;
 mod sources;
 mod stops;
 mod texts;
+mod threads;
 mod view;
 
 pub use account::Account;
@@ -46,3 +47,4 @@ pub use laws::{
     one_pass_repeats_no_iv, parts_make_the_whole, passes_share_no_iv, sealed_is_decrypted_again,
     times_never_fall,
 };
+pub use threads::account_crosses_threads;

@@ -12,6 +12,7 @@ mod puts;
 mod questions;
 mod settings;
 mod standings;
+mod threads;
 mod times;
 
 pub use callers::Callers;
@@ -20,3 +21,4 @@ pub use key_policies::{KeyPolicy, default_policy_text};
 pub use laws::allowed_by_statements;
 pub use settings::{GrantSaid, KeyAliases, Particulars, Setting};
 pub use standings::Standing;
+pub use threads::callers_and_key_policies_cross_threads;

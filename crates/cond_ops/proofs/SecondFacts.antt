@@ -3,7 +3,6 @@ use Rattle.std.proofs.Common.{◌≡◌, ◌≢◌, ◌⊎◌, ℕ, ◌<◌, ◌
 use Rattle.std.specs.Prelude.{MatchOption, IfOk}
 use Rattle.std.specs.Char.{is_ascii_digit}
 use Rattle.std.specs.List.{AllPass}
-use Rattle.std.specs.Option.{option_or}
 use Rattle.std.specs.Result.{result_ok, OkIff}
 use Rattle.std.specs.Str.Parse.{ParsesSigned, digits_value}
 use Rattle.jiff.specs.Words.{IsDate, IsTime, IsYmd, IsHms, civil_seconds}
@@ -119,14 +118,12 @@ seconds_read text r parses digits short =
     let fits : digits_value 10 text < 2 ^ 63 = omega arith in
     seconds_by text r (parse_signed_digits own w64 text r parses digits) digits short fits
 
--- the first of three forms that a text has
+-- the last of three forms, of a text that has neither of the others
 module _ (A B C : ℤ → Type 0) where
-  pub one_of_three : (a b c : Option ℤ) → MatchOption a ((z : ℤ) → ¬ (A z)) A → MatchOption b ((z : ℤ) → ¬ (B z)) B → MatchOption c ((z : ℤ) → ¬ (C z)) C
-      → MatchOption (option_or (option_or a b) c) ((z : ℤ) → ¬ (A z ⊎ (B z ⊎ C z))) (λ z. A z ⊎ (B z ⊎ C z))
-  one_of_three (Some a) b c x y z = inl x
-  one_of_three None (Some b) c x y z = inr (inl y)
-  one_of_three None None (Some c) x y z = inr (inr z)
-  one_of_three None None None x y z = λ v is. none_of v is
+  pub third_of_three : (c : Option ℤ) → ((z : ℤ) → ¬ (A z)) → ((z : ℤ) → ¬ (B z)) → MatchOption c ((z : ℤ) → ¬ (C z)) C
+      → MatchOption c ((z : ℤ) → ¬ (A z ⊎ (B z ⊎ C z))) (λ z. A z ⊎ (B z ⊎ C z))
+  third_of_three (Some c) x y z = inr (inr z)
+  third_of_three None x y z = λ v is. none_of v is
     where
       none_of : (v : ℤ) → ¬ (A v ⊎ (B v ⊎ C v))
       none_of v (inl h) = x v h

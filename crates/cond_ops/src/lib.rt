@@ -14,6 +14,7 @@ mod operators;
 mod patterns;
 mod qualified;
 mod read_values;
+mod threads;
 mod truths;
 mod values;
 
@@ -26,4 +27,5 @@ pub use laws::{
 };
 pub use operators::{Kind, Operator, Order};
 pub use qualified::{QualifiedOperator, Qualifier, read_operator, write_operator};
+pub use threads::conditions_cross_threads;
 pub use values::is_value;

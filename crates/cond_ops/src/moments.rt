@@ -136,7 +136,11 @@ fn read_seconds(text: &str) -> Option<i64>
 pub fn read_moment(text: &str) -> Option<i64>
     ensures { MatchOption result ((z : ℤ) → ¬ (IsMoment text.now z)) (IsMoment text.now) }
 {
-    read_date_and_time(text)
-        .or(read_date(text))
-        .or(read_seconds(text))
+    if let Some(second) = read_date_and_time(text) {
+        return Some(second);
+    }
+    if let Some(second) = read_date(text) {
+        return Some(second);
+    }
+    read_seconds(text)
 }

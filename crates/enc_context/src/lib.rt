@@ -11,8 +11,10 @@ mod encoding;
 mod faults;
 mod laws;
 mod pairs;
+mod threads;
 
 pub use contexts::Context;
 pub use faults::ContextFault;
 pub use laws::{encodings_tell_contexts, one_order};
 pub use pairs::Pair;
+pub use threads::contexts_cross_threads;

@@ -1,5 +1,5 @@
 -- A match that takes back its last `*` alone finds a match where there is one.
-use Rattle.std.proofs.Common.{◌≡◌, ◌≢◌, ◌⊎◌, ℕ, ◌+◌, ◌≤◌, suc, List, [], ◌∷◌, ◌++◌, length, Option, None, Some, refl, ap, sym, ◌∙◌, subst, inl, inr, ⊎_elim, append_assoc, arith, length-append}
+use Rattle.std.proofs.Common.{◌≡◌, ◌≢◌, ◌⊎◌, ℕ, ◌+◌, ◌≤◌, suc, List, [], ◌∷◌, ◌++◌, length, Option, None, Some, refl, ap, sym, ◌∙◌, subst, inl, inr, ⊎_elim, append_assoc, append-nil, arith, length-append}
 use Rattle.std.specs.Prelude.{◌↔◌}
 use Rattle.kms_names.specs.Glob.{Globs, star, question_mark}
 
@@ -146,3 +146,6 @@ good_one_later whole p t a c rest stuck ((to, back), reached) = (
 
 pub none_without_later : (whole : Type 0) (p t a : List ℕ) → ¬ (Globs p t) → IsAsGood whole p t (Some (a, [])) → ¬ whole
 none_without_later whole p t a stuck ((to, back), reached) w = ⊎_elim stuck (λ l. later_none a l) (to w)
+
+pub star_takes_all : (text : List ℕ) → Globs (star ∷ []) text
+star_takes_all text = inl (text, [], refl, sym (append-nil text), refl)

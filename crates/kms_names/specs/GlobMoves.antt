@@ -20,7 +20,7 @@ letters by text = map (folded by) (chars text)
 
 -- a place goes to another by a move
 abbrev pub Moves : Case → Place → Move → Type 0
-Moves by place Done = (letters by place.pattern.now ≡ []) × (letters by place.text.now ≡ [])
+Moves by place Done = Globs (letters by place.pattern.now) (letters by place.text.now)
 Moves by place (Star next) = (letters by place.pattern.now ≡ star ∷ letters by next.pattern.now) × (letters by next.text.now ≡ letters by place.text.now)
 Moves by place (Advance next) =
     (c : ℕ) × (d : ℕ) × (c ≢ star) × ((c ≡ question_mark) ⊎ (c ≡ d)) × (letters by place.pattern.now ≡ c ∷ letters by next.pattern.now) × (letters by place.text.now ≡ d ∷ letters by next.text.now)

@@ -35,7 +35,7 @@ struct Place<'a> {
 /// How a match goes on from a place.
 #[derive(Clone, Copy)]
 enum Move<'a> {
-    /// Nothing is left of either.
+    /// What is left of the pattern matches what is left of the text.
     Done,
     /// A `*` was passed.
     Star(Place<'a>),
@@ -67,6 +67,9 @@ impl<'a> Place<'a> {
             };
         };
         if wanted == '*' {
+            if pattern.is_empty() {
+                return Move::Done;
+            }
             return Move::Star(Place {
                 pattern,
                 text: self.text,
@@ -94,7 +97,7 @@ fn one_later<'a>(last_star: Option<Place<'a>>, case: Case) -> Option<Place<'a>>
 }
 
 /// Whether a pattern matches a text. Only the last `*` is taken back: a match of what follows it that
-/// starts later leaves no more of the text to what comes before it.
+/// starts later leaves no more of the text to what comes before it. A `*` at the end ends the match.
 fn is_match<L: Ledger>(pattern: &str, text: &str, case: Case, steps: &mut Steps<L>) -> bool
     ensures value { IsTrue result ↔ Globs (letters case pattern.now) (letters case text.now) }
     ensures cost { steps.new ≤ steps.old + glob_cost pattern.now text.now }

@@ -18,6 +18,7 @@ mod principals;
 mod references;
 mod regions;
 mod texts;
+mod threads;
 
 pub use accounts::AccountNumber;
 pub use action_sets::ActionSet;
@@ -39,3 +40,4 @@ pub use principals::{Principal, principal_len, read_principal, write_principal};
 pub use references::{KeyRef, alias_arn, key_arn, read_key_ref};
 pub use regions::is_region;
 pub use texts::{Bytes, Text, TextList};
+pub use threads::names_cross_threads;

@@ -7,6 +7,7 @@ mod inbox;
 mod laws;
 mod outbox;
 mod session;
+mod threads;
 mod trust;
 mod waiting;
 
@@ -15,4 +16,5 @@ pub use laws::{
 };
 pub use outbox::send;
 pub use session::{SessionEnd, serve_session};
+pub use threads::trust_crosses_threads;
 pub use trust::Trust;

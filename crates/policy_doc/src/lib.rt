@@ -17,8 +17,10 @@ mod paths;
 mod policies;
 mod statements;
 mod texts;
+mod threads;
 
 pub use documents::{read_policy, read_policy_value};
 pub use faults::PolicyFault;
 pub use laws::{first_fault_has_place, policy_of_reads};
 pub use policies::{Named, NamedList, Policy, PolicyKind, Statement, StatementList};
+pub use threads::policies_cross_threads;

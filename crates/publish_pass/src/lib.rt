@@ -17,6 +17,7 @@ mod realm;
 mod rule;
 mod service;
 mod show;
+mod threads;
 mod told;
 mod whole;
 
@@ -27,4 +28,5 @@ pub use opening::{Opening, open_service};
 pub use pass::Pass;
 pub use realm::Realm;
 pub use service::Service;
+pub use threads::service_and_pass_cross_threads;
 pub use told::Told;
