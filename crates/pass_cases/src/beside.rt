@@ -1,9 +1,8 @@
 // A read beside a change that is held at the desk.
 ghost use Rattle.std.specs.Prelude.{◌≡◌};
 
-use crate::requests::{Failure, Host, answer};
-use crate::scenes::{look, make};
-use kms_io::{Gate, Point};
+use crate::requests::{Failure, Host, LOOK, MAKE, answer};
+use kms_io::{Gate, NoGate, Point};
 use publish_pass::{Answered, Pass, Realm};
 use std::rt;
 use std::sync::Wait;
@@ -22,9 +21,10 @@ struct Hold<'a, W: Wait> {
     word: &'a AtomicU64,
 }
 
-fn await_word<W: Wait>(rt: &W, word: &AtomicU64, wanted: u64) {
+/// Waits until the word says another thing.
+pub fn await_change<W: Wait>(rt: &W, word: &AtomicU64, known: u64) {
     for _ in rt.forever() {
-        if word.load(Ordering::SeqCst) == wanted {
+        if word.load(Ordering::SeqCst) != known {
             return;
         }
         yield_now();
@@ -35,7 +35,7 @@ fn await_word<W: Wait>(rt: &W, word: &AtomicU64, wanted: u64) {
 impl<W: Wait> Gate for Hold<'_, W> {
     fn at(&self, _point: Point) {
         self.word.store(AT_DESK, Ordering::SeqCst);
-        await_word(self.rt, self.word, GO_ON);
+        await_change(self.rt, self.word, AT_DESK);
     }
 }
 
@@ -47,8 +47,8 @@ fn look_beside<R: Realm, W: Wait>(
 ) -> Result<Answered, Failure>
     requires { host.now.facts.now ≡ R.facts }
 {
-    await_word(host.rt, word, AT_DESK);
-    let answered = answer(host, pass, &look(1), &kms_io::NoGate);
+    await_change(host.rt, word, 0);
+    let answered = answer(host, pass, &LOOK, &NoGate);
     word.store(GO_ON, Ordering::SeqCst);
     answered
 }
@@ -62,7 +62,7 @@ fn make_held<R: Realm, W: Wait>(
     requires { host.now.facts.now ≡ R.facts }
 {
     let hold = Hold { rt: host.rt, word };
-    let made = crate::scenes::make_at(host, pass, &hold);
+    let made = answer(host, pass, &MAKE, &hold);
     if word.load(Ordering::SeqCst) == 0 {
         word.store(AT_DESK, Ordering::SeqCst);
     }
@@ -77,7 +77,7 @@ pub fn beside<R: Realm + Send + Sync, W: rt::Runtime + Threads + Wait + Sync>(
 ) -> Result<(), Failure>
     requires { host.now.facts.now ≡ R.facts }
 {
-    let before = make(host, one)?.front;
+    let before = answer(host, one, &MAKE, &NoGate)?.front;
     let word = AtomicU64::new(0);
     let (made, looked) = join(
         host.rt,
@@ -86,7 +86,7 @@ pub fn beside<R: Realm + Send + Sync, W: rt::Runtime + Threads + Wait + Sync>(
     );
     let (made, looked) = (made?.front, looked?.front);
     println!(host.rt;
-        "at {before} entries a change is held, a read beside it is answered at {looked}, and the change at {made}"
+        "2 beside: at {before} entries a change is held, a read is answered at {looked}, and the change at {made}"
     )?;
     Ok(())
 }

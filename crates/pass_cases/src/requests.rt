@@ -8,7 +8,7 @@ use kms_io::Gate;
 use kms_json::{Ask, JsonFault, read_ask};
 use kms_names::{NoMemory, Principal, Text};
 use publish_pass::{Answered, Pass, Realm, Service, Unread};
-use std::alloc::Global;
+use std::alloc::{AllocError, Global};
 use std::io;
 use std::sync::Wait;
 
@@ -33,6 +33,22 @@ pub struct Request<'a> {
     /// How many entries the history is to have at least.
     pub after: Option<u64>,
 }
+
+/// A key is made.
+pub const MAKE: Request<'static> = Request {
+    caller: Caller::Root,
+    operation: "CreateKey",
+    body: "{}",
+    after: None,
+};
+
+/// A look at the first key.
+pub const LOOK: Request<'static> = Request {
+    caller: Caller::Root,
+    operation: "DescribeKey",
+    body: "{\"KeyId\":\"10284733-057c-2825-aeb4-000000000000\"}",
+    after: None,
+};
 
 // The second at which all is asked.
 const NOW: u64 = 1_700_000_000;
@@ -73,6 +89,12 @@ pub enum Failure {
 impl From<NoMemory> for Failure {
     fn from(_e: NoMemory) -> Failure {
         Failure::Host(io::Error::from(io::ErrorKind::OutOfMemory))
+    }
+}
+
+impl From<AllocError> for Failure {
+    fn from(_e: AllocError) -> Failure {
+        Failure::from(NoMemory)
     }
 }
 
