@@ -1,7 +1,7 @@
 // The program, but for its handles.
 ghost use Rattle.std.specs.Prelude.{◌≡◌, ℕ, List, Option, Some, map, string_bytes, option_map, vec_len};
 ghost use Rattle.kms_io.specs.Shelf.{Shelf};
-ghost use Rattle.publish_pass.specs.Rules.{Names};
+ghost use Rattle.published_account.specs.Rules.{Names};
 ghost use Rattle.kms_session.specs.Callers.{IsOfAccount};
 ghost use Rattle.kms_session.specs.declared.trust.Trust.TheVariants.{Signed};
 ghost use Rattle.kms_local.specs.Words.{values_in, shown};

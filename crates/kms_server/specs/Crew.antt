@@ -6,7 +6,7 @@ use Rattle.account_core.specs.History.{Entry}
 use Rattle.kms_io.specs.Listening.{Listening}
 use Rattle.kms_io.specs.Door.{IsNewEar}
 use Rattle.publish_pass.specs.Pass.{Pass, Learns}
-use Rattle.publish_pass.specs.Pairs.{IsHistory}
+use Rattle.published_account.specs.Pairs.{IsHistory}
 use Rattle.kms_server.specs.declared.server.Served.{Served}
 use Rattle.kms_server.specs.Work.{WorkerState}
 

@@ -1,6 +1,6 @@
 // A server, from the opening of its door to its closing.
 ghost use Rattle.std.specs.Prelude.{◌≡◌, ◌≤◌, ◌<◌, ◌+◌, ◌++◌, ◌^◌, ℕ, List, [], Option, map, vec_len, vec_capacity};
-ghost use Rattle.publish_pass.specs.Rules.{Names};
+ghost use Rattle.published_account.specs.Rules.{Names};
 ghost use Rattle.publish_pass.specs.Pass.{fresh_passes};
 ghost use Rattle.kms_session.specs.Callers.{IsOfAccount};
 ghost use Rattle.kms_server.specs.Crew.{Finishes, taken_by};

@@ -4,10 +4,10 @@ use mathlib.Core.List.{IsPrefix}
 use Rattle.account_core.specs.History.{Entry}
 use Rattle.account_core.specs.History.{housekeeping_of}
 use Rattle.account_core.specs.Decide.{decide}
-use Rattle.publish_pass.specs.Answers.{Answer}
-use Rattle.publish_pass.specs.Pairs.{entries_of}
+use Rattle.published_account.specs.Answers.{Answer}
+use Rattle.published_account.specs.Pairs.{entries_of}
 use Rattle.publish_pass.specs.Pass.{Pass, making_any, keeping_house}
-use Rattle.publish_pass.proofs.Lists.{prefix_self, prefix_push, prefix_trans}
+use Rattle.published_account.proofs.Lists.{prefix_self, prefix_push, prefix_trans}
 use Rattle.kms_session.specs.declared.trust.Trust.{Trust}
 use Rattle.kms_session.specs.Run.{Item, Plan, Answers, early, reads, changes, Wanting, wants_nothing, wants_read, wants_change, Replies, answers, wants_memory, SessionRun, begins, goes_on}
 use Rattle.kms_session.specs.Laws.{TurnsGoOn, RunsGoOn}

@@ -21,8 +21,8 @@ use Rattle.kms_session.specs.declared.asked.After.TheVariants.{Entries, Malforme
 use Rattle.http_front.specs.Heading.{values_of}
 use Rattle.std.proofs.Common.{codes}
 use Rattle.kms_session.proofs.AskedLemmas.{once_asked}
-use Rattle.publish_pass.specs.Answers.{Answer}
-use Rattle.publish_pass.specs.Pairs.{entries_of}
+use Rattle.published_account.specs.Answers.{Answer}
+use Rattle.published_account.specs.Pairs.{entries_of}
 use Rattle.publish_pass.specs.Pass.{Pass, Meets, Learns, Changes, making_any, keeping_house, at_places}
 use Rattle.kms_session.specs.declared.trust.Trust.{Trust}
 use Rattle.kms_session.specs.Run.{Item, whole, fault, asks, planned, planned_by, plan_of, Answers, early, reads, changes, Wanting, wants_nothing, wants_read, wants_change, Replies, answers, wants_memory, SessionRun, begins, goes_on}

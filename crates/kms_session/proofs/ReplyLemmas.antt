@@ -3,7 +3,7 @@ use Rattle.std.proofs.Common.{◌≡◌, ◌≢◌, ◌≤◌, ℕ, List, ◌++�
 use Rattle.std.specs.Bool.{MatchBool}
 use Rattle.kms_io.specs.Wire.{Wire}
 use Rattle.account_core.proofs.GoingOn.{decide_goes_on}
-use Rattle.publish_pass.specs.declared.answered.Answered.{Answered}
+use Rattle.published_account.specs.declared.answered.Answered.{Answered}
 use Rattle.http_front.specs.Head.{IsHead}
 use Rattle.kms_json.specs.declared.asks.Ask.{Ask}
 use Rattle.kms_json.specs.declared.replies.Reply.TheVariants.{Refused}
@@ -21,12 +21,12 @@ use Rattle.kms_json.specs.declared.asks.JsonFault.TheVariants.{UnknownOperation,
 use Rattle.kms_json.specs.declared.refusals.Refusal.{Refusal}
 use Rattle.kms_session.specs.Asked.{asked_in, after_in}
 use Rattle.kms_session.specs.declared.asked.After.{After}
-use Rattle.publish_pass.specs.Answers.{Answer, answer_in, answer_of}
+use Rattle.published_account.specs.Answers.{Answer, answer_in, answer_of}
 use Rattle.kms_session.specs.Answers.{IsReplyText, five_hundred}
-use Rattle.publish_pass.specs.Pairs.{entries_of}
+use Rattle.published_account.specs.Pairs.{entries_of}
 use Rattle.publish_pass.specs.Pass.{Pass, Meets, Wants, WantsChange, AnswersRead, AnswersChange, LacksRead, Misses, keeping_house, making_any}
-use Rattle.publish_pass.specs.declared.answered.Unread.TheVariants.{NoMemory as Unfed}
-use Rattle.publish_pass.proofs.Lists.{prefix_self}
+use Rattle.published_account.specs.declared.answered.Unread.TheVariants.{NoMemory as Unfed}
+use Rattle.published_account.proofs.Lists.{prefix_self}
 use Rattle.publish_pass.proofs.Meeting.{learns_self}
 use Rattle.kms_names.specs.declared.principals.Principal.{Principal}
 use Rattle.sigv4_check.specs.declared.faults.AuthFault.{AuthFault}

@@ -3,7 +3,7 @@ use Rattle.std.specs.Prelude.{◌≡◌, ℕ, List, ◌++◌, codes, length, Boo
 use Rattle.http_front.specs.declared.judge.HttpFault.{HttpFault}
 use Rattle.http_front.specs.declared.judge.HttpFault.TheVariants.{BadHead, NotPost, NotRoot, Chunked, TwoLengths, NoLength, TooLong}
 use Rattle.http_front.specs.Head.{IsHead}
-use Rattle.publish_pass.specs.Answers.{Answer}
+use Rattle.published_account.specs.Answers.{Answer}
 
 -- the status (RFC 9110, section 15) and the name of a fault
 abbrev pub status_of : HttpFault → ℕ

@@ -8,7 +8,7 @@ use Rattle.kms_json.specs.declared.asks.Ask.{Ask}
 use Rattle.kms_json.specs.declared.replies.Reply.{Reply}
 use Rattle.account_core.specs.Decide.{IsLawful}
 use Rattle.account_core.specs.Laws.{Sealing, HasSealed, iv_in}
-use Rattle.publish_pass.specs.Pairs.{entries_of}
+use Rattle.published_account.specs.Pairs.{entries_of}
 use Rattle.publish_pass.specs.Pass.{Pass, Reads}
 use Rattle.kms_session.specs.Run.{Item, fault, Cuts, Turn, SessionRun, plan_of, asks}
 use Rattle.kms_session.specs.Callers.{IsOfAccount}

@@ -1,9 +1,9 @@
 -- A reply on its way out.
 use Rattle.std.specs.Prelude.{◌≡◌, ℕ, List, Bool, length}
 use Rattle.kms_io.specs.Wire.{Wire}
-use Rattle.publish_pass.specs.Answers.{Answer, answer_in}
+use Rattle.published_account.specs.Answers.{Answer, answer_in}
 use Rattle.kms_session.specs.Answers.{IsReplyText}
-use Rattle.publish_pass.specs.declared.answered.Answered.{Answered}
+use Rattle.published_account.specs.declared.answered.Answered.{Answered}
 use Rattle.publish_pass.specs.Pass.{Pass}
 use Rattle.kms_session.specs.Run.{Plan, Answers}
 use Rattle.kms_session.specs.Session.{SendsWhole, SendsShort}

@@ -17,7 +17,7 @@ use Rattle.kms_session.specs.Asked.{asked_in, after_in}
 use Rattle.kms_session.specs.Callers.{caller_of, refusal_for}
 use Rattle.kms_session.specs.declared.asked.After.{After}
 use Rattle.kms_session.specs.declared.asked.After.TheVariants.{Entries, Malformed}
-use Rattle.publish_pass.specs.Answers.{Answer, answer_of}
+use Rattle.published_account.specs.Answers.{Answer, answer_of}
 use Rattle.kms_session.specs.Answers.{fault_answer, IsReplyText, five_hundred}
 use Rattle.publish_pass.specs.Pass.{Pass, Reads, Changes, Wants, WantsChange}
 

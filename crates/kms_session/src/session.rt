@@ -4,7 +4,7 @@ ghost use Rattle.kms_json.specs.Asks.{asked, changes_account, refusal_of};
 ghost use Rattle.kms_json.specs.declared.refusals.Refusal.TheVariants.{Validation};
 ghost use Rattle.kms_json.specs.declared.replies.Reply.TheVariants.{Refused};
 ghost use Rattle.account_core.specs.Decide.{account_of, IsProper};
-ghost use Rattle.publish_pass.specs.Answers.{answer_of};
+ghost use Rattle.published_account.specs.Answers.{answer_of};
 ghost use Rattle.kms_session.specs.Answers.{fault_answer};
 ghost use Rattle.kms_session.specs.Run.{whole, asks, answered, plan_of, planned, Wanting};
 ghost use Rattle.kms_session.specs.Asked.{asked_in, after_in};

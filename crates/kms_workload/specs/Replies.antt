@@ -1,6 +1,6 @@
 -- The replies of a session, as its text shows them.
 use Rattle.std.specs.Prelude.{◌≡◌, ℕ, ◌+◌, List, [], ◌∷◌, ◌++◌, Bool, ◌==◌, if◌then◌else◌}
-use Rattle.publish_pass.specs.Answers.{Answer}
+use Rattle.published_account.specs.Answers.{Answer}
 use Rattle.kms_session.specs.Answers.{IsReplyText, five_hundred}
 
 -- the text of one reply with this status: an answer at some second, or the reply for want of memory

@@ -1,7 +1,7 @@
 // One session of a new service.
 ghost use Rattle.std.specs.Prelude.{◌≡◌, IfOk};
 ghost use Rattle.kms_io.specs.MemoryLink.{wire_of};
-ghost use Rattle.publish_pass.specs.Rules.{Names};
+ghost use Rattle.published_account.specs.Rules.{Names};
 ghost use Rattle.kms_session.specs.Callers.{IsOfAccount};
 ghost use Rattle.kms_workload.specs.Facts.{load_facts, load_trust};
 ghost use Rattle.kms_workload.specs.Clock.{seconds_so_far};

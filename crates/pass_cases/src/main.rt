@@ -8,7 +8,7 @@ mod requests;
 mod steps;
 
 ghost use Rattle.std.specs.Prelude.{◌≡◌, ◌<◌, ◌≤◌, IfOk};
-ghost use Rattle.publish_pass.specs.Rules.{Names};
+ghost use Rattle.published_account.specs.Rules.{Names};
 
 use account_core::{IdentityList, RealmFacts};
 use kms_names::{AccountNumber, NoMemory, Text};

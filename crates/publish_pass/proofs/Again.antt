@@ -14,9 +14,9 @@ use Rattle.account_rows.specs.History.{replay}
 use Rattle.account_core.specs.Decide.{IsLawful, empty, longer}
 use Rattle.account_core.specs.Laws.{PassGoesOn, TimesNeverFall, SealedIsDecryptedAgain, DroppedGrantsStayAway, OnePassRepeatsNoIv, PassesShareNoIv, AsksToOpen, reply_to, exception_of, unless_excepted}
 use Rattle.kms_json.specs.declared.replies.Reply.TheVariants.{Decrypted}
-use Rattle.publish_pass.specs.Pairs.{entries_of}
+use Rattle.published_account.specs.Pairs.{entries_of}
 use Rattle.publish_pass.specs.Machine.{State, read, places_after, SealedStaysReadable, DroppedStaysAway, NoVectorTwice, NoVectorShared}
-use Rattle.publish_pass.proofs.Lists.{prefix_trans, prefix_shorter}
+use Rattle.published_account.proofs.Lists.{prefix_trans, prefix_shorter}
 use Rattle.publish_pass.proofs.Kept.{reached, goes, ran}
 
 -- ---- beginnings

@@ -8,9 +8,9 @@ use Rattle.account_core.specs.Places.{no_places}
 use Rattle.account_core.specs.Decide.{decide, IsNext, appended, kept, empty}
 use Rattle.account_core.specs.Laws.{PassGoesOn, no_request, one_more, wants_memory, TimesNeverFall}
 use Rattle.account_core.proofs.GoingOn.{same_entry, decide_goes_on}
-use Rattle.publish_pass.specs.Pairs.{IsHistory, entries_of}
+use Rattle.published_account.specs.Pairs.{IsHistory, entries_of}
 use Rattle.publish_pass.specs.Machine.{State, Event, house, change, read, starved, learn, start, made, looked, looked_at, made_any, IsNumber, places_after, Step, Runs, places_of_maker, Holds, Grows, HoldsAlways}
-use Rattle.publish_pass.proofs.Lists.{history_nil, history_push, prefix_self, prefix_push, prefix_trans}
+use Rattle.published_account.proofs.Lists.{history_nil, history_push, prefix_self, prefix_push, prefix_trans}
 
 -- ---- own places
 

@@ -1,6 +1,3 @@
-pub mod Lists
-pub mod Adding
-pub mod Turns
 pub mod PassLemmas
 pub mod Meeting
 mod Lookups

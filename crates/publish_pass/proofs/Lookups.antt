@@ -13,35 +13,12 @@ use Rattle.account_core.specs.declared.places.Places.{Places}
 use Rattle.account_core.specs.Places.{IsWithin, places_of, line_at}
 use Rattle.account_core.specs.Decide.{decide}
 use Rattle.account_core.proofs.GoingOn.{decide_goes_on, within_places, places_at}
-use Rattle.publish_pass.specs.declared.answered.Answered.{Answered}
-use Rattle.publish_pass.specs.Pairs.{IsHistory, entries_of}
-use Rattle.publish_pass.specs.Reading.{AnswersAt, Settles}
-use Rattle.publish_pass.specs.declared.answered.Unread.{Unread}
-use Rattle.publish_pass.specs.declared.answered.Unread.TheVariants.{NoMemory}
+use Rattle.published_account.specs.declared.answered.Answered.{Answered}
+use Rattle.published_account.specs.Pairs.{IsHistory, entries_of}
+use Rattle.published_account.specs.Reading.{AnswersAt, Settles}
+use Rattle.published_account.specs.declared.answered.Unread.{Unread}
+use Rattle.published_account.specs.declared.answered.Unread.TheVariants.{NoMemory}
 use Rattle.publish_pass.specs.Pass.{Pass, Meets, AnswersRead, LacksRead}
-
--- a line that has gone where a decision leaves it has gone on at most so far
-pub went_on : (facts : RealmFacts) (entries : List Entry) (x : Ask) (old new : Line) → new ≡ line_at old (decide facts entries x (places_of old)).places
-    → IsWithin old new (decide facts entries x (places_of old)).places
-went_on facts entries x old new is =
-    let after : Places = (decide facts entries x (places_of old)).places in
-    let on = decide_goes_on facts entries x (places_of old) in
-    subst (λ (l : Line). IsWithin old l after) (sym is)
-    (record {
-      seed = refl;
-      boot = refl;
-      number = refl;
-      words_from = on.words_from;
-      words_to = omega arith;
-      ivs_from = on.ivs_from;
-      ivs_to = omega arith;
-    })
-
--- an error leaves the line so far at most
-pub settles_err : (facts : RealmFacts) (entries : List Entry) (x : Ask) (old new : Line) (r : Result Answered Starved) → IsErr r
-    → IsWithin old new (decide facts entries x (places_of old)).places → Settles facts entries x old r new
-settles_err facts entries x old new (Ok a) is within = absurd (false≢true is)
-settles_err facts entries x old new (Err why) is within = within
 
 -- a pass that has looked once at a history of its service in which its own comes first
 module _

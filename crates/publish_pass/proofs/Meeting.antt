@@ -4,11 +4,11 @@ use Rattle.kms_json.specs.declared.asks.Ask.{Ask}
 use Rattle.account_core.specs.declared.facts.RealmFacts.{RealmFacts}
 use Rattle.account_core.specs.History.{Entry}
 use Rattle.account_core.specs.Decide.{IsProper, IsLawful}
-use Rattle.publish_pass.specs.declared.answered.Answered.{Answered}
-use Rattle.publish_pass.specs.Pairs.{IsHistory, entries_of}
-use Rattle.publish_pass.specs.Growing.{IsLongerOf}
+use Rattle.published_account.specs.declared.answered.Answered.{Answered}
+use Rattle.published_account.specs.Pairs.{IsHistory, entries_of}
+use Rattle.published_account.specs.Growing.{IsLongerOf}
 use Rattle.publish_pass.specs.Pass.{Pass, Learns, AnswersChange, AnswersAtDesk, WantsChange, KeepsHouse, WantsHouse, LeavesAtMost, keeping_house}
-use Rattle.publish_pass.proofs.Lists.{prefix_self, prefix_trans}
+use Rattle.published_account.proofs.Lists.{prefix_self, prefix_trans}
 
 pub learns_self : (s : Pass) → Learns s s
 learns_self s = record { history = prefix_self s.history; others = refl; lawful = λ is. is }

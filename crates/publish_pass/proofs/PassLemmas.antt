@@ -1,9 +1,9 @@
 -- Decisions of a pass.
-use Rattle.std.proofs.Common.{◌≡◌, ◌<◌, ◌==◌, ℕ, List, length, Option, Some, None, Bool, true, false, refl, sym, ap, ap₂, ◌∙◌, subst, if◌then◌else◌, ◌⊎◌, inl, inr, Result, Ok, Err}
+use Rattle.std.proofs.Common.{◌≡◌, ◌<◌, ◌==◌, ℕ, ◌+◌, List, [], ◌∷◌, ◌++◌, length, add-one, Option, Some, None, Bool, true, false, refl, sym, ap, ap₂, ◌∙◌, subst, if◌then◌else◌, ◌⊎◌, inl, inr, Result, Ok, Err}
 use Rattle.std.specs.Result.{IfOk, OnOk, OnErr}
 use Rattle.kms_names.specs.declared.faults.NoMemory.{NoMemory}
-use Rattle.publish_pass.specs.declared.answered.Answered.{Answered}
-use Rattle.publish_pass.specs.Answers.{answer_in, answer_of}
+use Rattle.published_account.specs.declared.answered.Answered.{Answered}
+use Rattle.published_account.specs.Answers.{answer_in, answer_of}
 use Rattle.kms_json.specs.declared.asks.Ask.{Ask}
 use Rattle.kms_json.specs.declared.replies.Reply.{Reply}
 use Rattle.kms_json.specs.Replies.{status_of}
@@ -17,8 +17,8 @@ use Rattle.account_core.specs.Account.{Account}
 use Rattle.account_core.specs.Decide.{decision_by, decision_of, IsNext, appended, kept, IsProper}
 use Rattle.account_core.specs.Places.{no_places}
 use Rattle.account_core.proofs.GoingOn.{same_reply, same_entry}
-use Rattle.publish_pass.specs.Pairs.{entries_of}
-use Rattle.publish_pass.specs.Pass.{Pass, making, making_any, keeping_house, Decides, AnswersHere}
+use Rattle.published_account.specs.Pairs.{entries_of}
+use Rattle.publish_pass.specs.Pass.{Pass, making, making_any, keeping_house, Decides, AnswersHere, fresh_pass, fresh_passes}
 
 refused_where : (b : Bool) (reply r : Reply) → Refused reply ≡ (if b then Served r else Refused r) → reply ≡ r
 refused_where true reply r e = cc
@@ -104,3 +104,7 @@ proper_kept s t x clock is proper =
 pub on_err : {A E P : Type 0} (r : Result A E) → P → OnErr r P
 on_err (Ok v) p = tt
 on_err (Err e) p = p
+
+-- one more pass
+pub fresh_passes-push : (facts : RealmFacts) (n : ℕ) → fresh_passes facts (n + 1) ≡ fresh_passes facts n ++ fresh_pass facts (n + 1) ∷ []
+fresh_passes-push facts n = ap (fresh_passes facts) (add-one n) ∙ ap (λ (k : ℕ). fresh_passes facts n ++ fresh_pass facts k ∷ []) (sym (add-one n))

@@ -4,7 +4,7 @@ use Rattle.std.proofs.lemmas.List.{map-append}
 use Rattle.account_core.specs.History.{Entry, housekeeping_of}
 use Rattle.account_core.specs.Decide.{IsLawful}
 use Rattle.account_core.specs.Laws.{HouseIsKeptOnce}
-use Rattle.publish_pass.specs.Pairs.{entries_of}
+use Rattle.published_account.specs.Pairs.{entries_of}
 use Rattle.publish_pass.specs.Pass.{Pass, making_any}
 use Rattle.publish_pass.specs.House.{OwesNothingMore}
 

@@ -2,7 +2,7 @@
 use Rattle.std.specs.Prelude.{◌≡◌, ℕ, None}
 use Rattle.account_core.specs.History.{housekeeping_of}
 use Rattle.account_core.specs.Decide.{IsLawful}
-use Rattle.publish_pass.specs.Pairs.{entries_of}
+use Rattle.published_account.specs.Pairs.{entries_of}
 use Rattle.publish_pass.specs.Pass.{Pass, keeping_house}
 
 -- after housekeeping at a clock's answer, whether it was owed or not, nothing more is owed at it

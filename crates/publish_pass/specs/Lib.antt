@@ -1,8 +1,3 @@
-pub mod Answers
-pub mod Pairs
-pub mod Rules
-pub mod Growing
-pub mod Reading
 pub mod Pass
 pub mod Machine
 pub mod House

@@ -17,7 +17,7 @@ use Rattle.account_rows.specs.History.{replay}
 use Rattle.account_core.specs.History.{housekeeping_of}
 use Rattle.account_core.specs.Decide.{decide, IsProper}
 use Rattle.account_core.specs.Laws.{Sealing, HasSealed, AsksToOpen, reply_to, iv_in, PassGoesOn, exception_of, unless_excepted}
-use Rattle.publish_pass.specs.Pairs.{IsHistory, entries_of}
+use Rattle.published_account.specs.Pairs.{IsHistory, entries_of}
 
 -- the published history, each entry with the number of the pass that made it; and of the pass of each number how many entries it has
 -- seen, the places of its own, and what it has used of its random stream and of its initialization vectors

@@ -9,11 +9,12 @@ use Rattle.account_core.specs.History.{housekeeping_of}
 use Rattle.account_core.specs.declared.places.Places.{Places}
 use Rattle.account_core.specs.Places.{IsUpTo}
 use Rattle.account_core.specs.Decide.{decide, IsLawful}
-use Rattle.publish_pass.specs.declared.answered.Answered.{Answered}
-use Rattle.publish_pass.specs.declared.answered.Unread.{Unread}
-use Rattle.publish_pass.specs.declared.answered.Unread.TheVariants.{NotEntered, NoMemory}
-use Rattle.publish_pass.specs.Answers.{answer_of, answer_in}
-use Rattle.publish_pass.specs.Pairs.{Shown, entries_of}
+use Rattle.published_account.specs.declared.answered.Answered.{Answered}
+use Rattle.published_account.specs.declared.answered.Unread.{Unread}
+use Rattle.published_account.specs.declared.answered.Unread.TheVariants.{NotEntered, NoMemory}
+use Rattle.published_account.specs.Answers.{answer_of, answer_in}
+use Rattle.published_account.specs.Pairs.{Shown, entries_of}
+use Rattle.published_account.specs.Reading.{Rose}
 
 -- the facts of its service, its number, the history that it has seen with the number of the pass that made each entry, the places of
 -- its own entries, what it has used of its random stream and its initialization vectors, and how often it missed the published account
@@ -65,10 +66,6 @@ pub record Wants (s : Pass) (x : Ask) (t : Pass) : Type 0 where
   pub places : Places
   pub used : t ≡ at_places met places
   pub at_most : IsUpTo met.places places (decide met.facts (entries_of met.history) x met.places).places
-
--- the count rose, or stands at the last value of its type. It never falls
-abbrev pub Rose : ℕ → ℕ → Type 0
-Rose m n = (m ≤ n) × ((m < n) ⊎ (n ≡ 18446744073709551615))
 
 -- the pass is as it was, and has missed the published account once more
 pub record Misses (s t : Pass) : Type 0 where

@@ -3,24 +3,18 @@ ghost use Rattle.std.specs.Prelude.{◌≡◌, ◌<◌, ◌≤◌, ◌++◌, ◌
 ghost use Rattle.std.specs.Arc.{arc_value};
 ghost use Rattle.kms_json.specs.Asks.{changes_account};
 ghost use Rattle.account_core.specs.Decide.{IsProper, IsNext};
-ghost use Rattle.publish_pass.specs.Answers.{answer_of, answer_in};
-ghost use Rattle.publish_pass.specs.Pairs.{entries_of};
-ghost use Rattle.publish_pass.specs.Growing.{IsLongerOf};
+ghost use Rattle.published_account.specs.Answers.{answer_of, answer_in};
+ghost use Rattle.published_account.specs.Pairs.{entries_of};
+ghost use Rattle.published_account.specs.Growing.{IsLongerOf};
 ghost use Rattle.publish_pass.specs.Pass.{Learns, making, keeping_house, AnswersHere, AnswersAtDesk, LeavesAtMost};
-ghost use Rattle.publish_pass.specs.Rules.{Names};
+ghost use Rattle.published_account.specs.Rules.{Names};
 
-use crate::answered::{Answered, answer_with};
-use crate::line::{Head, Line};
 use crate::pass::Pass;
-use crate::published::Published;
-use crate::realm::Realm;
-use crate::rule::Copies;
-use crate::show::show;
-use crate::whole::Whole;
 use account_core::{Account, Decision, Entry};
 use kms_io::{Gate, Point};
 use kms_json::{Ask, Reply};
 use kms_names::NoMemory;
+use published_account::{Answered, Copies, Head, Line, Published, Realm, Whole, answer_with, show};
 use std::alloc::Global;
 use std::marker::{Model, PhantomData};
 use std::sync::ledger::Book;
@@ -37,7 +31,7 @@ pub struct Desk<R: Realm> {
 
 impl<R: Realm> Model for Desk<R> {
     ghost use Rattle.std.specs.Prelude.{◌≡◌, ℕ, List, length};
-    ghost use Rattle.publish_pass.specs.Rules.{Names};
+    ghost use Rattle.published_account.specs.Rules.{Names};
     ghost use Rattle.account_core.specs.History.{Entry};
 
     ghost Value = { List (Entry × ℕ) };

@@ -5,28 +5,19 @@
 //! with the number of the pass that made it.
 #![tactic(auto)]
 
-mod answered;
 mod desk;
-mod entrance;
 mod laws;
-mod line;
 mod opening;
 mod pass;
-mod published;
-mod realm;
-mod rule;
 mod service;
-mod show;
 mod threads;
 mod told;
-mod whole;
 
-pub use answered::{Answered, Unread, answer_with};
 pub use desk::Desk;
 pub use laws::{house_owes_nothing_more, machine_law};
 pub use opening::{Opening, open_service};
 pub use pass::Pass;
-pub use realm::Realm;
+pub use published_account::{Answered, Realm, Unread, answer_with};
 pub use service::Service;
 pub use threads::service_and_pass_cross_threads;
 pub use told::Told;

@@ -2,21 +2,15 @@
 ghost use Rattle.std.specs.Prelude.{◌≡◌, ◌+◌, ◌<◌, ◌≤◌, [], drop, IfOk};
 ghost use Rattle.left_right.specs.Sides.{view};
 ghost use Rattle.publish_pass.specs.Pass.{fresh_pass, fresh_passes};
-ghost use Rattle.publish_pass.specs.Rules.{Knows, Names};
+ghost use Rattle.published_account.specs.Rules.{Knows, Names};
 
 use crate::desk::Desk;
-use crate::entrance::Entrance;
-use crate::line::{Line, Unnamed};
 use crate::pass::Pass;
-use crate::published::Published;
-use crate::realm::Realm;
-use crate::rule::{Copies, Notes, Window};
 use crate::service::Service;
-use crate::show::warm;
 use crate::told::Told;
-use crate::whole::Whole;
 use account_core::{RealmFacts, draw_line};
 use kms_names::{NoMemory, Text};
+use published_account::{Copies, Entrance, Line, Notes, Published, Realm, Unnamed, Whole, Window, warm};
 use std::alloc::Global;
 use std::marker::Model;
 use std::sync::Wait;
@@ -36,7 +30,7 @@ impl Model for Opening {
     ghost use Rattle.std.specs.Prelude.{◌≡◌, ◌<◌, []};
     ghost use Rattle.left_right.specs.Sides as sides;
     ghost use Rattle.publish_pass.specs.Pass as openings;
-    ghost use Rattle.publish_pass.specs.Rules.{Knows};
+    ghost use Rattle.published_account.specs.Rules.{Knows};
 
     ghost Value = { openings.Opening };
 

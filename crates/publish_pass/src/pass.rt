@@ -3,17 +3,14 @@ ghost use Rattle.std.specs.Prelude.{◌≡◌, ◌<◌, ◌≤◌, [], length, f
 ghost use Rattle.kms_json.specs.Asks.{changes_account};
 ghost use Rattle.account_core.specs.Decide.{IsProper};
 ghost use Rattle.account_core.specs.Places.{first_line};
-ghost use Rattle.publish_pass.specs.Growing.{IsLongerOf};
-ghost use Rattle.publish_pass.specs.Pairs.{IsHistory};
+ghost use Rattle.published_account.specs.Growing.{IsLongerOf};
+ghost use Rattle.published_account.specs.Pairs.{IsHistory};
 ghost use Rattle.publish_pass.specs.Pass.{fresh_pass, Learns, AnswersRead, LacksRead};
 
-use crate::answered::{Answered, Unread};
-use crate::entrance::{Entrance, Found};
-use crate::line::Line;
-use crate::realm::Realm;
 use crate::told::Told;
 use draw_lines::DrawLine;
 use kms_json::Ask;
+use published_account::{Answered, Entrance, Found, Line, Realm, Unread};
 use std::alloc::Global;
 use std::marker::Model;
 use std::sync::ledger::Share;

@@ -4,14 +4,13 @@ ghost use Rattle.kms_json.specs.Asks.{changes_account};
 ghost use Rattle.account_core.specs.Decide.{IsProper};
 ghost use Rattle.publish_pass.specs.Pass.{Learns, AnswersChange, WantsChange, KeepsHouse, WantsHouse};
 
-use crate::answered::Answered;
 use crate::desk::Desk;
 use crate::pass::Pass;
-use crate::realm::Realm;
 use crate::told::Told;
 use kms_io::Gate;
 use kms_json::Ask;
 use kms_names::{NoMemory, Text};
+use published_account::{Answered, Realm};
 use std::alloc::Global;
 use std::sync::{Mutex, MutexGuard, Wait};
 

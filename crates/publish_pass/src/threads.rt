@@ -1,8 +1,8 @@
 //! What threads may share.
 
 use crate::pass::Pass;
-use crate::realm::Realm;
 use crate::service::Service;
+use published_account::Realm;
 
 fn crosses_threads<T: Send + Sync>() {}
 

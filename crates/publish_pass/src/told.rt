@@ -1,10 +1,9 @@
 // What a pass tells.
 ghost use Rattle.std.specs.Prelude.{◌≡◌, length};
-ghost use Rattle.publish_pass.specs.Growing.{IsLongerOf};
-ghost use Rattle.publish_pass.specs.Pairs.{IsHistory};
+ghost use Rattle.published_account.specs.Growing.{IsLongerOf};
+ghost use Rattle.published_account.specs.Pairs.{IsHistory};
 
-use crate::line::Line;
-use crate::realm::Realm;
+use published_account::{Line, Realm};
 use std::marker::Model;
 
 /// What a pass tells others: the history that it has seen. It takes no memory. Contracts see that history,

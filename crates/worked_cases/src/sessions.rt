@@ -1,7 +1,7 @@
 // Cases that are served as sessions.
 ghost use Rattle.std.specs.Prelude.{◌≡◌};
 ghost use Rattle.kms_io.specs.Clock.{are_times};
-ghost use Rattle.publish_pass.specs.Rules.{Names};
+ghost use Rattle.published_account.specs.Rules.{Names};
 ghost use Rattle.kms_session.specs.Callers.{IsOfAccount};
 
 use crate::callers::trust_of;

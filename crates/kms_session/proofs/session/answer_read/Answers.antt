@@ -1,5 +1,5 @@
 use Rattle.std.proofs.Common.{subst}
-use Rattle.publish_pass.specs.declared.answered.Unread.{Unread}
+use Rattle.published_account.specs.declared.answered.Unread.{Unread}
 use Rattle.publish_pass.specs.Pass.{LacksRead}
 use Rattle.kms_session.proofs.ReplyLemmas.{gives_read, wants_reading}
 use Rattle.kms_session.proofs.session.answer_read.Goals as goal

@@ -1,6 +1,6 @@
 use Rattle.std.proofs.Common.{ℕ, List, subst, true, refl, ap₂}
 use Rattle.std.specs.Bool.{MatchBool}
-use Rattle.publish_pass.specs.Answers.{Answer}
+use Rattle.published_account.specs.Answers.{Answer}
 use Rattle.kms_session.specs.Answers.{fault_answer}
 use Rattle.kms_session.specs.Run.{answered, early}
 use Rattle.kms_session.specs.Replying.{SendsReply, SendsReplyShort}

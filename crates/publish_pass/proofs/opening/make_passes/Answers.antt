@@ -1,6 +1,6 @@
 use Rattle.std.proofs.Common.{List, ◌++◌, ◌∷◌, [], ap₂, sym, ◌∙◌, arith}
 use Rattle.publish_pass.specs.Pass.{Pass}
-use Rattle.publish_pass.proofs.Lists.{fresh_passes-push}
+use Rattle.publish_pass.proofs.PassLemmas.{fresh_passes-push}
 use Rattle.publish_pass.proofs.opening.make_passes.Goals as goal
 
 pub loop-i-preserved : goal.loop-i-preserved

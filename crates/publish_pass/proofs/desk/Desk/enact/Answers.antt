@@ -1,6 +1,6 @@
 use Rattle.std.proofs.Common.{◌≡◌, sym, ap, ◌∙◌, length, ◌++◌, ◌∷◌, []}
-use Rattle.publish_pass.specs.Pairs.{Whole}
-use Rattle.publish_pass.specs.Growing.{Pairs}
+use Rattle.published_account.specs.Pairs.{Whole}
+use Rattle.published_account.specs.Growing.{Pairs}
 use Rattle.publish_pass.specs.Pass.{Pass, making}
 use Rattle.publish_pass.proofs.desk.Desk.enact.Goals as goal
 

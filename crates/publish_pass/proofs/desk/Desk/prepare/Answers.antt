@@ -1,6 +1,6 @@
 use Rattle.std.proofs.Common.{sym, subst}
 use Rattle.account_core.specs.Decide.{IsNext}
-use Rattle.publish_pass.specs.Pairs.{Whole, entries_of}
+use Rattle.published_account.specs.Pairs.{Whole, entries_of}
 use Rattle.publish_pass.proofs.desk.Desk.prepare.Goals as goal
 
 pub next-requires-clause-next : goal.next-requires-clause-next

@@ -1,7 +1,7 @@
 use Rattle.std.proofs.Common.{sym, subst}
 use Rattle.account_core.specs.Decide.{IsNext}
-use Rattle.publish_pass.specs.Pairs.{entries_of}
-use Rattle.publish_pass.specs.Growing.{Pairs}
+use Rattle.published_account.specs.Pairs.{entries_of}
+use Rattle.published_account.specs.Growing.{Pairs}
 use Rattle.publish_pass.proofs.desk.Desk.publish.Goals as goal
 
 pub push-requires-clause-next : goal.push-requires-clause-next

@@ -1,8 +1,8 @@
 use Rattle.std.proofs.Common.{subst, Result}
 use Rattle.kms_names.specs.declared.faults.NoMemory.{NoMemory}
-use Rattle.publish_pass.specs.declared.answered.Answered.{Answered}
-use Rattle.publish_pass.specs.Pairs.{entries_of}
-use Rattle.publish_pass.specs.Reading.{Settles}
+use Rattle.published_account.specs.declared.answered.Answered.{Answered}
+use Rattle.published_account.specs.Pairs.{entries_of}
+use Rattle.published_account.specs.Reading.{Settles}
 use Rattle.publish_pass.proofs.Lookups.{answers_read, wants_read, lacks_where}
 use Rattle.publish_pass.proofs.pass.Pass.read.Goals as goal
 

@@ -1,0 +1,5 @@
+pub mod Answers
+pub mod Pairs
+pub mod Rules
+pub mod Growing
+pub mod Reading

@@ -1,0 +1,167 @@
+// The edge to the published account.
+ghost use Rattle.std.specs.Prelude.{◌≡◌, length, IfSome, IfNone, false};
+ghost use mathlib.Core.List.{IsPrefix};
+ghost use Rattle.left_right.specs.Sides.{view};
+ghost use Rattle.kms_json.specs.Asks.{changes_account};
+ghost use Rattle.account_core.specs.Decide.{IsProper};
+ghost use Rattle.account_core.specs.Places.{IsLineOf};
+ghost use Rattle.published_account.specs.Pairs.{IsHistory, entries_of};
+ghost use Rattle.published_account.specs.Reading.{Rose};
+ghost use Rattle.published_account.specs.Reading.{Settles};
+ghost use Rattle.published_account.specs.Rules.{Knows, Names};
+
+use crate::answered::{Answered, answer_with};
+use crate::line::Line;
+use crate::published::Published;
+use crate::realm::Realm;
+use crate::rule::{Sees, Window};
+use account_core::Account;
+use draw_lines::DrawLine;
+use kms_json::Ask;
+use kms_names::NoMemory;
+use std::alloc::Global;
+use std::marker::{Model, PhantomData};
+
+/// What a look found: the answer, and the history that it stands on.
+#[derive(Drop)]
+pub struct Found<R: Realm> {
+    /// The answer, or that memory lacked for it.
+    pub answered: Result<Answered, NoMemory>,
+    /// The history that it stands on.
+    pub line: Line<R>,
+}
+
+/// The reader of the published account. Contracts see it as the count of missed entries.
+#[derive(Drop)]
+pub struct Entrance<R: Realm> {
+    window: Option<Window>,
+    missed: u64,
+    of: PhantomData<R>,
+}
+
+impl<R: Realm> Model for Entrance<R> {
+    ghost use Rattle.std.specs.Prelude.{ℕ, MatchOption};
+    ghost use Rattle.left_right.specs.Sides as sides;
+    ghost use Rattle.published_account.specs.Rules.{Knows};
+
+    ghost Value = { ℕ };
+
+    ghost view = { λ e. e.missed };
+
+    ghost invariant = { λ e. MatchOption e.window ⊥ (λ w. Knows R.book R.facts R.passes (sides.view w.place)) };
+}
+
+// The answer at an account, with its body.
+fn answer(
+    alloc: Global,
+    account: &Account,
+    ask: &Ask,
+    draws: &mut DrawLine,
+) -> Result<Answered, NoMemory>
+    requires proper { IsProper account.now.facts ask.now }
+    requires reads { changes_account ask.now.body ≡ false }
+    requires line { IsLineOf account.now.facts draws.old }
+    ensures { Settles account.now.facts account.now.entries ask.now draws.old result draws.new }
+{
+    let reply = account.decide_read(alloc, ask, draws)?;
+    let answered = answer_with(alloc, account.entries(), &reply)?;
+    Ok(answered)
+}
+
+// The answer at what is published, or None where that is older than what is known.
+fn answer_at<R: Realm>(
+    shown: &Published,
+    alloc: Global,
+    known: &Line<R>,
+    ask: &Ask,
+    draws: &mut DrawLine,
+) -> Option<Found<R>>
+    requires names { Names R.book R.facts R.passes shown.now }
+    requires proper { IsProper R.facts ask.now }
+    requires reads { changes_account ask.now.body ≡ false }
+    requires line { IsLineOf R.facts draws.old }
+    ensures begins { IfSome result (λ f. IsPrefix known.now f.line × IsHistory R.facts R.passes f.line) }
+    ensures found { IfSome result (λ f. Settles R.facts (entries_of f.line) ask.now draws.old f.answered draws.new) }
+    ensures missed { IfNone result (draws.new ≡ draws.old) }
+{
+    let count = shown.whole().len();
+    if count < known.len() {
+        return None;
+    }
+    let line = known.joined(&Line::of(shown.glimpse(), count));
+    let answered = answer(alloc, shown.whole().account(), ask, draws);
+    Some(Found { answered, line })
+}
+
+// Enters once, answers and leaves. It is None where the account was not entered, or is older than what is known.
+fn look<R: Realm>(
+    window: Window,
+    alloc: Global,
+    known: &Line<R>,
+    ask: &Ask,
+    draws: &mut DrawLine,
+) -> (Window, Option<Found<R>>)
+    requires window { Knows R.book R.facts R.passes (view window.place) }
+    requires proper { IsProper R.facts ask.now }
+    requires reads { changes_account ask.now.body ≡ false }
+    requires line { IsLineOf R.facts draws.old }
+    ensures window { Knows R.book R.facts R.passes (view result.0.place) }
+    ensures begins { IfSome result.1 (λ f. IsPrefix known.now f.line × IsHistory R.facts R.passes f.line) }
+    ensures found { IfSome result.1 (λ f. Settles R.facts (entries_of f.line) ask.now draws.old f.answered draws.new) }
+    ensures missed { IfNone result.1 (draws.new ≡ draws.old) }
+{
+    match window.enter_as::<Sees>() {
+        Err(window) => (window, None),
+        Ok(reading) => {
+            let found = answer_at(reading.get(), alloc, known, ask, draws);
+            (reading.leave(), found)
+        }
+    }
+}
+
+impl<R: Realm> Entrance<R> {
+    /// An entrance that has missed nothing.
+    pub fn new(window: Window) -> Entrance<R>
+        requires { Knows R.book R.facts R.passes (view window.place) }
+        ensures { result ≡ 0 }
+    {
+        Entrance {
+            window: Some(window),
+            missed: 0,
+            of: PhantomData,
+        }
+    }
+
+    /// The count of missed entries.
+    pub fn missed(&self) -> u64
+        ensures { result ≡ self.now }
+    {
+        self.missed
+    }
+
+    /// Enters the published account once, answers at it and leaves. At `None` the count of missed entries
+    /// rose, or stands at its last value: the account was not entered, or is shorter than the known history.
+    pub fn enter(
+        &mut self,
+        alloc: Global,
+        known: &Line<R>,
+        ask: &Ask,
+        draws: &mut DrawLine,
+    ) -> Option<Found<R>>
+        requires proper { IsProper R.facts ask.now }
+        requires reads { changes_account ask.now.body ≡ false }
+        requires line { IsLineOf R.facts draws.old }
+        ensures begins { IfSome result (λ f. IsPrefix known.now f.line × IsHistory R.facts R.passes f.line) }
+        ensures entered { IfSome result (λ f. self.new ≡ self.old) }
+        ensures found { IfSome result (λ f. Settles R.facts (entries_of f.line) ask.now draws.old f.answered draws.new) }
+        ensures missed { IfNone result (Rose self.old self.new × (draws.new ≡ draws.old)) }
+    {
+        let window = self.window.take().unwrap();
+        let (window, found) = look(window, alloc, known, ask, draws);
+        self.window = Some(window);
+        if found.is_none() {
+            self.missed = self.missed.saturating_add(1);
+        }
+        found
+    }
+}
