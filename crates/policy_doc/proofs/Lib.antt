@@ -5,6 +5,8 @@ mod TextFacts
 mod ValueFacts
 mod OperatorFacts
 pub mod GrammarFacts
+mod TokenFacts
+mod PointerFacts
 pub mod PlaceFacts
 mod ReadingFacts
 mod SlotFacts
