@@ -8,6 +8,7 @@ pub mod GrammarFacts
 mod TokenFacts
 mod PointerFacts
 pub mod PlaceFacts
+mod OrderFacts
 mod ReadingFacts
 mod SlotFacts
 pub mod ConditionDecision

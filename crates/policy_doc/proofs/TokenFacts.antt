@@ -8,7 +8,7 @@ use Rattle.std.proofs.lemmas.Bool.{eqb-true, eqb-false, ne_eqb, ltb-true, lt-ltb
 use Rattle.std.proofs.lemmas.List.Elements.{All-head, All-tail, All-from_get_or}
 use Rattle.std.proofs.lemmas.Str.{encode_ascii, inside_one, chars-IsAscii, encodes-IsAscii}
 use Rattle.policy_doc.specs.Paths.{escaped_char, escaped_chars, escaped}
-use Rattle.policy_doc.specs.Places.{BeginsWithDigit, IsToken, replaced, decoded}
+use Rattle.policy_doc.specs.Places.{BeginsWithZeroOrOne, IsToken, replaced, decoded}
 
 -- ---- tokens
 
@@ -19,7 +19,7 @@ token_append : (xs ys : List ℕ) → IsToken xs → IsToken ys → IsToken (xs 
 token_append [] ys x y = y
 token_append (c ∷ xs) ys x y = (x.0, λ e. more xs (x.1 e), token_append xs ys x.2 y)
   where
-    more : (xs : List ℕ) → BeginsWithDigit xs → BeginsWithDigit (xs ++ ys)
+    more : (xs : List ℕ) → BeginsWithZeroOrOne xs → BeginsWithZeroOrOne (xs ++ ys)
     more [] none = absurd none
     more (d ∷ xs) digit = digit
 

@@ -13,3 +13,4 @@ pub mod Slots
 pub mod Grammar
 pub mod Reading
 pub mod Places
+pub mod ByteOrder

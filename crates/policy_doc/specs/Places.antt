@@ -11,14 +11,14 @@ use Rattle.policy_doc.specs.Documents.{first_fault}
 
 -- ---- the syntax of pointers (section 3)
 
-abbrev pub BeginsWithDigit : List ℕ → Type 0
-BeginsWithDigit [] = ⊥
-BeginsWithDigit (c ∷ text) = (c ≡ 48) ⊎ (c ≡ 49)
+abbrev pub BeginsWithZeroOrOne : List ℕ → Type 0
+BeginsWithZeroOrOne [] = ⊥
+BeginsWithZeroOrOne (c ∷ text) = (c ≡ 48) ⊎ (c ≡ 49)
 
 -- a reference token has no `/`, and `~` only in front of `0` or `1`
 abbrev pub IsToken : List ℕ → Type 0
 IsToken [] = ⊤
-IsToken (c ∷ token) = (c ≢ 47) × (c ≡ 126 → BeginsWithDigit token) × IsToken token
+IsToken (c ∷ token) = (c ≢ 47) × (c ≡ 126 → BeginsWithZeroOrOne token) × IsToken token
 
 -- a pointer is a `/` in front of each of its tokens
 abbrev pub pointer_of : List (List ℕ) → List ℕ

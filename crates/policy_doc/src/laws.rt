@@ -2,6 +2,7 @@
 
 ghost use Rattle.policy_doc.specs.Grammar.{PolicyOfReads};
 ghost use Rattle.policy_doc.specs.Places.{FirstFaultHasPlace};
+ghost use Rattle.policy_doc.specs.ByteOrder.{FirstInByteOrder};
 
 /// A JSON value is a policy's exactly where it has no first fault, and then its statements are
 /// determined.
@@ -15,4 +16,10 @@ pub fn policy_of_reads()
 /// of that token's name.
 pub fn first_fault_has_place()
     ensures { FirstFaultHasPlace }
+{}
+
+/// Where the members of an object are judged one after the other, the first fault is that of a member
+/// before which, in byte order of their names, no member has a fault.
+pub fn first_fault_in_byte_order()
+    ensures { FirstInByteOrder }
 {}
