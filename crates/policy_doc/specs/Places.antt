@@ -42,8 +42,9 @@ abbrev pub HasMember : List ℕ → Data → Members → Type 0
 HasMember name d no_members = ⊥
 HasMember name d (member other e ms) = ((name ≡ other) × (d ≡ e)) ⊎ HasMember name d ms
 
--- what a token refers to: in an object the member whose name has the characters of the decoded token, in an array
--- the item whose index, counted from 0, the token is in decimal, and in another value nothing
+-- what a token refers to: in an object the member whose name has the characters of the decoded token, so that a name
+-- in UTF-8 is the decoded token; in an array the item whose index, counted from 0, the token is in decimal; and in
+-- another value nothing
 abbrev pub RefersTo : List ℕ → Data → Data → Type 0
 RefersTo token null next = ⊥
 RefersTo token (boolean b) next = ⊥

@@ -19,8 +19,8 @@ pub fn members_in_byte_order(value: &Value)
 }
 
 #[cycle(order)]
-fn items_in_byte_order(items: &Vec<Value>)
-    ensures { AreItemsInByteOrder (items_view items.now.items) }
+fn items_in_byte_order(items: &[Value])
+    ensures { AreItemsInByteOrder (items_view items.now) }
 {
     for item in items {
         members_in_byte_order(item);
