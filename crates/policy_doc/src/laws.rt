@@ -18,8 +18,8 @@ pub fn first_fault_has_place()
     ensures { FirstFaultHasPlace }
 {}
 
-/// Where the members of an object are judged one after the other, the first fault is that of a member
-/// before which, in byte order of their names, no member has a fault.
+/// Where the members of an object stand in byte order of their names and are judged one after the
+/// other, the first fault is that of a member before which no member has a fault.
 pub fn first_fault_in_byte_order()
     ensures { FirstInByteOrder }
 {}
