@@ -5,7 +5,10 @@ mod TextFacts
 mod ValueFacts
 mod OperatorFacts
 pub mod GrammarFacts
+mod TokenFacts
+mod PointerFacts
 pub mod PlaceFacts
+mod OrderFacts
 mod ReadingFacts
 mod SlotFacts
 pub mod ConditionDecision

@@ -7,12 +7,13 @@ use Rattle.policy_doc.specs.declared.faults.PolicyFault.TheVariants as fault
 use Rattle.policy_doc.specs.declared.policies.Policy.{Policy}
 use Rattle.policy_doc.specs.declared.policies.PolicyKind.{PolicyKind}
 use Rattle.policy_doc.specs.Documents.{first_fault}
-use Rattle.policy_doc.specs.Grammar.{IsPolicyOf, IsAtPlace}
+use Rattle.policy_doc.specs.Grammar.{IsPolicyOf}
+use Rattle.policy_doc.specs.Places.{IsAtPlace}
 use Rattle.policy_doc.specs.Reading.{Reads, IsFaultOf}
 use Rattle.policy_doc.proofs.PlaceFacts.{at_place}
 
-place_of : (kind : PolicyKind) (d : Data) (e : PolicyFault) → first_fault kind d ≡ Some e → IsAtPlace e
-place_of kind d e is = let at : IfSome (Some e) IsAtPlace = subst (λ o. IfSome o IsAtPlace) is (at_place kind d) in at
+place_of : (kind : PolicyKind) (d : Data) (e : PolicyFault) → first_fault kind d ≡ Some e → IsAtPlace d e
+place_of kind d e is = let at : IfSome (Some e) (IsAtPlace d) = subst (λ o. IfSome o (IsAtPlace d)) is (at_place kind d) in at
 
 pub fault_of : (kind : PolicyKind) (bytes : List ℕ) (d : Data) (e : PolicyFault) → Reads bytes d → (e ≢ fault.NoMemory → first_fault kind d ≡ Some e) → IsFaultOf kind bytes e
 fault_of kind bytes d fault.TooLong reads first = absurd (place_of kind d fault.TooLong (first (λ e. let bad : fault.TooLong ≡ fault.NoMemory = e in cc)))

@@ -1,5 +1,5 @@
 -- The grammar of policies: the relation between a JSON value and the statements that it makes.
-use Rattle.std.specs.Prelude.{◌≡◌, ℕ, Bool, true, false, IsTrue, ◌||◌, List, [], ◌∷◌, ◌++◌, codes, Option, Some, None, IfSome, ⊤}
+use Rattle.std.specs.Prelude.{◌≡◌, ℕ, Bool, true, false, IsTrue, ◌||◌, List, [], ◌∷◌, ◌++◌, codes, Option, Some, None, ⊤}
 use Rattle.std.specs.List.{filter_map}
 use Rattle.std.specs.Str.{bytes_eq}
 use Rattle.cond_ops.specs.declared.conditions.Condition.{Condition}
@@ -8,8 +8,6 @@ use Rattle.cond_ops.specs.Qualified.{IsOperatorText}
 use Rattle.cond_ops.specs.Value.{IsValue}
 use Rattle.serde_json.specs.Data.{Data, null, boolean, number, string, array, object, Items, no_items, item, Members, no_members, member}
 use Rattle.serde_json.specs.Find.{get}
-use Rattle.policy_doc.specs.declared.faults.PolicyFault.{PolicyFault}
-use Rattle.policy_doc.specs.declared.faults.PolicyFault.TheVariants as fault
 use Rattle.policy_doc.specs.declared.forms.Form.{Form}
 use Rattle.policy_doc.specs.declared.forms.Form.TheVariants.{Action, Resource, Caller, Stranger, Value}
 use Rattle.policy_doc.specs.declared.policies.PolicyKind.{PolicyKind}
@@ -226,14 +224,3 @@ abbrev pub PolicyOfReads : Type 0
 PolicyOfReads =
     (kind : PolicyKind) (d : Data) → (first_fault kind d ≡ None → IsPolicyOf kind d (statements_of kind d))
     × ((statements : List Statement) → IsPolicyOf kind d statements → (first_fault kind d ≡ None) × (statements ≡ statements_of kind d))
-
--- a first fault is at a place of the value
-abbrev pub IsAtPlace : PolicyFault → Type 0
-IsAtPlace fault.TooLong = ⊥
-IsAtPlace fault.NotJson = ⊥
-IsAtPlace (fault.BadShape path) = ⊤
-IsAtPlace (fault.Unsupported path) = ⊤
-IsAtPlace fault.NoMemory = ⊥
-
-abbrev pub FirstFaultHasPlace : Type 0
-FirstFaultHasPlace = (kind : PolicyKind) (d : Data) → IfSome (first_fault kind d) IsAtPlace

@@ -12,3 +12,5 @@ pub mod Documents
 pub mod Slots
 pub mod Grammar
 pub mod Reading
+pub mod Places
+pub mod ByteOrder

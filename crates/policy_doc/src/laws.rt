@@ -1,6 +1,8 @@
 //! Laws of policies. Each stands as the contract of a function that does nothing.
 
-ghost use Rattle.policy_doc.specs.Grammar.{PolicyOfReads, FirstFaultHasPlace};
+ghost use Rattle.policy_doc.specs.Grammar.{PolicyOfReads};
+ghost use Rattle.policy_doc.specs.Places.{FirstFaultHasPlace};
+ghost use Rattle.policy_doc.specs.ByteOrder.{FirstInByteOrder};
 
 /// A JSON value is a policy's exactly where it has no first fault, and then its statements are
 /// determined.
@@ -8,7 +10,16 @@ pub fn policy_of_reads()
     ensures { PolicyOfReads }
 {}
 
-/// The first fault of a JSON value is at a place of it: `BadShape` or `Unsupported`.
+/// The first fault of a JSON value is `BadShape` or `Unsupported`, and its JSON pointer leads, by
+/// RFC 6901 from the root of the value, to a value that stands there. Or else the fault is
+/// `BadShape`, and the pointer without its last reference token leads to an object that has no member
+/// of that token's name.
 pub fn first_fault_has_place()
     ensures { FirstFaultHasPlace }
+{}
+
+/// Where the members of an object stand in byte order of their names and are judged one after the
+/// other, the first fault is that of a member before which no member has a fault.
+pub fn first_fault_in_byte_order()
+    ensures { FirstInByteOrder }
 {}

@@ -4,6 +4,7 @@
 //! A policy is stated as a JSON value (`serde_json`'s), and never as bytes.
 #![tactic(auto)]
 
+mod byte_order;
 mod callers;
 mod conditions;
 mod documents;
@@ -19,8 +20,9 @@ mod statements;
 mod texts;
 mod threads;
 
+pub use byte_order::members_in_byte_order;
 pub use documents::{read_policy, read_policy_value};
 pub use faults::PolicyFault;
-pub use laws::{first_fault_has_place, policy_of_reads};
+pub use laws::{first_fault_has_place, first_fault_in_byte_order, policy_of_reads};
 pub use policies::{Named, NamedList, Policy, PolicyKind, Statement, StatementList};
 pub use threads::policies_cross_threads;
