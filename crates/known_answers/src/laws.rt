@@ -44,6 +44,7 @@ fn of_policies() {
     cond_ops::operator_texts_differ();
     cond_ops::related_values_have_the_form();
     policy_doc::first_fault_has_place();
+    policy_doc::first_fault_in_byte_order();
     policy_doc::policy_of_reads();
     policy_eval::verdict_of_is_the_verdict();
     policy_eval::verdicts_are_one();

@@ -4,7 +4,8 @@ use crate::columns::{Columns, push, written, written_text, written_texts};
 use crate::conditions::written_condition;
 use kms_names::{Text, TextList, write_principal};
 use policy_doc::{
-    Named, NamedList, Policy, PolicyFault, PolicyKind, Statement, read_policy, read_policy_value,
+    Named, NamedList, Policy, PolicyFault, PolicyKind, Statement, members_in_byte_order,
+    read_policy, read_policy_value,
 };
 use serde_json::Value;
 use std::alloc::Global;
@@ -24,6 +25,7 @@ pub fn policies(alloc: Global, columns: &mut Columns<'_>) -> Option<String> {
         }
         "read_policy_value" => {
             let value = Value::from_str(alloc, columns.text()?).ok()?;
+            members_in_byte_order(&value);
             answered(alloc, &read_policy_value(alloc, kind, &value))
         }
         "policy" => {
