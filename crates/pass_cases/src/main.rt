@@ -43,7 +43,7 @@ fn hold<R: Realm + Send + Sync, W: rt::Runtime<A = Global> + Threads + Wait + Sy
     rt: &W,
     opening: Opening,
     facts: &RealmFacts,
-    steps: &str,
+    steps: &[u8],
 ) -> Result<(), Failure>
     requires ledger { (opening.name ≡ R.name) × (opening.parts ≡ R.parts) }
     requires names { Names R.book R.facts R.passes opening.shown }
@@ -71,7 +71,20 @@ fn read_count(text: &str) -> Result<u16, Failure>
     }
 }
 
-// A service for each part of the script, which begins with the number of its passes.
+// A service for a part of the script, which begins with the number of its passes.
+fn hold_part<W: rt::Runtime<A = Global> + Threads + Wait + Sync>(
+    rt: &W,
+    alloc: Global,
+    facts: &RealmFacts,
+    part: &str,
+) -> Result<(), Failure> {
+    let Some((count, steps)) = part.split_once('\n') else {
+        return Err(Failure::Unlike);
+    };
+    let opening = Opening::new(rt, alloc, facts.copy()?, read_count(count)?)?;
+    hold::<Brand, W>(rt, opening, facts, steps.as_bytes())
+}
+
 fn hold_all<W: rt::Runtime<A = Global> + Threads + Wait + Sync>(rt: &W) -> Result<(), Failure> {
     let alloc = rt.alloc();
     let Some(facts) = facts(alloc)? else {
@@ -79,11 +92,7 @@ fn hold_all<W: rt::Runtime<A = Global> + Threads + Wait + Sync>(rt: &W) -> Resul
     };
     let text = fs::read_to_string(rt, SCRIPT)?;
     for part in text.split("\npasses ").skip(1) {
-        let Some((count, steps)) = part.split_once('\n') else {
-            return Err(Failure::Unlike);
-        };
-        let opening = Opening::new(rt, alloc, facts.copy()?, read_count(count)?)?;
-        hold::<Brand, W>(rt, opening, &facts, steps)?;
+        hold_part(rt, alloc, &facts, part)?;
     }
     Ok(())
 }

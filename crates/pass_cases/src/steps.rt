@@ -183,10 +183,13 @@ fn take_step<R: Realm + Send + Sync, W: rt::Runtime + Threads + Wait + Sync>(
 pub fn take_steps<R: Realm + Send + Sync, W: rt::Runtime + Threads + Wait + Sync>(
     host: &Host<'_, W, R>,
     passes: &mut [Pass<R>],
-    steps: &str,
+    steps: &[u8],
 ) -> Result<(), Failure>
     requires { host.now.facts.now ≡ R.facts }
 {
+    let Ok(steps) = str::from_utf8(steps) else {
+        return Err(Failure::Unlike);
+    };
     let (count, region) = (passes.len(), host.service.region());
     println!(host.rt; "{count} passes in {region}")?;
     for line in steps.lines() {

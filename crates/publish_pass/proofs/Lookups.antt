@@ -1,8 +1,6 @@
 -- What a look at the published account answers.
-use Rattle.std.proofs.Common.{◌≡◌, ℕ, List, sym, subst, refl, ap, ◌∙◌, arith, le_refl, Result, Ok, Err}
-use Rattle.std.specs.Result.{IfErr, IsErr, IsErrAnd}
-use Rattle.std.proofs.lemmas.Bool.{false≢true}
-use Rattle.kms_names.specs.declared.faults.NoMemory.{NoMemory as Starved}
+use Rattle.std.proofs.Common.{◌≡◌, ℕ, List, sym, subst, refl, ap, ◌∙◌, le_refl, Result, Ok, Err}
+use Rattle.std.specs.Result.{IfErr, IsErrAnd}
 use Rattle.std.proofs.lemmas.List.{length-map}
 use mathlib.Core.List.{IsPrefix}
 use Rattle.draw_lines.specs.Line.{Line}
@@ -10,12 +8,12 @@ use Rattle.kms_json.specs.declared.asks.Ask.{Ask}
 use Rattle.account_core.specs.declared.facts.RealmFacts.{RealmFacts}
 use Rattle.account_core.specs.History.{Entry}
 use Rattle.account_core.specs.declared.places.Places.{Places}
-use Rattle.account_core.specs.Places.{IsWithin, places_of, line_at}
+use Rattle.account_core.specs.Places.{IsWithin, places_of}
 use Rattle.account_core.specs.Decide.{decide}
 use Rattle.account_core.proofs.GoingOn.{decide_goes_on, within_places, places_at}
 use Rattle.published_account.specs.declared.answered.Answered.{Answered}
 use Rattle.published_account.specs.Pairs.{IsHistory, entries_of}
-use Rattle.published_account.specs.Reading.{AnswersAt, Settles}
+use Rattle.published_account.specs.Reading.{AnswersAt}
 use Rattle.published_account.specs.declared.answered.Unread.{Unread}
 use Rattle.published_account.specs.declared.answered.Unread.TheVariants.{NoMemory}
 use Rattle.publish_pass.specs.Pass.{Pass, Meets, AnswersRead, LacksRead}

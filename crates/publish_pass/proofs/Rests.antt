@@ -1,11 +1,10 @@
 -- After housekeeping nothing more is owed.
-use Rattle.std.proofs.Common.{◌≡◌, ℕ, List, [], ◌∷◌, ◌++◌, Option, Some, None, refl, sym, ap, ◌∙◌}
+use Rattle.std.proofs.Common.{◌≡◌, ℕ, List, [], ◌∷◌, Option, Some, None, refl, ap, ◌∙◌}
 use Rattle.std.proofs.lemmas.List.{map-append}
 use Rattle.account_core.specs.History.{Entry, housekeeping_of}
-use Rattle.account_core.specs.Decide.{IsLawful}
 use Rattle.account_core.specs.Laws.{HouseIsKeptOnce}
 use Rattle.published_account.specs.Pairs.{entries_of}
-use Rattle.publish_pass.specs.Pass.{Pass, making_any}
+use Rattle.publish_pass.specs.Pass.{making_any}
 use Rattle.publish_pass.specs.House.{OwesNothingMore}
 
 pub rests : HouseIsKeptOnce → OwesNothingMore
