@@ -1,12 +1,11 @@
 -- Workers in order, and what their passes learn.
 use Rattle.std.proofs.Common.{◌≡◌, ◌≢◌, ◌↔◌, ◌<◌, ◌≤◌, ◌+◌, ◌*◌, ℕ, zero, suc, List, [], ◌∷◌, ◌++◌, length, length-append, map, get_or, take, drop, below_more, Bool, refl, sym, subst, inr, ap, ap₂, ◌∙◌, arith}
-use Rattle.std.specs.Prelude.{All, sum}
+use Rattle.std.specs.Prelude.{All}
 use Rattle.std.proofs.lemmas.List.Sums.{sum-map, sum_by-cons}
 use Rattle.std.proofs.lemmas.List.Elements.{All-map, All-head, All-tail, All-cons}
 use Rattle.std.specs.Prelude.{All, IsTrue, Result, Ok, Err, OnOk, OnErr}
 use Rattle.std.specs.List.{slice_set}
 use Rattle.std.proofs.lemmas.List.{get_or-set_same, get_or-set_other, get_or_default}
-use mathlib.Core.List.{IsPrefix}
 use Rattle.account_core.specs.declared.facts.RealmFacts.{RealmFacts}
 use Rattle.publish_pass.specs.Pass.{Pass, fresh_pass, fresh_passes, KeepsHouse, WantsHouse}
 use Rattle.publish_pass.proofs.Meeting.{learns_self, learns_trans}

@@ -1,5 +1,5 @@
 -- What the workers of a server do together.
-use Rattle.std.specs.Prelude.{◌≡◌, ◌↔◌, ℕ, List, [], ◌∷◌, ◌++◌, length, map, sum, All, IsTrue, Option}
+use Rattle.std.specs.Prelude.{◌≡◌, ◌↔◌, ℕ, List, [], ◌∷◌, length, map, sum, All, IsTrue, Option}
 use mathlib.Core.List.{IsPrefix}
 use Rattle.account_core.specs.declared.facts.RealmFacts.{RealmFacts}
 use Rattle.account_core.specs.History.{Entry}

@@ -1,5 +1,5 @@
 -- Lines that are cut off a text.
-use Rattle.std.proofs.Common.{◌≡◌, ◌≢◌, ◌+◌, ℕ, suc, List, [], ◌∷◌, ◌++◌, length, take, drop, Bool, true, false, ◌==◌, ◌||◌, if◌then◌else◌, refl, sym, ap, ◌∙◌, subst, arith, take_at, drop_at}
+use Rattle.std.proofs.Common.{◌≡◌, ◌≢◌, ◌+◌, ℕ, suc, List, [], ◌∷◌, ◌++◌, length, take, drop, Bool, true, false, ◌==◌, ◌||◌, if◌then◌else◌, refl, sym, ap, ◌∙◌, arith, take_at, drop_at}
 use Rattle.kms_workload.specs.Lines.{line_size, has_return, line_text, IsLine, IsRest, no_line, two_lines, three_lines}
 
 one_more : (ends others : Bool) (n m : ℕ) → (ends || others) ≡ false → (others ≡ false → n ≡ m) → (if ends then 0 else 1 + n) ≡ suc m

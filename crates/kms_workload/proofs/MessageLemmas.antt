@@ -1,6 +1,6 @@
 -- Messages of a workload.
-use Rattle.std.proofs.Common.{◌≡◌, ◌≤◌, ◌+◌, ℕ, List, [], ◌++◌, length, false, Result, IfOk, refl, sym, ap, ◌∙◌, subst, add-one, append_assoc}
-use Rattle.std.specs.Prelude.{nat_lt, if◌then◌else◌}
+use Rattle.std.proofs.Common.{◌≡◌, ◌≤◌, ◌+◌, ℕ, List, [], ◌++◌, length, Result, IfOk, refl, sym, ap, ◌∙◌, subst, add-one, append_assoc}
+use Rattle.std.specs.Prelude.{if◌then◌else◌}
 use Rattle.std.proofs.lemmas.Bool.{le-ltb}
 use Rattle.serde_json.specs.Written.{compact_text}
 use Rattle.kms_names.specs.declared.faults.NoMemory.{NoMemory}

@@ -1,8 +1,8 @@
-use Rattle.std.proofs.Common.{◌∷◌, ◌≡◌, List, All, map, refl, sym, subst, arith}
+use Rattle.std.proofs.Common.{◌∷◌, ◌≡◌, All, map, refl, sym, subst, arith}
 use Rattle.std.proofs.lemmas.List.Elements.{All-map}
 use mathlib.Core.List.{IsPrefix}
 use Rattle.kms_server.specs.Crew.{Pairwise, both, Settles, FirstIsLongest}
-use Rattle.kms_server.specs.States.{state_of, states_of}
+use Rattle.kms_server.specs.States.{state_of}
 use Rattle.kms_server.proofs.Crews.{settled_all, first_and_rest}
 use Rattle.kms_server.proofs.crew.learn_all.Goals as goal
 

@@ -1,4 +1,4 @@
-use Rattle.std.proofs.Common.{ℕ, ◌+◌, ◌<◌, ◌≡◌, List, get_or, subst, sym, below_more, arith, length}
+use Rattle.std.proofs.Common.{ℕ, ◌<◌, ◌≡◌, List, get_or, subst, below_more, arith, length}
 use Rattle.std.proofs.lemmas.List.{get_or_default}
 use mathlib.Core.List.{IsPrefix}
 use Rattle.account_core.specs.History.{Entry}

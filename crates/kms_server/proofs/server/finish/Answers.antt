@@ -2,7 +2,7 @@ use Rattle.std.proofs.Common.{◌≡◌, ◌∙◌, ◌++◌, ◌<◌, ◌^◌, 
 use mathlib.Core.List.{append-nil}
 use Rattle.std.proofs.lemmas.List.{map-append}
 use Rattle.kms_server.specs.Crew.{Pairwise, Settles, taken_by}
-use Rattle.kms_server.specs.States.{state_of, states_of}
+use Rattle.kms_server.specs.States.{state_of}
 use Rattle.kms_server.proofs.Crews.{settle_on, taken_settled, map_map, tells_all, written_back}
 use Rattle.kms_server.proofs.server.finish.Goals as goal
 

@@ -1,4 +1,4 @@
-use Rattle.std.proofs.Common.{◌≡◌, ◌≢◌, length, sym}
+use Rattle.std.proofs.Common.{sym}
 use Rattle.std.proofs.lemmas.Bool.{eqb-true, eqb-false}
 use Rattle.kms_workload.proofs.LineLemmas.{behind_none, behind_two, behind_three}
 use Rattle.kms_workload.proofs.replies.behind_head.Goals as goal

@@ -1,5 +1,5 @@
-use Rattle.std.proofs.Common.{◌≡◌, ◌≤◌, ◌+◌, ℕ, List, length}
-use Rattle.kms_workload.specs.Replies.{AreReplies, served_in}
+use Rattle.std.proofs.Common.{◌≤◌, ℕ, List}
+use Rattle.kms_workload.specs.Replies.{AreReplies}
 use Rattle.kms_workload.proofs.ReplyLemmas.{IsLeft}
 use Rattle.kms_workload.proofs.replies.count_served.Given as goal
 
