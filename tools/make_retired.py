@@ -1,4 +1,4 @@
-"""Prints the blob, the grant's id and the lines of pass_cases' scene of a grant that is retired, by the account of whole_account.py."""
+"""Prints the blob, the grant's id and the answers of pass_cases' part about a grant that is retired, by the account of whole_account.py."""
 
 import json
 
