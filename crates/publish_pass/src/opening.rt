@@ -10,7 +10,9 @@ use crate::service::Service;
 use crate::told::Told;
 use account_core::{RealmFacts, draw_line};
 use kms_names::{NoMemory, Text};
-use published_account::{Copies, Entrance, Line, Notes, Published, Realm, Unnamed, Whole, Window, warm};
+use published_account::{
+    Copies, Entrance, Line, Notes, Published, Realm, Unnamed, Whole, Window, warm,
+};
 use std::alloc::Global;
 use std::marker::Model;
 use std::sync::Wait;

@@ -54,11 +54,7 @@ impl Whole {
     ghost use Rattle.published_account.specs.Pairs.{entries_of};
 
     /// The account of these facts with no entries, behind an `Arc`.
-    pub fn empty(
-        alloc: Global,
-        facts: RealmFacts,
-        passes: u16,
-    ) -> Result<Arc<Whole>, NoMemory>
+    pub fn empty(alloc: Global, facts: RealmFacts, passes: u16) -> Result<Arc<Whole>, NoMemory>
         ensures { IfOk result (λ a. arc_value a ≡ record { facts = facts; passes = passes; pairs = [] }) }
     {
         let account = Account::empty(alloc, facts)?;
@@ -102,12 +98,7 @@ impl Whole {
     }
 
     /// The next whole, behind an `Arc`.
-    pub fn next(
-        &self,
-        alloc: Global,
-        entry: &Entry,
-        maker: u16,
-    ) -> Result<Arc<Whole>, NoMemory>
+    pub fn next(&self, alloc: Global, entry: &Entry, maker: u16) -> Result<Arc<Whole>, NoMemory>
         requires next { IsNext self.now.facts (entries_of self.now.pairs) entry.now }
         requires maker { (0 < maker) × (maker ≤ self.now.passes) }
         ensures { IfOk result (λ a. arc_value a ≡ record { facts = self.now.facts; passes = self.now.passes; pairs = self.now.pairs ++ (entry.now, maker) ∷ [] }) }
