@@ -57,9 +57,6 @@ module _ (facts : RealmFacts) (history : List Entry) (x : Ask) (p q : Places) wh
 
 -- ---- where a line stands
 
-pub within_places : (old new : Line) (after : Places) → IsWithin old new after → IsUpTo (places_of old) (places_of new) after
-within_places old new after is = record { number = is.number; words_from = is.words_from; words_to = is.words_to; ivs_from = is.ivs_from; ivs_to = is.ivs_to }
-
 pub places_at : (line new : Line) (places : Places) → places.number ≡ line.pass_number → new ≡ line_at line places → places_of new ≡ places
 places_at line new places same is = ap places_of is ∙ (λ i. record { number = sym same i; words = places.words; ivs = places.ivs })
 
@@ -70,11 +67,7 @@ stays_at facts history x line =
     record {
       seed = refl;
       boot = refl;
-      number = refl;
-      words_from = omega arith;
-      words_to = on.words_from;
-      ivs_from = omega arith;
-      ivs_to = on.ivs_from;
+      up_to = record { number = refl; words_from = omega arith; words_to = on.words_from; ivs_from = omega arith; ivs_to = on.ivs_from };
     }
 
 pub stays_within : {A E : Type 0} (result : Result A E) (facts : RealmFacts) (history : List Entry) (x : Ask) (line : Line)

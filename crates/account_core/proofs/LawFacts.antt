@@ -9,12 +9,12 @@ use Rattle.draw_lines.specs.Iv.{iv_at}
 use Rattle.draw_lines.proofs.IvFacts.{count_told, pass_told}
 use Rattle.mac_sha.specs.Hmac.{hmac_sha256}
 use Rattle.mac_sha.proofs.HmacFacts.{hmac_length}
-use Rattle.blob_format.specs.Blob.{blob_text}
+use Rattle.blob_format.specs.Blob.{blob_head, blob_text}
 use Rattle.blob_format.proofs.BlobFacts.{told}
 use Rattle.enc_context.specs.declared.pairs.Pair.{Pair}
 use Rattle.gcm_seal.proofs.SealFacts.{opens_sealed}
 use Rattle.crypto_ops.specs.Material.{material_of}
-use Rattle.crypto_ops.specs.Sealed.{blob_head, additional_data, sealed, opened}
+use Rattle.crypto_ops.specs.Sealed.{additional_data, sealed, opened}
 use Rattle.crypto_ops.specs.Laws.{CanSeal}
 use Rattle.crypto_ops.proofs.OpeningFacts.{sealed_form, opened_blob}
 use Rattle.kms_names.specs.declared.actions.Action.TheVariants as action

@@ -43,8 +43,4 @@ pub record IsUpTo (old new after : Places) : Type 0 where
 pub record IsWithin (old new : Line) (after : Places) : Type 0 where
   pub seed : new.seed ≡ old.seed
   pub boot : new.boot ≡ old.boot
-  pub number : new.pass_number ≡ old.pass_number
-  pub words_from : old.words ≤ new.words
-  pub words_to : new.words ≤ after.words
-  pub ivs_from : old.ivs ≤ new.ivs
-  pub ivs_to : new.ivs ≤ after.ivs
+  pub up_to : IsUpTo (places_of old) (places_of new) after

@@ -7,7 +7,7 @@ use crate::parts::Made;
 use kms_json::{Refusal, Reply};
 
 /// What a changing request is answered.
-#[derive(Debug, Drop)]
+#[derive(Drop)]
 pub enum Decision {
     /// The request is refused, and nothing is appended.
     Refused(Reply),

@@ -3,7 +3,7 @@ use authority::IdentityList;
 use kms_names::{AccountNumber, NoMemory, Text};
 
 /// What is constant for a run of the service.
-#[derive(Debug, Drop)]
+#[derive(Drop)]
 pub struct RealmFacts {
     /// The account of the service.
     pub account: AccountNumber,

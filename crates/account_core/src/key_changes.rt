@@ -18,7 +18,7 @@ use kms_names::{Action, NoMemory, Text};
 use std::alloc::Global;
 
 /// What is done to the state or the rotation of a key.
-#[derive(Clone, Copy, Debug)]
+#[derive(Clone, Copy)]
 pub enum KeyChange {
     /// EnableKey.
     Enable,

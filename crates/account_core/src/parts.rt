@@ -99,7 +99,7 @@ pub trait Reads: Operation {
 }
 
 /// What a request that changes the account comes to.
-#[derive(Debug, Drop)]
+#[derive(Drop)]
 pub struct Made {
     /// Its reply.
     pub reply: Reply,

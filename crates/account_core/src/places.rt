@@ -5,7 +5,7 @@ ghost use Rattle.account_core.specs.Places.{places_of, no_places};
 use draw_lines::DrawLine;
 
 /// A pass's number, and how many words of its random stream and initialization vectors it has used.
-#[derive(Clone, Copy, Debug, PartialEq, Eq)]
+#[derive(Clone, Copy, PartialEq, Eq)]
 pub struct Places {
     /// The number of the pass.
     pub number: u16,
@@ -16,7 +16,7 @@ pub struct Places {
 }
 
 /// How many words and initialization vectors a request that is served uses.
-#[derive(Clone, Copy, Debug, PartialEq, Eq)]
+#[derive(Clone, Copy, PartialEq, Eq)]
 pub struct Uses {
     /// The words that it draws.
     pub words: u64,

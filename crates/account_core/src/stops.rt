@@ -3,7 +3,7 @@ use kms_json::Refusal;
 use kms_names::NoMemory;
 
 /// Why a step goes no further.
-#[derive(Debug, Drop)]
+#[derive(Drop)]
 pub enum Stop {
     /// The request is refused.
     Refused(Refusal),

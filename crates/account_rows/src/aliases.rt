@@ -14,7 +14,7 @@ use std::marker::Model;
 use std::sync::Arc;
 
 /// Aliases that are shared by the versions of the account that have the same. Contracts see the aliases.
-#[derive(Debug, Drop)]
+#[derive(Drop)]
 pub struct HeldAliases {
     map: Arc<AliasMap>,
 }

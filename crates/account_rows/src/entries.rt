@@ -10,7 +10,7 @@ use std::marker::Model;
 use std::sync::Arc;
 
 /// What an entry did.
-#[derive(Debug, Drop)]
+#[derive(Drop)]
 pub enum What {
     /// A key of this id was made, with this description and policy.
     CreateKey {
@@ -232,7 +232,7 @@ impl What {
 }
 
 /// An entry of the history.
-#[derive(Debug, Drop)]
+#[derive(Drop)]
 pub struct Entry {
     /// When it was made, in seconds since 1970. Times never fall along a history.
     pub time: u64,
@@ -253,7 +253,7 @@ impl Entry {
 }
 
 /// An entry that versions of the rows share. Contracts see the entry.
-#[derive(Debug, Drop)]
+#[derive(Drop)]
 pub struct SharedEntry {
     entry: Arc<Entry>,
 }

@@ -15,7 +15,7 @@ use std::marker::Model;
 use std::sync::Arc;
 
 /// Grants that are shared by the versions of the account that have the same. Contracts see the grants.
-#[derive(Debug, Drop)]
+#[derive(Drop)]
 pub struct HeldGrants {
     table: Arc<GrantTable>,
 }

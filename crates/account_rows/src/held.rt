@@ -12,7 +12,7 @@ use std::marker::Model;
 use std::sync::Arc;
 
 /// The default policy of the account's keys, which they share. Contracts see the account.
-#[derive(Debug, Drop)]
+#[derive(Drop)]
 pub struct DefaultPolicy {
     account: AccountNumber,
     policy: KeyPolicy,
@@ -62,7 +62,7 @@ impl DefaultPolicy {
 
 /// A row with its policy, ready to be asked, both shared by the versions of the account that hold the key. Contracts see
 /// the row.
-#[derive(Debug, Drop)]
+#[derive(Drop)]
 pub struct HeldKey {
     row: Arc<KeyRow>,
     policy: KeyPolicy,

@@ -27,7 +27,7 @@ pub const BYTES: u64 = 268_435_456;
 
 /// The entries of an account's history, and the rows that they make. Contracts see the list of the entries. A changed
 /// history is a new one: the old one stays as it was.
-#[derive(Debug, Drop)]
+#[derive(Drop)]
 pub struct Rows {
     default: DefaultPolicy,
     entries: Vec<SharedEntry>,

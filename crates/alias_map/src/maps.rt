@@ -12,7 +12,7 @@ use std::marker::Model;
 
 /// The aliases of an account. Contracts see it as the list of its rows in order of making. A changed map is a new one:
 /// the old one stays as it was.
-#[derive(Debug, Drop)]
+#[derive(Drop)]
 pub struct AliasMap {
     rows: Vec<AliasRow>,
     by_name: Vec<AliasRow>,

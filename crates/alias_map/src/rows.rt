@@ -7,7 +7,7 @@ ghost use Rattle.alias_map.specs.Aliases.{has_name, names_key, names_any, is_aft
 use kms_names::{AliasName, KeyId, NoMemory};
 
 /// An alias of an account.
-#[derive(Debug, Drop)]
+#[derive(Drop)]
 pub struct AliasRow {
     /// Its name, from `alias/` on.
     pub name: AliasName,

@@ -5,7 +5,7 @@ use policy_doc::Policy;
 use std::marker::Model;
 
 /// A list of policies.
-#[derive(Debug, Drop)]
+#[derive(Drop)]
 pub struct PolicyList {
     items: Vec<Policy>,
 }
@@ -49,7 +49,7 @@ impl PolicyList {
 }
 
 /// A principal with its policies, which are of the kind `Identity`.
-#[derive(Debug, Drop)]
+#[derive(Drop)]
 pub struct Identity {
     /// Whose policies these are.
     pub principal: Principal,
@@ -72,7 +72,7 @@ impl Identity {
 }
 
 /// A list of principals with their policies.
-#[derive(Debug, Drop)]
+#[derive(Drop)]
 pub struct IdentityList {
     items: Vec<Identity>,
 }

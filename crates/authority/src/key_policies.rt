@@ -1,10 +1,10 @@
 //! The policies of keys, read from their texts once.
-ghost use Rattle.std.specs.Prelude.{◌≡◌, ◌≢◌, ◌++◌, ℕ, List, IfOk, IfErr, None, Some, MatchOption};
+ghost use Rattle.std.specs.Prelude.{◌≡◌, ◌≢◌, IfOk, IfErr, None, Some};
 ghost use Rattle.std.specs.Bool.{Decides};
 ghost use Rattle.policy_doc.specs.declared.faults.PolicyFault.TheVariants.{NoMemory as OutOfMemory};
 ghost use Rattle.authority.specs.KeyPolicy.{default_text, default_policy, no_statements, policy_in, fault_in};
 
-use kms_names::{AccountNumber, NoMemory, Text};
+use kms_names::{AccountNumber, NoMemory, Text, after};
 use policy_doc::{Policy, PolicyFault, PolicyKind, StatementList, read_policy};
 use policy_eval::Compiled;
 use std::alloc::Global;
@@ -24,13 +24,6 @@ pub fn default_policy_text(alloc: Global, account: &AccountNumber) -> Result<Tex
     text.push_str(account.as_str())?;
     text.push_str(DEFAULT_BACK)?;
     Ok(Text::from_string(text))
-}
-
-// What stands behind a front.
-fn after<'a>(text: &'a str, front: &str) -> Option<&'a str>
-    ensures { MatchOption result ((rest : List ℕ) → text.now ≢ front.now ++ rest) (λ rest. text.now ≡ front.now ++ rest.now) }
-{
-    text.strip_prefix(front)
 }
 
 // Whether a text is that of the default policy of this account.
@@ -55,7 +48,7 @@ fn read_document(alloc: Global, text: &Text) -> Result<Policy, PolicyFault>
 }
 
 /// The policy of a key, read once and shared by the versions of an account. Contracts see the policy.
-#[derive(Debug, Drop)]
+#[derive(Drop)]
 pub struct KeyPolicy {
     compiled: Arc<Compiled>,
 }

@@ -11,7 +11,7 @@ use std::alloc::Global;
 const LAST: u64 = 253_402_300_799;
 
 /// A day of the calendar and a time of day.
-#[derive(Clone, Copy, Debug)]
+#[derive(Clone, Copy)]
 pub struct Civil {
     pub year: u16,
     pub month: u8,

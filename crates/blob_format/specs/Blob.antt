@@ -2,11 +2,13 @@
 use Rattle.std.specs.Prelude.{◌≡◌, ℕ, ◌^◌, ◌<◌, ◌≤◌, List, ◌∷◌, ◌++◌, length}
 use Rattle.std.specs.Int.{w32, to_be_bytes}
 
--- the byte 01, the key's id, the version with its high byte first, the initialization vector, the
--- ciphertext and the tag
+-- the first 21 bytes of a blob: the byte 01, the key's id, and the version with its high byte first
+abbrev pub blob_head : List ℕ → ℕ → List ℕ
+blob_head key version = 0x01 ∷ key ++ to_be_bytes w32 version
+
+-- the head, the initialization vector, the ciphertext and the tag
 unfoldable pub blob_text : List ℕ → ℕ → List ℕ → List ℕ → List ℕ → List ℕ
-blob_text key version iv text tag =
-    0x01 ∷ key ++ to_be_bytes w32 version ++ iv ++ text ++ tag
+blob_text key version iv text tag = blob_head key version ++ iv ++ text ++ tag
 
 -- the bytes are the blob of these: the id and the tag have 16 bytes and the vector 12, the version is
 -- at least 1, and the ciphertext has 1 to 4,096 bytes

@@ -12,5 +12,6 @@ mod reading;
 mod writing;
 
 pub use laws::{one_spelling, one_value, written_is_read_again};
+pub use places::HEAD_SIZE;
 pub use reading::{Blob, read_blob};
-pub use writing::write_blob;
+pub use writing::{push_head, write_blob};

@@ -12,6 +12,9 @@ pub const VERSION_AT: usize = 17;
 /// Where the initialization vector begins.
 pub const IV_AT: usize = 21;
 
+/// The size in bytes of a blob's head: what it says before the initialization vector.
+pub const HEAD_SIZE: usize = IV_AT;
+
 /// Where the ciphertext begins.
 pub const TEXT_AT: usize = 33;
 

@@ -1,9 +1,20 @@
-ghost use Rattle.std.specs.Prelude.{◌≡◌, ◌≤◌, length, IfOk};
-ghost use Rattle.blob_format.specs.Blob.{blob_text, IsBlobText};
+ghost use Rattle.std.specs.Prelude.{◌≡◌, ◌≤◌, ◌++◌, length, IfOk};
+ghost use Rattle.blob_format.specs.Blob.{blob_head, blob_text, IsBlobText};
 
 use crate::places::{FORMAT, OVERHEAD};
 use kms_names::{Bytes, KeyId, NoMemory};
 use std::alloc::Global;
+
+/// Writes a blob's head behind what is there: its form, the key's id and the version, which are 21
+/// bytes (`HEAD_SIZE`).
+pub fn push_head(bytes: &mut Vec<u8>, key: &KeyId, version: u32) -> Result<(), NoMemory>
+    ensures { IfOk result (λ _. bytes.new.items ≡ bytes.old.items ++ blob_head key.now version) }
+{
+    bytes.push(FORMAT)?;
+    bytes.extend_from_slice(key.as_bytes())?;
+    bytes.extend_from_slice(&version.to_be_bytes())?;
+    Ok(())
+}
 
 /// The blob of a key's id, a version of at least 1, an initialization vector, a ciphertext of 1 to
 /// 4,096 bytes and its tag.
@@ -23,9 +34,7 @@ pub fn write_blob(
     ensures form { IfOk result (λ bytes. IsBlobText bytes key.now version iv.now text.now tag.now) }
 {
     let mut items = Vec::with_capacity(alloc, OVERHEAD + text.len())?;
-    items.push(FORMAT)?;
-    items.extend_from_slice(key.as_bytes())?;
-    items.extend_from_slice(&version.to_be_bytes())?;
+    push_head(&mut items, key, version)?;
     items.extend_from_slice(iv)?;
     items.extend_from_slice(text)?;
     items.extend_from_slice(tag)?;

@@ -41,7 +41,7 @@ pub fn read_arn(text: &str) -> Option<Arn<'_>>
 }
 
 /// The parts of a pattern of ARNs, each a pattern. Contracts see it as the list of their texts.
-#[derive(Debug, Drop)]
+#[derive(Drop)]
 pub struct ArnPattern {
     scheme: Pattern,
     partition: Pattern,

@@ -10,7 +10,7 @@ use std::marker::Model;
 
 /// A condition whose values are read, so that it can be asked about many requests. Contracts see it as the condition
 /// that it was made of.
-#[derive(Debug, Drop)]
+#[derive(Drop)]
 pub struct CompiledCondition {
     alloc: Global,
     condition: Condition,

@@ -6,7 +6,7 @@ use kms_names::{NoMemory, Text, TextList};
 use std::marker::Model;
 
 /// A condition of a statement: an operator with its prefix and suffix, a condition key, and the policy's values.
-#[derive(Debug, Drop)]
+#[derive(Drop)]
 pub struct Condition {
     /// The operator, which says how values are compared.
     pub operator: Operator,
@@ -38,7 +38,7 @@ impl Condition {
 }
 
 /// A list of conditions.
-#[derive(Debug, Drop)]
+#[derive(Drop)]
 pub struct ConditionList {
     items: Vec<Condition>,
 }

@@ -1,14 +1,7 @@
 //! Parts of texts.
 
-ghost use Rattle.std.specs.Prelude.{◌≡◌, ◌≢◌, ◌<◌, ◌++◌, ℕ, List, MatchOption};
+ghost use Rattle.std.specs.Prelude.{◌<◌, ℕ, List, MatchOption};
 ghost use Rattle.cond_ops.specs.Cut.{IsCutAt, IsCutTwiceAt};
-
-/// What follows a front.
-pub fn after<'a>(text: &'a str, front: &str) -> Option<&'a str>
-    ensures { MatchOption result ((rest : List ℕ) → text.now ≢ front.now ++ rest) (λ rest. text.now ≡ front.now ++ rest.now) }
-{
-    text.strip_prefix(front)
-}
 
 /// What stands before and behind the first of an ASCII character.
 pub fn cut_at(text: &str, mark: char) -> Option<(&str, &str)>

@@ -4,7 +4,7 @@ use kms_names::{Action, NoMemory, Principal, Text, TextList};
 use std::marker::Model;
 
 /// A condition key of a request with its values.
-#[derive(Debug, Drop)]
+#[derive(Drop)]
 pub struct Fact {
     /// The name of the condition key, compared without ASCII case.
     pub key: Text,
@@ -27,7 +27,7 @@ impl Fact {
 }
 
 /// A list of facts.
-#[derive(Debug, Drop)]
+#[derive(Drop)]
 pub struct FactList {
     items: Vec<Fact>,
 }
@@ -72,7 +72,7 @@ impl FactList {
 
 /// What policies are asked about a request: who calls, which action, on which resource, and the condition keys
 /// with their values.
-#[derive(Debug, Drop)]
+#[derive(Drop)]
 pub struct RequestFacts {
     /// Who calls.
     pub caller: Principal,

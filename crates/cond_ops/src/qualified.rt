@@ -6,13 +6,12 @@ ghost use Rattle.cond_ops.specs.Qualified.{prefix_of, suffix_of, operator_text, 
 ghost use Rattle.cond_ops.specs.declared.operators.Operator.{Operator};
 ghost use Rattle.cond_ops.specs.declared.qualified.QualifiedOperator.{QualifiedOperator};
 
-use crate::cuts::after;
 use crate::operators::Operator;
-use kms_names::{NoMemory, Text};
+use kms_names::{NoMemory, Text, after};
 use std::alloc::Global;
 
 /// Which of the request's values a condition asks of (IAM User Guide, "Set operators for multivalued context keys").
-#[derive(Clone, Copy, Debug, PartialEq, Eq)]
+#[derive(Clone, Copy, PartialEq, Eq)]
 pub enum Qualifier {
     /// No prefix: of some value.
     Plain,
@@ -43,7 +42,7 @@ impl Qualifier {
 }
 
 /// An operator with its prefix and whether the suffix `IfExists` stands behind it.
-#[derive(Clone, Copy, Debug, PartialEq, Eq)]
+#[derive(Clone, Copy, PartialEq, Eq)]
 pub struct QualifiedOperator {
     /// The operator.
     pub operator: Operator,

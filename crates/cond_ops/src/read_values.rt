@@ -23,7 +23,7 @@ use kms_names::{NoMemory, Pattern, Text};
 use std::alloc::Global;
 
 /// The values of a condition as its operator compares them, each read once. A value of another form is none of them.
-#[derive(Debug, Drop)]
+#[derive(Drop)]
 pub enum ReadValues {
     /// As they are written: texts, and those of a condition that isn't read.
     Written,

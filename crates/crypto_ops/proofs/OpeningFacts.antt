@@ -3,7 +3,7 @@ use Rattle.std.proofs.Common.{◌≡◌, ℕ, ◌+◌, ◌-◌, List, ◌∷◌,
 use Rattle.std.specs.Prelude.{slice_range}
 use Rattle.std.specs.Int.{w32, to_be_bytes}
 use Rattle.std.proofs.lemmas.List.{take_at}
-use Rattle.blob_format.specs.Blob.{blob_text, IsBlobText}
+use Rattle.blob_format.specs.Blob.{blob_head, blob_text, IsBlobText}
 use Rattle.blob_format.specs.Reading.{IsBlobOf}
 use Rattle.blob_format.specs.declared.reading.Blob.{Blob}
 use Rattle.blob_format.proofs.BlobFacts.{told, version_told}
@@ -17,7 +17,7 @@ use Rattle.std.proofs.lemmas.Bool.{cases_Bool, false≢true}
 use Rattle.std.proofs.lemmas.Bool.Decides.{not_from_Decides}
 use Rattle.std.proofs.lemmas.Slice.Eq.{bytes_eq-Decides}
 use Rattle.crypto_ops.specs.Material.{material_of}
-use Rattle.crypto_ops.specs.Sealed.{blob_head, additional_data, sealed, opened}
+use Rattle.crypto_ops.specs.Sealed.{additional_data, sealed, opened}
 use Rattle.crypto_ops.specs.Laws.{CanSeal, SealedIsABlob, SealedOpensAgain, OpensByItsTag}
 
 head_told : (bytes id : List ℕ) (version : ℕ) (iv text tag : List ℕ) → IsBlobText bytes id version iv text tag

@@ -1,17 +1,13 @@
 -- The blob that a text is sealed into, and the text that a blob opens to.
-use Rattle.std.specs.Prelude.{ℕ, ◌-◌, List, ◌∷◌, ◌++◌, length, take, drop, slice_range, Option}
-use Rattle.std.specs.Int.{w32, to_be_bytes, from_be_bytes}
-use Rattle.blob_format.specs.Blob.{blob_text}
+use Rattle.std.specs.Prelude.{ℕ, ◌-◌, List, ◌++◌, length, take, drop, slice_range, Option}
+use Rattle.std.specs.Int.{w32, from_be_bytes}
+use Rattle.blob_format.specs.Blob.{blob_head, blob_text}
 use Rattle.enc_context.specs.declared.pairs.Pair.{Pair}
 use Rattle.enc_context.specs.Encoding.{encoding_of}
 use Rattle.gcm_seal.specs.Gcm.{sealed_text, tag_of, open_of}
 use Rattle.crypto_ops.specs.Material.{material_of}
 
--- the first 21 bytes of a blob: the byte 01, the key's id, and the version with its high byte first
-abbrev pub blob_head : List ℕ → ℕ → List ℕ
-blob_head id version = 0x01 ∷ id ++ to_be_bytes w32 version
-
--- what is authenticated beside the ciphertext: the first 21 bytes of the blob and the encoded context
+-- what is authenticated beside the ciphertext: the blob's head and the encoded context
 unfoldable pub additional_data : List ℕ → List Pair → List ℕ
 additional_data head pairs = head ++ encoding_of pairs
 

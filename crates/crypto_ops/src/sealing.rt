@@ -1,20 +1,14 @@
 ghost use Rattle.std.specs.Prelude.{◌≡◌, ◌≤◌, length, IfOk};
-ghost use Rattle.crypto_ops.specs.Sealed.{sealed, blob_head};
+ghost use Rattle.blob_format.specs.Blob.{blob_head};
+ghost use Rattle.crypto_ops.specs.Sealed.{sealed};
 ghost use Rattle.crypto_ops.specs.Sealed as spec;
 
 use crate::materials::material;
-use blob_format::write_blob;
+use blob_format::{HEAD_SIZE, push_head, write_blob};
 use enc_context::Context;
 use gcm_seal::seal;
 use kms_names::{Bytes, KeyId, NoMemory};
 use std::alloc::Global;
-
-/// The first byte of a blob.
-const FORMAT: u8 = 1;
-
-/// The size in bytes of what a blob says before its initialization vector: its form, the key and the
-/// version.
-const HEAD_SIZE: usize = 21;
 
 /// Seals a text of 1 to 4,096 bytes under a version of a key, of at least 1, and under a context, with
 /// an initialization vector. One vector may seal one text only: who calls it keeps them apart.
@@ -38,8 +32,7 @@ pub fn seal_blob(
     write_blob(alloc, key, version, iv, &text, &tag)
 }
 
-/// What is authenticated beside a text: what its blob says before the initialization vector, and the
-/// context.
+/// What is authenticated beside a text: its blob's head, and the context.
 #[tactic(auto, unfolding(crate::specs::Sealed::additional_data))]
 pub fn additional_data(
     alloc: Global,
@@ -51,9 +44,7 @@ pub fn additional_data(
     ensures size { IfOk result (λ bytes. length bytes.items ≤ 8213) }
 {
     let mut bytes = Vec::with_capacity(alloc, HEAD_SIZE + context.encoded_len())?;
-    bytes.push(FORMAT)?;
-    bytes.extend_from_slice(key.as_bytes())?;
-    bytes.extend_from_slice(&version.to_be_bytes())?;
+    push_head(&mut bytes, key, version)?;
     context.encode_into(&mut bytes)?;
     Ok(bytes)
 }

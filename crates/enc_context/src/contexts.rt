@@ -12,7 +12,7 @@ use std::marker::Model;
 
 /// An encryption context. Contracts see it as the list of its pairs in order of the key's bytes, in
 /// which no key comes twice.
-#[derive(Debug, Drop)]
+#[derive(Drop)]
 pub struct Context {
     pairs: Vec<Pair>,
     encoded_len: usize,

@@ -3,7 +3,7 @@ ghost use Rattle.std.specs.Prelude.{◌≡◌, IfOk};
 use kms_names::{NoMemory, Text};
 
 /// A key of a context and its value. Pairs are ordered by the key's bytes, and then by the value's.
-#[derive(Debug, PartialEq, Eq, PartialOrd, Ord, Drop)]
+#[derive(PartialEq, Eq, PartialOrd, Ord, Drop)]
 pub struct Pair {
     /// The key.
     pub key: Text,

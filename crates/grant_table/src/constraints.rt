@@ -7,7 +7,7 @@ use enc_context::Context;
 use kms_names::NoMemory;
 
 /// What a grant asks of the encryption context of a request (AWS KMS API Reference, "GrantConstraints").
-#[derive(Debug, Drop)]
+#[derive(Drop)]
 pub enum Constraint {
     /// Nothing.
     Free,

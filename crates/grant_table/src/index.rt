@@ -8,7 +8,7 @@ ghost use Rattle.grant_table.specs.declared.index.Entry.{Entry as EntryValue};
 use kms_names::NoMemory;
 
 /// The place of a row among the rows, by a part of it.
-#[derive(Clone, Copy, Debug)]
+#[derive(Clone, Copy)]
 pub struct Entry<K> {
     /// The part.
     pub key: K,

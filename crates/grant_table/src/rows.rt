@@ -11,7 +11,7 @@ use enc_context::Context;
 use kms_names::{GrantId, GrantOp, GrantOps, KeyId, NoMemory, Principal, Text};
 
 /// A grant of an account.
-#[derive(Debug, Drop)]
+#[derive(Drop)]
 pub struct GrantRow {
     /// Its id.
     pub grant: GrantId,

@@ -15,7 +15,7 @@ use std::marker::Model;
 
 /// The grants of an account. Contracts see it as the list of its rows in order of making. A changed table is a new one:
 /// the old one stays as it was.
-#[derive(Debug, Drop)]
+#[derive(Drop)]
 pub struct GrantTable {
     rows: Vec<GrantRow>,
     by_id: Vec<Entry<GrantId>>,

@@ -8,7 +8,7 @@ use crate::versions::VersionList;
 use kms_names::{KeyId, NoMemory, Text};
 
 /// A key of an account.
-#[derive(Debug, Drop)]
+#[derive(Drop)]
 pub struct KeyRow {
     /// Its id.
     pub key: KeyId,

@@ -1,7 +1,7 @@
 //! The states of keys.
 
 /// What an account keeps of a key's state.
-#[derive(Clone, Copy, Debug, PartialEq, Eq)]
+#[derive(Clone, Copy, PartialEq, Eq)]
 pub enum Stored {
     /// The key may be used.
     Enabled,
@@ -17,7 +17,7 @@ pub enum Stored {
 }
 
 /// The state of a key at a moment.
-#[derive(Clone, Copy, Debug, PartialEq, Eq)]
+#[derive(Clone, Copy, PartialEq, Eq)]
 pub enum State {
     /// The key may be used.
     Enabled,

@@ -4,7 +4,7 @@ use kms_names::NoMemory;
 use std::marker::Model;
 
 /// A version of a key's material (AWS KMS Developer Guide, "Rotate AWS KMS keys").
-#[derive(Clone, Copy, Debug, PartialEq, Eq)]
+#[derive(Clone, Copy, PartialEq, Eq)]
 pub struct Version {
     /// When it was made, in seconds since 1970.
     pub time: u64,
@@ -13,7 +13,7 @@ pub struct Version {
 }
 
 /// The versions of a key, the first one at the front. Contracts see it as the list of them.
-#[derive(Debug, Drop)]
+#[derive(Drop)]
 pub struct VersionList {
     items: Vec<Version>,
 }

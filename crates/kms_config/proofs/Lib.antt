@@ -1,4 +1,3 @@
-mod PlaceFacts
 mod NameFacts
 mod CredentialFacts
 mod ItemFacts

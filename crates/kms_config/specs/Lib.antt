@@ -1,5 +1,4 @@
 pub mod Answers
-pub mod Places
 pub mod Members
 pub mod Lists
 pub mod Forms

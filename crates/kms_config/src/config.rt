@@ -10,9 +10,10 @@ use crate::faults::ConfigFault;
 use crate::forms::{account_in, boot_in, region_in, root_in};
 use crate::identities::identities_in;
 use crate::members::{first_unknown, member};
-use crate::places::{Place, refused, refused_behind};
+use crate::places::{refused, refused_behind};
 use account_core::{IdentityList, RealmFacts};
 use kms_names::{AccountNumber, NoMemory, Text};
+use policy_doc::Path;
 use serde_json::{Map, Value};
 use sigv4_check::CredentialList;
 use std::alloc::Global;
@@ -52,18 +53,18 @@ pub struct Basics {
 fn basics_in(alloc: Global, value: &Value) -> Result<Basics, ConfigFault>
     ensures { Answers (basics_in (view value.now)) result }
 {
-    let top = Place::Root;
+    let top = Path::Root;
     let Some(account) = account_in(member(value, "account")) else {
-        return refused(alloc, &Place::Member(&top, "account"));
+        return refused(alloc, &Path::Member(&top, "account"));
     };
     let Some(region) = region_in(alloc, member(value, "region"))? else {
-        return refused(alloc, &Place::Member(&top, "region"));
+        return refused(alloc, &Path::Member(&top, "region"));
     };
     let Some(root) = root_in(member(value, "root")) else {
-        return refused(alloc, &Place::Member(&top, "root"));
+        return refused(alloc, &Path::Member(&top, "root"));
     };
     let Some(boot) = boot_in(member(value, "boot")) else {
-        return refused(alloc, &Place::Member(&top, "boot"));
+        return refused(alloc, &Path::Member(&top, "boot"));
     };
     Ok(Basics {
         account,
@@ -80,8 +81,8 @@ fn credentials_at(
 ) -> Result<CredentialList, ConfigFault>
     ensures { Answers (credentials_at account.now (view value.now)) result }
 {
-    let top = Place::Root;
-    let place = Place::Member(&top, "credentials");
+    let top = Path::Root;
+    let place = Path::Member(&top, "credentials");
     credentials_in(alloc, account, &place, member(value, "credentials"))
 }
 
@@ -92,8 +93,8 @@ fn identities_at(
 ) -> Result<IdentityList, ConfigFault>
     ensures { Answers (identities_at account.now (view value.now)) result }
 {
-    let top = Place::Root;
-    let place = Place::Member(&top, "policies");
+    let top = Path::Root;
+    let place = Path::Member(&top, "policies");
     identities_in(alloc, account, &place, member(value, "policies"))
 }
 
@@ -106,7 +107,7 @@ fn lists_in(
 ) -> Result<Config, ConfigFault>
     ensures { Answers (lists_in (view value.now) (members_view members.now.entries) basics) result }
 {
-    let top = Place::Root;
+    let top = Path::Root;
     let Basics {
         account,
         region,
@@ -122,7 +123,7 @@ fn lists_in(
         Err(why) => return Err(why),
     };
     if let Some(name) = first_unknown(&NAMES, members) {
-        return refused(alloc, &Place::Member(&top, name));
+        return refused(alloc, &Path::Member(&top, name));
     }
     Ok(Config {
         facts: RealmFacts {
@@ -141,7 +142,7 @@ fn config_in(alloc: Global, value: &Value) -> Result<Config, ConfigFault>
     ensures { Answers (config_in (view value.now)) result }
 {
     let Value::Object(members) = value else {
-        return refused_behind(alloc, &Place::Root, "/");
+        return refused_behind(alloc, &Path::Root, "/");
     };
     match basics_in(alloc, value) {
         Ok(basics) => lists_in(alloc, value, members, basics),
@@ -183,10 +184,10 @@ pub fn read_config(alloc: Global, bytes: &[u8]) -> Result<Config, ConfigFault>
     ensures fault { IfErr result (IsFaultOf bytes.now) }
 {
     if bytes.len() > LONGEST {
-        return refused_behind(alloc, &Place::Root, "/");
+        return refused_behind(alloc, &Path::Root, "/");
     }
     match read_json(alloc, bytes)? {
         Some(value) => config_in(alloc, &value),
-        None => refused_behind(alloc, &Place::Root, "/"),
+        None => refused_behind(alloc, &Path::Root, "/"),
     }
 }

@@ -3,14 +3,15 @@ ghost use Rattle.std.specs.Prelude.{◌≡◌, false, IfOk, IfSome, option_map};
 ghost use Rattle.serde_json.specs.View.{view, members_view};
 ghost use Rattle.sigv4_check.specs.Credentials.{has_id};
 ghost use Rattle.kms_config.specs.Answers.{Answers};
-ghost use Rattle.kms_config.specs.Places.{place_text};
+ghost use Rattle.policy_doc.specs.Paths.{path_text};
 ghost use Rattle.kms_config.specs.Credentials.{id_in, secret_in as secret_within, credential_of, credential_in, credentials_in};
 
 use crate::faults::ConfigFault;
 use crate::forms::{key_id_in, principal_at, secret_in};
 use crate::members::{first_unknown, items_within, member};
-use crate::places::{Place, refused};
+use crate::places::refused;
 use kms_names::{AccountNumber, NoMemory, Text};
+use policy_doc::Path;
 use serde_json::{Map, Value};
 use sigv4_check::{Credential, CredentialList};
 use std::alloc::Global;
@@ -45,24 +46,24 @@ fn credential_of(
     alloc: Global,
     account: &AccountNumber,
     before: &CredentialList,
-    place: &Place<'_>,
+    place: &Path<'_>,
     value: &Value,
     members: &Map<String, Value>,
 ) -> Result<Credential, ConfigFault>
-    ensures answer { Answers (credential_of account.now before.now (place_text place.now) (view value.now) (members_view members.now.entries)) result }
+    ensures answer { Answers (credential_of account.now before.now (path_text place.now) (view value.now) (members_view members.now.entries)) result }
     ensures new { IfOk result (λ credential. has_id credential.id before.now ≡ false) }
 {
     let Some(id) = id_in(alloc, before, value)? else {
-        return refused(alloc, &Place::Member(place, "accessKeyId"));
+        return refused(alloc, &Path::Member(place, "accessKeyId"));
     };
     let Some(secret) = secret_of(alloc, value)? else {
-        return refused(alloc, &Place::Member(place, "secret"));
+        return refused(alloc, &Path::Member(place, "secret"));
     };
     let Some(principal) = principal_at(alloc, account, value)? else {
-        return refused(alloc, &Place::Member(place, "principal"));
+        return refused(alloc, &Path::Member(place, "principal"));
     };
     if let Some(name) = first_unknown(&NAMES, members) {
-        return refused(alloc, &Place::Member(place, name));
+        return refused(alloc, &Path::Member(place, name));
     }
     Ok(Credential {
         id,
@@ -76,10 +77,10 @@ fn credential_in(
     alloc: Global,
     account: &AccountNumber,
     before: &CredentialList,
-    place: &Place<'_>,
+    place: &Path<'_>,
     value: &Value,
 ) -> Result<Credential, ConfigFault>
-    ensures answer { Answers (credential_in account.now before.now (place_text place.now) (view value.now)) result }
+    ensures answer { Answers (credential_in account.now before.now (path_text place.now) (view value.now)) result }
     ensures new { IfOk result (λ credential. has_id credential.id before.now ≡ false) }
 {
     match value {
@@ -92,17 +93,17 @@ fn credential_in(
 pub fn credentials_in(
     alloc: Global,
     account: &AccountNumber,
-    place: &Place<'_>,
+    place: &Path<'_>,
     value: Option<&Value>,
 ) -> Result<CredentialList, ConfigFault>
-    ensures { Answers (credentials_in account.now (place_text place.now) (option_map (λ v. view v.now) value.entry)) result }
+    ensures { Answers (credentials_in account.now (path_text place.now) (option_map (λ v. view v.now) value.entry)) result }
 {
     let Some(values) = items_within(value, MOST) else {
         return refused(alloc, place);
     };
     let mut credentials = CredentialList::empty(alloc);
     for (index, value) in values.iter().enumerate() {
-        let item = Place::Item(&*place, index);
+        let item = Path::Item(&*place, index);
         match credential_in(alloc, account, &credentials, &item, value) {
             Ok(credential) => credentials.insert(credential)?,
             Err(why) => return Err(why),

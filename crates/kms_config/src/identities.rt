@@ -2,16 +2,16 @@
 ghost use Rattle.std.specs.Prelude.{◌≡◌, ◌++◌, ◌∷◌, [], IfOk, OnOk, option_map};
 ghost use Rattle.serde_json.specs.View.{view, members_view};
 ghost use Rattle.kms_config.specs.Answers.{Answers};
-ghost use Rattle.kms_config.specs.Places.{place_text};
+ghost use Rattle.policy_doc.specs.Paths.{path_text};
 ghost use Rattle.kms_config.specs.Identities.{document_in, documents_in, is_same, has_principal, new_principal, policies_in, identity_of, identity_in, identities_in};
 
 use crate::faults::ConfigFault;
 use crate::forms::{no_root, principal_at};
 use crate::members::{first_unknown, items_within, member};
-use crate::places::{Place, refused, refused_behind};
+use crate::places::{refused, refused_behind};
 use authority::{Identity, IdentityList, PolicyList};
 use kms_names::{AccountNumber, NoMemory, Principal};
-use policy_doc::{Policy, PolicyFault, PolicyKind, read_policy_value};
+use policy_doc::{Path, Policy, PolicyFault, PolicyKind, read_policy_value};
 use serde_json::{Map, Value};
 use std::alloc::Global;
 
@@ -25,8 +25,8 @@ const MOST_DOCUMENTS: usize = 10;
 const NAMES: [&str; 2] = ["principal", "documents"];
 
 // An identity policy.
-fn document_in(alloc: Global, place: &Place<'_>, value: &Value) -> Result<Policy, ConfigFault>
-    ensures { Answers (document_in (place_text place.now) (view value.now)) result }
+fn document_in(alloc: Global, place: &Path<'_>, value: &Value) -> Result<Policy, ConfigFault>
+    ensures { Answers (document_in (path_text place.now) (view value.now)) result }
 {
     match read_policy_value(alloc, PolicyKind::Identity, value) {
         Ok(policy) => Ok(policy),
@@ -41,17 +41,17 @@ fn document_in(alloc: Global, place: &Place<'_>, value: &Value) -> Result<Policy
 // A list of at most 10 identity policies.
 fn documents_in(
     alloc: Global,
-    place: &Place<'_>,
+    place: &Path<'_>,
     value: Option<&Value>,
 ) -> Result<PolicyList, ConfigFault>
-    ensures { Answers (documents_in (place_text place.now) (option_map (λ v. view v.now) value.entry)) result }
+    ensures { Answers (documents_in (path_text place.now) (option_map (λ v. view v.now) value.entry)) result }
 {
     let Some(values) = items_within(value, MOST_DOCUMENTS) else {
         return refused(alloc, place);
     };
     let mut policies = Vec::new(alloc);
     for (index, value) in values.iter().enumerate() {
-        let item = Place::Item(&*place, index);
+        let item = Path::Item(&*place, index);
         match document_in(alloc, &item, value) {
             Ok(policy) => add(&mut policies, policy)?,
             Err(why) => return Err(why),
@@ -114,12 +114,12 @@ fn new_principal(
 }
 
 #[tactic(auto, unfolding(crate::specs::Identities::policies_in))]
-fn policies_in(alloc: Global, place: &Place<'_>, value: &Value) -> Result<PolicyList, ConfigFault>
-    ensures { Answers (policies_in (place_text place.now) (view value.now)) result }
+fn policies_in(alloc: Global, place: &Path<'_>, value: &Value) -> Result<PolicyList, ConfigFault>
+    ensures { Answers (policies_in (path_text place.now) (view value.now)) result }
 {
     documents_in(
         alloc,
-        &Place::Member(place, "documents"),
+        &Path::Member(place, "documents"),
         member(value, "documents"),
     )
 }
@@ -129,21 +129,21 @@ fn identity_of(
     alloc: Global,
     account: &AccountNumber,
     before: &[Identity],
-    place: &Place<'_>,
+    place: &Path<'_>,
     value: &Value,
     members: &Map<String, Value>,
 ) -> Result<Identity, ConfigFault>
-    ensures { Answers (identity_of account.now before.now (place_text place.now) (view value.now) (members_view members.now.entries)) result }
+    ensures { Answers (identity_of account.now before.now (path_text place.now) (view value.now) (members_view members.now.entries)) result }
 {
     let Some(principal) = new_principal(alloc, account, before, value)? else {
-        return refused(alloc, &Place::Member(place, "principal"));
+        return refused(alloc, &Path::Member(place, "principal"));
     };
     let policies = match policies_in(alloc, place, value) {
         Ok(policies) => policies,
         Err(why) => return Err(why),
     };
     if let Some(name) = first_unknown(&NAMES, members) {
-        return refused(alloc, &Place::Member(place, name));
+        return refused(alloc, &Path::Member(place, name));
     }
     Ok(Identity {
         principal,
@@ -156,10 +156,10 @@ fn identity_in(
     alloc: Global,
     account: &AccountNumber,
     before: &[Identity],
-    place: &Place<'_>,
+    place: &Path<'_>,
     value: &Value,
 ) -> Result<Identity, ConfigFault>
-    ensures { Answers (identity_in account.now before.now (place_text place.now) (view value.now)) result }
+    ensures { Answers (identity_in account.now before.now (path_text place.now) (view value.now)) result }
 {
     match value {
         Value::Object(members) => identity_of(alloc, account, before, place, value, members),
@@ -171,17 +171,17 @@ fn identity_in(
 pub fn identities_in(
     alloc: Global,
     account: &AccountNumber,
-    place: &Place<'_>,
+    place: &Path<'_>,
     value: Option<&Value>,
 ) -> Result<IdentityList, ConfigFault>
-    ensures { Answers (identities_in account.now (place_text place.now) (option_map (λ v. view v.now) value.entry)) result }
+    ensures { Answers (identities_in account.now (path_text place.now) (option_map (λ v. view v.now) value.entry)) result }
 {
     let Some(values) = items_within(value, MOST) else {
         return refused(alloc, place);
     };
     let mut identities = Vec::new(alloc);
     for (index, value) in values.iter().enumerate() {
-        let item = Place::Item(&*place, index);
+        let item = Path::Item(&*place, index);
         match identity_in(alloc, account, &identities, &item, value) {
             Ok(identity) => add(&mut identities, identity)?,
             Err(why) => return Err(why),

@@ -14,7 +14,7 @@ use kms_names::{NoMemory, Principal, Text, TextList};
 pub use pages::Page;
 
 /// An operation that changes the account, with its fields.
-#[derive(Debug, Drop)]
+#[derive(Drop)]
 pub enum Changing {
     /// CreateKey.
     CreateKey(CreateKey),
@@ -96,7 +96,7 @@ pub enum Changing {
 }
 
 /// An operation that doesn't change the account, with its fields.
-#[derive(Debug, Drop)]
+#[derive(Drop)]
 pub enum Reading {
     /// DescribeKey of the key that `key_id` refers to, a text of 1 to 2,048 bytes, with at most 10 grant
     /// tokens.
@@ -164,7 +164,7 @@ pub enum Reading {
 }
 
 /// An operation with its fields: one that changes the account, or one that reads it.
-#[derive(Debug, Drop)]
+#[derive(Drop)]
 pub enum AskBody {
     /// It changes the account.
     Change(Changing),
@@ -173,7 +173,7 @@ pub enum AskBody {
 }
 
 /// A request as the account is asked it.
-#[derive(Debug, Drop)]
+#[derive(Drop)]
 pub struct Ask {
     /// The operation with its fields.
     pub body: AskBody,

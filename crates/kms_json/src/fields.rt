@@ -13,7 +13,7 @@ use std::alloc::Global;
 use std::collections::VecDeque;
 
 /// What the value of a field may be.
-#[derive(Clone, Copy, Debug, PartialEq, Eq)]
+#[derive(Clone, Copy, PartialEq, Eq)]
 pub enum Kind {
     /// A text of so many bytes of UTF-8.
     Text { least: usize, most: usize },
@@ -50,7 +50,7 @@ pub enum Kind {
 }
 
 /// Whether a field is to be given.
-#[derive(Clone, Copy, Debug)]
+#[derive(Clone, Copy)]
 pub enum Presence {
     /// It is.
     Required,

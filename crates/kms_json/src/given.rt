@@ -8,7 +8,7 @@ use kms_names::{Bytes, GrantOp, GrantOps, NoMemory, Text, TextList};
 use std::alloc::Global;
 
 /// What a member is to its field.
-#[derive(Debug, Drop)]
+#[derive(Drop)]
 pub enum Given {
     /// It isn't there, or is null.
     Absent,

@@ -19,7 +19,7 @@ use crate::tables::states::SCHEDULE_KEY_DELETION;
 use crate::tables::{KEY_ALONE, LIST_OF_KEY};
 
 /// An operation of the AWS KMS API that this service serves.
-#[derive(Clone, Copy, Debug, PartialEq, Eq)]
+#[derive(Clone, Copy, PartialEq, Eq)]
 pub enum Operation {
     CreateKey,
     DescribeKey,

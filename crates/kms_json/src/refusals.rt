@@ -3,7 +3,7 @@ use crate::states::KeyState;
 use kms_names::{Action, Principal, Text};
 
 /// What a name was looked up for and not found.
-#[derive(Clone, Copy, Debug, PartialEq, Eq)]
+#[derive(Clone, Copy, PartialEq, Eq)]
 pub enum Missing {
     Key,
     Alias,
@@ -11,7 +11,7 @@ pub enum Missing {
 }
 
 /// What is counted and stands at its limit.
-#[derive(Clone, Copy, Debug, PartialEq, Eq)]
+#[derive(Clone, Copy, PartialEq, Eq)]
 pub enum Limit {
     Keys,
     /// The grants of a key.
@@ -32,7 +32,7 @@ pub enum Limit {
 }
 
 /// A field that is read and not supported, or not with its value.
-#[derive(Clone, Copy, Debug, PartialEq, Eq)]
+#[derive(Clone, Copy, PartialEq, Eq)]
 pub enum Unsupported {
     KeyUsage,
     CustomerMasterKeySpec,
@@ -46,7 +46,7 @@ pub enum Unsupported {
 }
 
 /// What is wrong with a key policy. A path is a JSON pointer (RFC 6901) into it.
-#[derive(Debug, Drop)]
+#[derive(Drop)]
 pub enum PolicyFlaw {
     /// It has too many bytes.
     TooLong,
@@ -61,7 +61,7 @@ pub enum PolicyFlaw {
 }
 
 /// Why a request isn't served: one variant an exception.
-#[derive(Debug, Drop)]
+#[derive(Drop)]
 pub enum Refusal {
     /// MissingAuthenticationTokenException.
     MissingAuthentication,

@@ -14,7 +14,7 @@ pub use lists::{
 pub const SYMMETRIC_DEFAULT: &str = "SYMMETRIC_DEFAULT";
 
 /// A key as replies describe it (AWS KMS API Reference, KeyMetadata).
-#[derive(Debug, Drop)]
+#[derive(Drop)]
 pub struct KeyMetadata {
     /// The account of the service.
     pub account: AccountNumber,
@@ -31,7 +31,7 @@ pub struct KeyMetadata {
 }
 
 /// A key's automatic rotation (AWS KMS API Reference, GetKeyRotationStatus).
-#[derive(Clone, Copy, Debug, PartialEq, Eq)]
+#[derive(Clone, Copy, PartialEq, Eq)]
 pub struct AutomaticRotation {
     /// When the next rotation is due, in seconds since 1970.
     pub next: u64,
@@ -40,7 +40,7 @@ pub struct AutomaticRotation {
 }
 
 /// What a request is answered.
-#[derive(Debug, Drop)]
+#[derive(Drop)]
 pub enum Reply {
     /// The body has the one member KeyMetadata.
     Metadata(KeyMetadata),

@@ -8,7 +8,7 @@ use std::marker::Model;
 use uuid::Uuid;
 
 /// The id of a key: 16 bytes. Contracts see it as the list of its bytes.
-#[derive(Clone, Copy, Debug, PartialEq, Eq, PartialOrd, Ord)]
+#[derive(Clone, Copy, PartialEq, Eq, PartialOrd, Ord)]
 pub struct KeyId {
     bytes: [u8; 16],
 }

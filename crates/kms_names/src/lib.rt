@@ -35,6 +35,7 @@ pub use laws::{
     read_key_prints_back, refers_to_one,
 };
 pub use operations::{GrantOp, GrantOps};
+pub use parts::after;
 pub use patterns::Pattern;
 pub use principals::{Principal, principal_len, read_principal, write_principal};
 pub use references::{KeyRef, alias_arn, key_arn, read_key_ref};

@@ -3,7 +3,7 @@
 ghost use Rattle.std.specs.Prelude.{◌≡◌, ◌≢◌, ◌++◌, ◌∷◌, ℕ, List, MatchOption};
 ghost use Rattle.kms_names.specs.Parts.{HasNoColon};
 
-/// What follows a front.
+/// What follows a front; `None` where the text doesn't begin with it. It takes no memory.
 pub fn after<'a>(text: &'a str, front: &str) -> Option<&'a str>
     ensures { MatchOption result ((rest : List ℕ) → text.now ≢ front.now ++ rest) (λ rest. text.now ≡ front.now ++ rest.now) }
 {

@@ -15,7 +15,7 @@ use std::marker::{Brand, Model};
 use std::sync::ledger::{Blank, Ledger};
 
 /// How a pattern is matched.
-#[derive(Debug, Drop)]
+#[derive(Drop)]
 enum Shape {
     /// `*` alone: every text.
     Anything,
@@ -29,7 +29,7 @@ enum Shape {
 
 /// A pattern with `*` and `?`, whose shape is found once, so that the common ones are matched by one comparison of
 /// texts. Contracts see it as its text.
-#[derive(Debug, Drop)]
+#[derive(Drop)]
 pub struct Pattern {
     shape: Shape,
 }

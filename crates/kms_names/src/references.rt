@@ -14,7 +14,7 @@ use crate::texts::Text;
 use std::alloc::Global;
 
 /// What a text refers to.
-#[derive(Debug, PartialEq, Eq, Drop)]
+#[derive(PartialEq, Eq, Drop)]
 pub enum KeyRef {
     /// A key of this account and region.
     Key(KeyId),

@@ -94,7 +94,7 @@ impl Ord for Text {
 }
 
 /// A list of bytes.
-#[derive(Debug, Drop)]
+#[derive(Drop)]
 pub struct Bytes {
     items: Vec<u8>,
 }
@@ -152,7 +152,7 @@ impl Eq for Bytes {
 }
 
 /// A list of texts.
-#[derive(Debug, Drop)]
+#[derive(Drop)]
 pub struct TextList {
     items: Vec<Text>,
 }

@@ -78,7 +78,7 @@ fn ask(alloc: Global, facts: &RealmFacts, request: &Request<'_>) -> Result<Ask, 
 }
 
 /// Why a scene can't be shown.
-#[derive(Debug, Drop)]
+#[derive(Drop)]
 pub enum Failure {
     /// Memory lacked, or a line could not be written.
     Host(io::Error),

@@ -36,7 +36,7 @@ impl<T: Drop> From<AllocFailed<T>> for PolicyFault {
 }
 
 /// How a value departs from the grammar.
-#[derive(Clone, Copy, Debug, PartialEq, Eq)]
+#[derive(Clone, Copy, PartialEq, Eq)]
 pub enum Departure {
     BadShape,
     Unsupported,

@@ -7,7 +7,7 @@ use crate::faults::{Departure, PolicyFault};
 use kms_names::{NoMemory, Text};
 use std::alloc::Global;
 
-/// A place: the whole document, a member of an object, or an item of a list.
+/// A place in a JSON document: the whole document, a member of an object, or an item of a list.
 #[derive(Clone, Copy)]
 pub enum Path<'a> {
     Root,
@@ -36,8 +36,8 @@ fn push_escaped(text: &mut String, name: &str) -> Result<(), NoMemory>
     Ok(())
 }
 
-// Appends the JSON pointer of a place.
-fn push_path(text: &mut String, path: &Path<'_>) -> Result<(), NoMemory>
+/// Appends the JSON pointer of a place (RFC 6901), which is empty at the root.
+pub fn push_path(text: &mut String, path: &Path<'_>) -> Result<(), NoMemory>
     ensures { OnOk result (string_bytes text.new ≡ string_bytes text.old ++ path_text path.now) }
 {
     match path {

@@ -6,7 +6,7 @@ use kms_names::{NoMemory, Principal, TextList};
 use std::marker::Model;
 
 /// What a policy is attached to.
-#[derive(Clone, Copy, Debug, PartialEq, Eq)]
+#[derive(Clone, Copy, PartialEq, Eq)]
 pub enum PolicyKind {
     /// A key; its statements name principals.
     Key,
@@ -15,7 +15,7 @@ pub enum PolicyKind {
 }
 
 /// Whom a statement names.
-#[derive(Debug, PartialEq, Eq, Drop)]
+#[derive(PartialEq, Eq, Drop)]
 pub enum Named {
     /// Every principal.
     Everyone,
@@ -36,7 +36,7 @@ impl Named {
 }
 
 /// A list of those that a statement names.
-#[derive(Debug, Drop)]
+#[derive(Drop)]
 pub struct NamedList {
     items: Vec<Named>,
 }
@@ -78,7 +78,7 @@ impl NamedList {
 }
 
 /// A statement of a policy. Of a form and its Not-form the list of the one that isn't given is empty.
-#[derive(Debug, Drop)]
+#[derive(Drop)]
 pub struct Statement {
     /// Whether its effect is Allow.
     pub allow: bool,
@@ -114,7 +114,7 @@ impl Statement {
 }
 
 /// A list of statements.
-#[derive(Debug, Drop)]
+#[derive(Drop)]
 pub struct StatementList {
     items: Vec<Statement>,
 }
@@ -156,7 +156,7 @@ impl StatementList {
 }
 
 /// A policy.
-#[derive(Debug, Drop)]
+#[derive(Drop)]
 pub struct Policy {
     /// The kind under which the document was read.
     pub kind: PolicyKind,

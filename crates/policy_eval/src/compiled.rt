@@ -16,7 +16,7 @@ use std::alloc::Global;
 use std::marker::Model;
 
 /// A policy made ready to be asked about many requests. Contracts see it as the policy that it was made of.
-#[derive(Debug, Drop)]
+#[derive(Drop)]
 pub struct Compiled {
     kind: PolicyKind,
     effects: Vec<bool>,

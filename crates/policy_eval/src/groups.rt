@@ -13,7 +13,7 @@ use std::marker::Model;
 
 /// Statements of one effect, with the actions that some of them is about. Contracts see it as the list of the
 /// statements.
-#[derive(Debug, Drop)]
+#[derive(Drop)]
 pub struct Group {
     statements: Vec<CompiledStatement>,
     actions: ActionSet,

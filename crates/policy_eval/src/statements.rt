@@ -12,7 +12,7 @@ use std::alloc::Global;
 use std::marker::Model;
 
 /// A statement made ready to be asked. Contracts see it as the statement that it was made of.
-#[derive(Debug, Drop)]
+#[derive(Drop)]
 pub struct CompiledStatement {
     allow: bool,
     principals: NamedList,

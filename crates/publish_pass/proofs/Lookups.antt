@@ -10,7 +10,7 @@ use Rattle.account_core.specs.History.{Entry}
 use Rattle.account_core.specs.declared.places.Places.{Places}
 use Rattle.account_core.specs.Places.{IsWithin, places_of}
 use Rattle.account_core.specs.Decide.{decide}
-use Rattle.account_core.proofs.GoingOn.{decide_goes_on, within_places, places_at}
+use Rattle.account_core.proofs.GoingOn.{decide_goes_on, places_at}
 use Rattle.published_account.specs.declared.answered.Answered.{Answered}
 use Rattle.published_account.specs.Pairs.{IsHistory, entries_of}
 use Rattle.published_account.specs.Reading.{AnswersAt}
@@ -72,7 +72,7 @@ module _
             seen = meets_there;
             places = places_of new;
             used = refl;
-            at_most = within_places old new (decide facts (entries_of after) x (places_of old)).places here;
+            at_most = here.up_to;
           },
           refl,
         ) in

@@ -24,11 +24,7 @@ went_on facts entries x old new is =
     (record {
       seed = refl;
       boot = refl;
-      number = refl;
-      words_from = on.words_from;
-      words_to = omega arith;
-      ivs_from = on.ivs_from;
-      ivs_to = omega arith;
+      up_to = record { number = refl; words_from = on.words_from; words_to = omega arith; ivs_from = on.ivs_from; ivs_to = omega arith };
     })
 
 -- an error leaves the line so far at most

@@ -7,7 +7,7 @@ use kms_names::{Bytes, NoMemory};
 use std::alloc::Global;
 
 /// A reply's status and body, and the number of entries that it stands on.
-#[derive(Debug, Drop)]
+#[derive(Drop)]
 pub struct Answered {
     /// The number of entries, that of the request itself included.
     pub front: u64,
@@ -18,7 +18,7 @@ pub struct Answered {
 }
 
 /// Why a read has no answer.
-#[derive(Clone, Copy, Debug, PartialEq, Eq)]
+#[derive(Clone, Copy, PartialEq, Eq)]
 pub enum Unread {
     /// The published account could not be entered; the pass is as it was, and the caller asks again.
     NotEntered,

@@ -3,7 +3,7 @@ use enc_context::Context;
 use kms_names::{Bytes, Text, TextList};
 
 /// What Encrypt takes (AWS KMS API Reference, Encrypt).
-#[derive(Debug, Drop)]
+#[derive(Drop)]
 pub struct Encrypt {
     /// The reference to the key, a text of 1 to 2,048 bytes.
     pub key_id: Text,
@@ -20,7 +20,7 @@ pub struct Encrypt {
 }
 
 /// What Decrypt takes (AWS KMS API Reference, Decrypt).
-#[derive(Debug, Drop)]
+#[derive(Drop)]
 pub struct Decrypt {
     /// The sealed text, 1 to 6,144 bytes.
     pub blob: Bytes,
@@ -39,7 +39,7 @@ pub struct Decrypt {
 }
 
 /// What ReEncrypt takes (AWS KMS API Reference, ReEncrypt).
-#[derive(Debug, Drop)]
+#[derive(Drop)]
 pub struct ReEncrypt {
     /// The sealed text, 1 to 6,144 bytes.
     pub blob: Bytes,
@@ -62,7 +62,7 @@ pub struct ReEncrypt {
 }
 
 /// What a request for a data key takes (AWS KMS API Reference, GenerateDataKey).
-#[derive(Debug, Drop)]
+#[derive(Drop)]
 pub struct DataKey {
     /// The reference to the key that the data key is sealed under, a text of 1 to 2,048 bytes.
     pub key_id: Text,

@@ -5,7 +5,7 @@ use kms_names::{GrantOps, Text, TextList};
 
 /// What a grant is to ask of the encryption context of a request (AWS KMS API Reference,
 /// GrantConstraints). A context has at most 4,096 encoded bytes here.
-#[derive(Debug, Drop)]
+#[derive(Drop)]
 pub enum GrantConstraint {
     /// Nothing.
     Free,
@@ -16,7 +16,7 @@ pub enum GrantConstraint {
 }
 
 /// What CreateGrant takes (AWS KMS API Reference, CreateGrant).
-#[derive(Debug, Drop)]
+#[derive(Drop)]
 pub struct CreateGrant {
     /// The reference to the key, a text of 1 to 2,048 bytes.
     pub key_id: Text,
@@ -37,7 +37,7 @@ pub struct CreateGrant {
 }
 
 /// Which grant RetireGrant retires (AWS KMS API Reference, RetireGrant).
-#[derive(Debug, Drop)]
+#[derive(Drop)]
 pub enum RetiredGrant {
     /// The one of this token.
     OfToken(Text),
@@ -46,7 +46,7 @@ pub enum RetiredGrant {
 }
 
 /// What ListGrants takes (AWS KMS API Reference, ListGrants).
-#[derive(Debug, Drop)]
+#[derive(Drop)]
 pub struct ListGrants {
     /// The reference to the key, a text of 1 to 2,048 bytes.
     pub key_id: Text,

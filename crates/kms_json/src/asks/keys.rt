@@ -2,7 +2,7 @@
 use kms_names::Text;
 
 /// What CreateKey takes (AWS KMS API Reference, CreateKey).
-#[derive(Debug, Drop)]
+#[derive(Drop)]
 pub struct CreateKey {
     /// The key's policy, where it is given: a text of 1 byte or more.
     pub policy: Option<Text>,

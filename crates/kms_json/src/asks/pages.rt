@@ -2,7 +2,7 @@
 use kms_names::Text;
 
 /// A part of a list: at most so many rows behind a marker (AWS KMS API Reference, ListKeys).
-#[derive(Debug, Drop)]
+#[derive(Drop)]
 pub struct Page {
     /// How many rows it has at most, from 1 on.
     pub limit: u64,

@@ -9,7 +9,7 @@ use kms_names::{AccountNumber, AliasName, GrantId, GrantOps, KeyId, Principal, T
 use std::marker::Model;
 
 /// An alias as lists show it (AWS KMS API Reference, AliasListEntry).
-#[derive(Debug, Drop)]
+#[derive(Drop)]
 pub struct ListedAlias {
     /// Its name.
     pub name: AliasName,
@@ -22,7 +22,7 @@ pub struct ListedAlias {
 }
 
 /// A grant as lists show it (AWS KMS API Reference, GrantListEntry).
-#[derive(Debug, Drop)]
+#[derive(Drop)]
 pub struct ListedGrant {
     /// Its id.
     pub grant: GrantId,
@@ -43,7 +43,7 @@ pub struct ListedGrant {
 }
 
 /// A rotation of a key as lists show it (AWS KMS API Reference, RotationsListEntry).
-#[derive(Clone, Copy, Debug, PartialEq, Eq)]
+#[derive(Clone, Copy, PartialEq, Eq)]
 pub struct Rotation {
     /// When it was, in seconds since 1970.
     pub date: u64,
@@ -52,7 +52,7 @@ pub struct Rotation {
 }
 
 /// A list of keys, by their ids. Contracts see it as the list of them.
-#[derive(Debug, Drop)]
+#[derive(Drop)]
 pub struct KeyIdList {
     items: Vec<KeyId>,
 }
@@ -80,7 +80,7 @@ impl KeyIdList {
 }
 
 /// A list of aliases. Contracts see it as the list of them.
-#[derive(Debug, Drop)]
+#[derive(Drop)]
 pub struct AliasList {
     items: Vec<ListedAlias>,
 }
@@ -108,7 +108,7 @@ impl AliasList {
 }
 
 /// A list of grants. Contracts see it as the list of them.
-#[derive(Debug, Drop)]
+#[derive(Drop)]
 pub struct GrantList {
     items: Vec<ListedGrant>,
 }
@@ -136,7 +136,7 @@ impl GrantList {
 }
 
 /// A list of rotations. Contracts see it as the list of them.
-#[derive(Debug, Drop)]
+#[derive(Drop)]
 pub struct RotationList {
     items: Vec<Rotation>,
 }
@@ -164,7 +164,7 @@ impl RotationList {
 }
 
 /// A part of the list of keys of an account (AWS KMS API Reference, ListKeys).
-#[derive(Debug, Drop)]
+#[derive(Drop)]
 pub struct KeyPage {
     /// The account of the service.
     pub account: AccountNumber,
@@ -177,7 +177,7 @@ pub struct KeyPage {
 }
 
 /// A part of the list of aliases of an account (AWS KMS API Reference, ListAliases).
-#[derive(Debug, Drop)]
+#[derive(Drop)]
 pub struct AliasPage {
     /// The account of the service.
     pub account: AccountNumber,
@@ -190,7 +190,7 @@ pub struct AliasPage {
 }
 
 /// A part of the list of grants of an account (AWS KMS API Reference, ListGrants).
-#[derive(Debug, Drop)]
+#[derive(Drop)]
 pub struct GrantPage {
     /// The account of the service.
     pub account: AccountNumber,
@@ -203,7 +203,7 @@ pub struct GrantPage {
 }
 
 /// A part of the list of a key's rotations (AWS KMS API Reference, ListKeyRotations).
-#[derive(Debug, Drop)]
+#[derive(Drop)]
 pub struct RotationPage {
     /// The key.
     pub key: KeyId,

@@ -5,14 +5,14 @@ use Rattle.sigv4_check.specs.Credentials.{placed}
 use Rattle.sigv4_check.specs.declared.credentials.Credential.{Credential}
 use Rattle.kms_config.specs.Answers.{Answers, ◌>>=◌, at}
 use Rattle.kms_config.specs.Lists.{items_from}
-use Rattle.kms_config.specs.Places.{place_text}
+use Rattle.policy_doc.specs.Paths.{path_text}
 use Rattle.kms_config.specs.Credentials.{credential_in, next_credential}
 use Rattle.kms_config.proofs.ItemFacts.{none_left, one_read, one_refused, stopped, passed}
 use Rattle.kms_config.proofs.credentials.credentials_in.Goals as goal
 
 pub returns-in-Err : goal.returns-in-Err
 returns-in-Err c =
-    let path = place_text c.args.place.now in
+    let path = path_text c.args.place.now in
     let next = next_credential c.args.account.now path in
     let values = c.in-Some.values.now in
     let i = c.loop-index.index in
@@ -25,7 +25,7 @@ returns-in-Err c =
 
 pub loop-index-preserved : goal.loop-index-preserved
 loop-index-preserved c =
-    let path = place_text c.args.place.now in
+    let path = path_text c.args.place.now in
     let next = next_credential c.args.account.now path in
     let values = c.in-Some.values.now in
     let i = c.loop-index.index in
@@ -36,7 +36,7 @@ loop-index-preserved c =
 
 pub returns : goal.returns
 returns c =
-    let path = place_text c.args.place.now in
+    let path = path_text c.args.place.now in
     let next = next_credential c.args.account.now path in
     ap (λ o. at path o >>= items_from next [] 0) (sym c.in-Some.ensures)
     ∙ sym c.loop-index.invariant

@@ -1,11 +1,11 @@
 use Rattle.std.proofs.Common.{◌≡◌, [], drop}
 use Rattle.serde_json.specs.View.{items_view}
-use Rattle.kms_config.specs.Places.{place_text}
+use Rattle.policy_doc.specs.Paths.{path_text}
 use Rattle.kms_config.specs.Lists.{items_from}
 use Rattle.kms_config.specs.Credentials.{next_credential}
 use Rattle.kms_config.proofs.credentials.credentials_in.Given as goal
 
 abbrev pub invariant-loop-index : goal.invariant-loop-index
 invariant-loop-index l =
-    items_from (next_credential l.account (place_text l.place)) l.credentials l.index (items_view (drop l.index l.values))
-    ≡ items_from (next_credential l.account (place_text l.place)) [] 0 (items_view l.values)
+    items_from (next_credential l.account (path_text l.place)) l.credentials l.index (items_view (drop l.index l.values))
+    ≡ items_from (next_credential l.account (path_text l.place)) [] 0 (items_view l.values)
