@@ -1,6 +1,7 @@
 // The ids of keys and grants, and the lines of passes.
-ghost use Rattle.std.specs.Prelude.{◌≡◌, ◌+◌, ◌≤◌, ◌++◌, length, take};
-ghost use Rattle.account_core.specs.Ids.{be48, key_id_at, grant_id_at};
+ghost use Rattle.std.specs.Prelude.{◌≡◌, ◌+◌, ◌≤◌, ◌++◌, codes, length, take};
+ghost use Rattle.mac_sha.specs.Hmac.{hmac_sha256};
+ghost use Rattle.account_core.specs.Ids.{be32, be48, key_id_at, grant_id_at};
 ghost use Rattle.account_core.specs.Places.{first_line};
 
 use crate::RealmFacts;
@@ -30,10 +31,18 @@ fn write_at(text: &mut [u8], at: usize, part: &[u8])
 pub fn key_id(facts: &RealmFacts, place: u64) -> KeyId
     ensures { result ≡ key_id_at facts.now place }
 {
+    key_id_of(&facts.root, facts.boot, place)
+}
+
+/// The same by the root secret and the boot number alone: ten bytes of the HMAC-SHA-256 of "key", the
+/// boot and the place, and then the place.
+pub fn key_id_of(root: &[u8; 32], boot: u32, place: u64) -> KeyId
+    ensures { result ≡ take 10 (hmac_sha256 root.now (codes "key" ++ be32 boot ++ be48 place)) ++ be48 place }
+{
     let place = place_bytes(place);
-    let mut mac = Mac::new(&facts.root);
+    let mut mac = Mac::new(root);
     mac.add(b"key");
-    mac.add(&facts.boot.to_be_bytes());
+    mac.add(&boot.to_be_bytes());
     mac.add(&place);
     let digest = mac.end();
     let mut id = [0; 16];

@@ -40,7 +40,7 @@ pub use account_rows::{Entry, What};
 pub use authority::{Identity, IdentityList, PolicyList};
 pub use decide::Decision;
 pub use facts::RealmFacts;
-pub use ids::draw_line;
+pub use ids::{draw_line, key_id_of};
 pub use laws::{
     authority_passes_where_statements_allow, blobs_name_their_keys, denial_names_the_first_denied,
     dropped_grants_stay_away, grants_permit, house_is_kept_once, keys_differ,

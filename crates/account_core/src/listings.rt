@@ -306,7 +306,7 @@ fn has_sought(sought: &Sought, grant: &GrantRow) -> bool
 }
 
 /// A version of a key with its number, counted from 1.
-#[derive(Clone, Copy, PartialEq, Eq)]
+#[derive(Clone, Copy)]
 pub struct Numbered {
     /// The number.
     pub number: u64,

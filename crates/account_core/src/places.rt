@@ -16,7 +16,7 @@ pub struct Places {
 }
 
 /// How many words and initialization vectors a request that is served uses.
-#[derive(Clone, Copy, PartialEq, Eq)]
+#[derive(Clone, Copy)]
 pub struct Uses {
     /// The words that it draws.
     pub words: u64,

@@ -4,7 +4,7 @@ ghost use Rattle.authority.specs.Allowed.{settled};
 
 /// What policies say of a question (IAM User Guide, "Policy evaluation logic"; AWS KMS Developer Guide, "Grants in AWS
 /// KMS"): a statement that denies it outweighs each that allows it, and a grant as well.
-#[derive(Clone, Copy, PartialEq, Eq)]
+#[derive(Clone, Copy)]
 pub enum Standing {
     /// A statement denies it, or it is about no key and none allows it.
     Denied,

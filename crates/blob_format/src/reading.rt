@@ -14,7 +14,7 @@ const SMALLEST: usize = OVERHEAD + 1;
 const LARGEST: usize = OVERHEAD + 4096;
 
 /// What a blob says. The ciphertext stands in the blob's bytes from `text_from` up to `text_to`.
-#[derive(Clone, Copy, PartialEq, Eq)]
+#[derive(Clone, Copy)]
 pub struct Blob {
     /// The key that the text was sealed under.
     pub key: KeyId,

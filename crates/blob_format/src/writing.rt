@@ -8,7 +8,8 @@ use std::alloc::Global;
 /// Writes a blob's head behind what is there: its form, the key's id and the version, which are 21
 /// bytes (`HEAD_SIZE`).
 pub fn push_head(bytes: &mut Vec<u8>, key: &KeyId, version: u32) -> Result<(), NoMemory>
-    ensures { IfOk result (λ _. bytes.new.items ≡ bytes.old.items ++ blob_head key.now version) }
+    ensures written { IfOk result (λ _. bytes.new.items ≡ bytes.old.items ++ blob_head key.now version) }
+    ensures size { IfOk result (λ _. length (blob_head key.now version) ≡ 21) }
 {
     bytes.push(FORMAT)?;
     bytes.extend_from_slice(key.as_bytes())?;

@@ -43,9 +43,21 @@ pub fn read_arn(text: &str) -> Option<Arn<'_>>
 /// The parts of a pattern of ARNs, each a pattern. Contracts see it as the list of their texts.
 #[derive(Drop)]
 pub struct ArnPattern {
+    front: FrontPattern,
+    back: BackPattern,
+}
+
+// The first three parts.
+#[derive(Drop)]
+struct FrontPattern {
     scheme: Pattern,
     partition: Pattern,
     service: Pattern,
+}
+
+// The last three parts.
+#[derive(Drop)]
+struct BackPattern {
     region: Pattern,
     account: Pattern,
     resource: Pattern,
@@ -77,12 +89,8 @@ impl ArnPattern {
         ensures { IfOk result (λ pattern. pattern ≡ parts_of arn.entry) }
     {
         Ok(ArnPattern {
-            scheme: Pattern::new(alloc, arn.scheme)?,
-            partition: Pattern::new(alloc, arn.partition)?,
-            service: Pattern::new(alloc, arn.service)?,
-            region: Pattern::new(alloc, arn.region)?,
-            account: Pattern::new(alloc, arn.account)?,
-            resource: Pattern::new(alloc, arn.resource)?,
+            front: FrontPattern::of(alloc, arn)?,
+            back: BackPattern::of(alloc, arn)?,
         })
     }
 
@@ -90,25 +98,39 @@ impl ArnPattern {
     pub fn matches(&self, arn: &Arn<'_>) -> bool
         ensures { IsTrue result ↔ AllZip IsLike (parts_of arn.now) self.now }
     {
-        self.scheme.matches(arn.scheme)
-            && self.partition.matches(arn.partition)
-            && self.service.matches(arn.service)
-            && self.region.matches(arn.region)
-            && self.account.matches(arn.account)
-            && self.resource.matches(arn.resource)
+        self.front.scheme.matches(arn.scheme)
+            && self.front.partition.matches(arn.partition)
+            && self.front.service.matches(arn.service)
+            && self.back.region.matches(arn.region)
+            && self.back.account.matches(arn.account)
+            && self.back.resource.matches(arn.resource)
     }
+}
 
-    /// A copy that equals its source.
-    pub fn copy(&self) -> Result<ArnPattern, NoMemory>
-        ensures { IfOk result (λ pattern. pattern ≡ self.now) }
+impl FrontPattern {
+    fn of(alloc: Global, arn: Arn<'_>) -> Result<FrontPattern, NoMemory>
+        ensures scheme { IfOk result (λ front. front.scheme ≡ arn.entry.scheme.now) }
+        ensures partition { IfOk result (λ front. front.partition ≡ arn.entry.partition.now) }
+        ensures service { IfOk result (λ front. front.service ≡ arn.entry.service.now) }
     {
-        Ok(ArnPattern {
-            scheme: self.scheme.copy()?,
-            partition: self.partition.copy()?,
-            service: self.service.copy()?,
-            region: self.region.copy()?,
-            account: self.account.copy()?,
-            resource: self.resource.copy()?,
+        Ok(FrontPattern {
+            scheme: Pattern::new(alloc, arn.scheme)?,
+            partition: Pattern::new(alloc, arn.partition)?,
+            service: Pattern::new(alloc, arn.service)?,
+        })
+    }
+}
+
+impl BackPattern {
+    fn of(alloc: Global, arn: Arn<'_>) -> Result<BackPattern, NoMemory>
+        ensures region { IfOk result (λ back. back.region ≡ arn.entry.region.now) }
+        ensures account { IfOk result (λ back. back.account ≡ arn.entry.account.now) }
+        ensures resource { IfOk result (λ back. back.resource ≡ arn.entry.resource.now) }
+    {
+        Ok(BackPattern {
+            region: Pattern::new(alloc, arn.region)?,
+            account: Pattern::new(alloc, arn.account)?,
+            resource: Pattern::new(alloc, arn.resource)?,
         })
     }
 }

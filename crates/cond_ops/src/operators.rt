@@ -8,7 +8,7 @@ use kms_names::NoMemory;
 
 /// An operator of a condition, named as in a policy document, but `BoolIs` for `Bool` and `NullIs` for `Null`
 /// (IAM User Guide, "IAM JSON policy elements: Condition operators").
-#[derive(Clone, Copy, PartialEq, Eq)]
+#[derive(Clone, Copy)]
 pub enum Operator {
     StringEquals,
     StringNotEquals,
@@ -37,7 +37,7 @@ pub enum Operator {
 }
 
 /// How two numbers are compared. The request's value stands on the left.
-#[derive(Clone, Copy, PartialEq, Eq)]
+#[derive(Clone, Copy, Debug)]
 pub enum Order {
     /// The request's number is the policy's.
     Equal,
@@ -52,7 +52,7 @@ pub enum Order {
 }
 
 /// What an operator compares values as. An operator and its negation compare them as the same.
-#[derive(Clone, Copy, Debug, PartialEq, Eq)]
+#[derive(Clone, Copy, Debug)]
 pub enum Kind {
     /// Equal texts.
     Text,

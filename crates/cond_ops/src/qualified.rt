@@ -11,7 +11,7 @@ use kms_names::{NoMemory, Text, after};
 use std::alloc::Global;
 
 /// Which of the request's values a condition asks of (IAM User Guide, "Set operators for multivalued context keys").
-#[derive(Clone, Copy, PartialEq, Eq)]
+#[derive(Clone, Copy)]
 pub enum Qualifier {
     /// No prefix: of some value.
     Plain,
@@ -42,7 +42,7 @@ impl Qualifier {
 }
 
 /// An operator with its prefix and whether the suffix `IfExists` stands behind it.
-#[derive(Clone, Copy, PartialEq, Eq)]
+#[derive(Clone, Copy)]
 pub struct QualifiedOperator {
     /// The operator.
     pub operator: Operator,

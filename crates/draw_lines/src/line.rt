@@ -15,7 +15,7 @@ const LIMIT: u64 = 0x1_0000_0000_0000;
 const WORD_SIZE: usize = 4;
 
 /// What became of a draw.
-#[derive(Clone, Copy, PartialEq, Eq)]
+#[derive(Clone, Copy)]
 pub enum Drawn {
     /// The room was filled.
     Done,

@@ -16,7 +16,7 @@ pub enum StateFault {
 }
 
 /// What an operation needs of its key.
-#[derive(Clone, Copy, PartialEq, Eq)]
+#[derive(Clone, Copy)]
 enum Need {
     /// That it is enabled.
     Enabled,

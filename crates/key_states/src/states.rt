@@ -17,7 +17,7 @@ pub enum Stored {
 }
 
 /// The state of a key at a moment.
-#[derive(Clone, Copy, PartialEq, Eq)]
+#[derive(Clone, Copy)]
 pub enum State {
     /// The key may be used.
     Enabled,

@@ -4,7 +4,7 @@ use kms_names::NoMemory;
 use std::marker::Model;
 
 /// A version of a key's material (AWS KMS Developer Guide, "Rotate AWS KMS keys").
-#[derive(Clone, Copy, PartialEq, Eq)]
+#[derive(Clone, Copy)]
 pub struct Version {
     /// When it was made, in seconds since 1970.
     pub time: u64,

@@ -1,7 +1,7 @@
 // Points of a change at which a test may hold it up.
 
 /// A point that a change passes.
-#[derive(Clone, Copy, PartialEq, Eq)]
+#[derive(Clone, Copy)]
 pub enum Point {
     /// The desk's lock is held, and nothing of the change is published yet.
     AtDesk,

@@ -19,7 +19,7 @@ use crate::tables::states::SCHEDULE_KEY_DELETION;
 use crate::tables::{KEY_ALONE, LIST_OF_KEY};
 
 /// An operation of the AWS KMS API that this service serves.
-#[derive(Clone, Copy, PartialEq, Eq)]
+#[derive(Clone, Copy)]
 pub enum Operation {
     CreateKey,
     DescribeKey,

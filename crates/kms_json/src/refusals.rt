@@ -3,7 +3,7 @@ use crate::states::KeyState;
 use kms_names::{Action, Principal, Text};
 
 /// What a name was looked up for and not found.
-#[derive(Clone, Copy, PartialEq, Eq)]
+#[derive(Clone, Copy)]
 pub enum Missing {
     Key,
     Alias,
@@ -11,7 +11,7 @@ pub enum Missing {
 }
 
 /// What is counted and stands at its limit.
-#[derive(Clone, Copy, PartialEq, Eq)]
+#[derive(Clone, Copy)]
 pub enum Limit {
     Keys,
     /// The grants of a key.
@@ -32,7 +32,7 @@ pub enum Limit {
 }
 
 /// A field that is read and not supported, or not with its value.
-#[derive(Clone, Copy, PartialEq, Eq)]
+#[derive(Clone, Copy)]
 pub enum Unsupported {
     KeyUsage,
     CustomerMasterKeySpec,

@@ -31,7 +31,7 @@ pub struct KeyMetadata {
 }
 
 /// A key's automatic rotation (AWS KMS API Reference, GetKeyRotationStatus).
-#[derive(Clone, Copy, PartialEq, Eq)]
+#[derive(Clone, Copy)]
 pub struct AutomaticRotation {
     /// When the next rotation is due, in seconds since 1970.
     pub next: u64,

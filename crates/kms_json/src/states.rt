@@ -3,7 +3,7 @@ ghost use Rattle.std.specs.Prelude.{◌≡◌};
 ghost use Rattle.kms_json.specs.States.{state_name, is_enabled, deletion_date};
 
 /// The state of a key (AWS KMS API Reference, KeyMetadata, KeyState).
-#[derive(Clone, Copy, PartialEq, Eq)]
+#[derive(Clone, Copy)]
 pub enum KeyState {
     /// It may be used.
     Enabled,

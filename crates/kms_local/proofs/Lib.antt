@@ -1,6 +1,4 @@
 mod Callers
 mod Configured
-mod WordFacts
-mod NumberFacts
 mod Programs
 mod Clocks

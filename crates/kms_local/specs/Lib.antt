@@ -1,5 +1,3 @@
-pub mod Numbers
-pub mod Words
 pub mod Settings
 pub mod Files
 pub mod Program

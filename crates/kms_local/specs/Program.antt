@@ -18,7 +18,7 @@ use Rattle.kms_session.specs.Session.{outside, SendsWhole, SendsShort, EndsBy}
 use Rattle.kms_server.specs.declared.server.Served.{Served}
 use Rattle.kms_server.specs.Server.{Wanted, Surroundings, surroundings, ServesDoor, FindsShut, OpensNothing}
 use Rattle.kms_workload.specs.Summary.{Summarizes}
-use Rattle.kms_local.specs.Words.{Command, RunValues, ServeValues, run, run_file, check, serve, load, command_of}
+use Rattle.kms_words.specs.Words.{Command, RunValues, ServeValues, run, run_file, check, serve, load, command_of}
 use Rattle.kms_local.specs.Settings.{IsSettings, IsRefusedAt, IsConfigured, IsNobody}
 use Rattle.kms_local.specs.Files.{IsFileOf, IsFileRefused, IsFileTooLong}
 

@@ -15,8 +15,8 @@ use Rattle.kms_local.specs.declared.settings.RunOption.{RunOption}
 use Rattle.kms_local.specs.declared.settings.RunOption.TheVariants.{Account, Region, Root, Boot, As}
 use Rattle.kms_local.specs.declared.settings.SettingFault.{SettingFault}
 use Rattle.kms_local.specs.declared.settings.SettingFault.TheVariants as setting
-use Rattle.kms_local.specs.Numbers.{number_or}
-use Rattle.kms_local.specs.Words.{RunValues}
+use Rattle.kms_words.specs.Numbers.{number_or}
+use Rattle.kms_words.specs.Words.{RunValues}
 
 -- 64 hex digits of either case
 abbrev pub IsRootSecret : List ℕ → Type 0

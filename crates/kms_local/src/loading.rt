@@ -1,11 +1,11 @@
 // `load`.
 ghost use Rattle.kms_local.specs.Program.{Sums};
 
-use crate::asked::LoadWords;
 use crate::statuses::{NO_MEMORY, UNWRITTEN};
 use kms_io::{Gate, Link};
 use kms_names::NoMemory;
 use kms_session::send;
+use kms_words::LoadWords;
 use kms_workload::run_workload;
 use std::alloc::Global;
 use std::sync::Wait;

@@ -6,16 +6,15 @@ ghost use Rattle.hex.specs.Hex.{decode_of, is_hex_digit};
 ghost use Rattle.account_core.specs.Decide.{account_of};
 ghost use Rattle.kms_session.specs.Callers.{IsOfAccount};
 ghost use Rattle.kms_session.specs.declared.trust.Trust.TheVariants.{Signed};
-ghost use Rattle.kms_local.specs.Words.{values_in};
+ghost use Rattle.kms_words.specs.Words.{values_in};
 ghost use Rattle.kms_local.specs.Settings.{boot_of, IsSettings, IsConfigured, IsNobody, Names, UnlessMemory};
 
-use crate::asked::RunWords;
-use crate::numbers::number_or;
 use account_core::{IdentityList, RealmFacts};
 use hex::FromHex;
 use kms_config::Config;
 use kms_names::{AccountNumber, NameFault, NoMemory, Principal, Text, is_region, read_principal};
 use kms_session::Trust;
+use kms_words::{RunWords, number_or};
 use std::alloc::Global;
 
 /// An option of `run`.

@@ -58,7 +58,7 @@ impl Action {
 
 /// A set of actions, in 4 bytes. Contracts see it as a number whose bit at the number of an action is set where the
 /// action is in the set.
-#[derive(Clone, Copy, PartialEq, Eq)]
+#[derive(Clone, Copy)]
 pub struct ActionSet {
     bits: u32,
 }

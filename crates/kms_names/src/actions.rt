@@ -3,7 +3,7 @@ ghost use Rattle.kms_names.specs.Action.{action_name, action_number, action_text
 
 /// The name of an operation, with `ReEncryptFrom` and `ReEncryptTo` for `ReEncrypt`. The order is that of the
 /// table of operations, with `ReEncryptFrom` in the place of `ReEncrypt`, and `ReEncryptTo` last.
-#[derive(Clone, Copy, PartialEq, Eq, PartialOrd, Ord)]
+#[derive(Clone, Copy)]
 pub enum Action {
     CreateKey,
     DescribeKey,

@@ -7,7 +7,7 @@ use crate::actions::Action;
 use crate::faults::NoMemory;
 
 /// An operation that a grant may permit. The order is that in which they are printed.
-#[derive(Clone, Copy, PartialEq, Eq, PartialOrd, Ord)]
+#[derive(Clone, Copy)]
 pub enum GrantOp {
     Encrypt,
     Decrypt,
@@ -78,7 +78,7 @@ impl GrantOp {
 }
 
 /// A set of grant operations: which of them are in it.
-#[derive(Clone, Copy, PartialEq, Eq)]
+#[derive(Clone, Copy)]
 pub struct GrantOps {
     pub encrypt: bool,
     pub decrypt: bool,

@@ -30,7 +30,7 @@ pub struct Order<'a> {
 }
 
 /// What was served.
-#[derive(Clone, Copy, PartialEq, Eq)]
+#[derive(Clone, Copy)]
 pub struct Served {
     /// How many connections were taken.
     pub connections: u64,
@@ -41,7 +41,7 @@ pub struct Served {
 }
 
 /// What came of an order.
-#[derive(Clone, Copy, PartialEq, Eq)]
+#[derive(Clone, Copy)]
 pub enum Outcome {
     /// The workers worked, and the ears are back at the door.
     Served(Served),

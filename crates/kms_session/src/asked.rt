@@ -10,7 +10,7 @@ use kms_json::{AskBody, JsonFault, read_ask};
 use std::alloc::Global;
 
 /// What the header x-kms-after asks: how many entries the answer must stand on.
-#[derive(Clone, Copy, PartialEq, Eq)]
+#[derive(Clone, Copy)]
 pub enum After {
     /// At least so many, or any number where the header is absent.
     Entries(Option<u64>),

@@ -34,7 +34,7 @@ const FIVE_HUNDRED: &[u8] =
     b"HTTP/1.1 500 Internal Server Error\r\nContent-Type: application/x-amz-json-1.1\r\nContent-Length: 61\r\n\r\n{\"__type\":\"KMSInternalException\",\"message\":\"Want of memory.\"}";
 
 /// How a session ends.
-#[derive(Clone, Copy, PartialEq, Eq)]
+#[derive(Clone, Copy)]
 pub enum SessionEnd {
     /// The input ended between two messages.
     Ended,

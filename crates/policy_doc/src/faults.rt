@@ -36,7 +36,7 @@ impl<T: Drop> From<AllocFailed<T>> for PolicyFault {
 }
 
 /// How a value departs from the grammar.
-#[derive(Clone, Copy, PartialEq, Eq)]
+#[derive(Clone, Copy)]
 pub enum Departure {
     BadShape,
     Unsupported,

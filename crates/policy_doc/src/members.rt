@@ -26,34 +26,18 @@ pub enum StatementName {
 fn statement_name(name: &str) -> Option<StatementName>
     ensures { result ≡ statement_name name.now }
 {
-    if name == "Sid" {
-        return Some(StatementName::Sid);
+    match name {
+        "Sid" => Some(StatementName::Sid),
+        "Effect" => Some(StatementName::Effect),
+        "Principal" => Some(StatementName::Principal),
+        "NotPrincipal" => Some(StatementName::NotPrincipal),
+        "Action" => Some(StatementName::Action),
+        "NotAction" => Some(StatementName::NotAction),
+        "Resource" => Some(StatementName::Resource),
+        "NotResource" => Some(StatementName::NotResource),
+        "Condition" => Some(StatementName::Condition),
+        _ => None,
     }
-    if name == "Effect" {
-        return Some(StatementName::Effect);
-    }
-    if name == "Principal" {
-        return Some(StatementName::Principal);
-    }
-    if name == "NotPrincipal" {
-        return Some(StatementName::NotPrincipal);
-    }
-    if name == "Action" {
-        return Some(StatementName::Action);
-    }
-    if name == "NotAction" {
-        return Some(StatementName::NotAction);
-    }
-    if name == "Resource" {
-        return Some(StatementName::Resource);
-    }
-    if name == "NotResource" {
-        return Some(StatementName::NotResource);
-    }
-    if name == "Condition" {
-        return Some(StatementName::Condition);
-    }
-    None
 }
 
 /// The members of a statement by their names, and the first of another name.
@@ -163,16 +147,12 @@ pub enum DocumentName {
 fn document_name(name: &str) -> Option<DocumentName>
     ensures { result ≡ document_name name.now }
 {
-    if name == "Version" {
-        return Some(DocumentName::Version);
+    match name {
+        "Version" => Some(DocumentName::Version),
+        "Id" => Some(DocumentName::Id),
+        "Statement" => Some(DocumentName::Statement),
+        _ => None,
     }
-    if name == "Id" {
-        return Some(DocumentName::Id);
-    }
-    if name == "Statement" {
-        return Some(DocumentName::Statement);
-    }
-    None
 }
 
 /// The members of a document by their names, and the first of another name.

@@ -6,7 +6,7 @@ use kms_names::{NoMemory, Principal, TextList};
 use std::marker::Model;
 
 /// What a policy is attached to.
-#[derive(Clone, Copy, PartialEq, Eq)]
+#[derive(Clone, Copy)]
 pub enum PolicyKind {
     /// A key; its statements name principals.
     Key,
@@ -15,7 +15,7 @@ pub enum PolicyKind {
 }
 
 /// Whom a statement names.
-#[derive(PartialEq, Eq, Drop)]
+#[derive(Drop)]
 pub enum Named {
     /// Every principal.
     Everyone,

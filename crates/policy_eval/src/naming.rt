@@ -9,7 +9,7 @@ use kms_names::Principal;
 use policy_doc::Named;
 
 /// Whom a statement is to name.
-#[derive(Clone, Copy, PartialEq, Eq)]
+#[derive(Clone, Copy)]
 pub enum Naming {
     /// Whomever: an identity policy's statements are about the principal that has the policy.
     Anyone,

@@ -1,7 +1,7 @@
 //! What a policy says of a request.
 
 /// What a policy says of a request.
-#[derive(Clone, Copy, PartialEq, Eq)]
+#[derive(Clone, Copy)]
 pub enum Verdict {
     /// A Deny statement matches; in a key policy it also names the caller, everyone, or the root of the caller's
     /// account.

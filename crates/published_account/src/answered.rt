@@ -18,7 +18,7 @@ pub struct Answered {
 }
 
 /// Why a read has no answer.
-#[derive(Clone, Copy, PartialEq, Eq)]
+#[derive(Clone, Copy)]
 pub enum Unread {
     /// The published account could not be entered; the pass is as it was, and the caller asks again.
     NotEntered,

@@ -165,7 +165,7 @@ pub fn beside<W: rt::Runtime + Threads + Wait + Sync>(world: &World<'_, W>) -> R
     Ok(())
 }
 
-// A scene of one worker.
+// A scene of one worker, or of four at the same door.
 #[derive(Clone, Copy)]
 struct Single<'a> {
     what: &'a str,
@@ -177,6 +177,8 @@ struct Single<'a> {
     // The third answer of the clock.
     later: u32,
     is_shut: bool,
+    // Whether there are four workers, and so too few ears.
+    lacks_ears: bool,
 }
 
 const ONE_KEY: Single<'static> = Single {
@@ -186,6 +188,7 @@ const ONE_KEY: Single<'static> = Single {
     connections: 1,
     later: NOW,
     is_shut: false,
+    lacks_ears: false,
 };
 
 // The first message is answered at the first answer of the clock, the second one at the second, and housekeeping comes
@@ -221,6 +224,12 @@ const SHUT: Single<'static> = Single {
     ..ONE_KEY
 };
 
+const FEWER_EARS: Single<'static> = Single {
+    what: "a door of one ear for four workers",
+    lacks_ears: true,
+    ..ONE_KEY
+};
+
 // The door of a scene, whose first opening fails if it is shut.
 fn door_of(alloc: Global, scene: &Single<'_>) -> Result<MemoryDoor, NoMemory> {
     let mut failing = Vec::new(alloc);
@@ -238,7 +247,8 @@ fn show_single<W: rt::Runtime + Threads + Wait + Sync>(
     scene: &Single<'_>,
 ) -> Result<(), Failure> {
     let mut door = door_of(world.alloc, scene)?;
-    let outcome = world.serve(1, scene.connections, scene.later, &mut door, &NoGate)?;
+    let workers = if scene.lacks_ears { 4 } else { 1 };
+    let outcome = world.serve(workers, scene.connections, scene.later, &mut door, &NoGate)?;
     let what = scene.what;
     let end = outcome_text(world.alloc, outcome)?;
     println!(world.rt; "{what}: {end}")?;
@@ -247,7 +257,15 @@ fn show_single<W: rt::Runtime + Threads + Wait + Sync>(
 
 /// One worker.
 pub fn alone<W: rt::Runtime + Threads + Wait + Sync>(world: &World<'_, W>) -> Result<(), Failure> {
-    for scene in [ONE_KEY, ROTATED, SECOND_LACKS, FAILS_15, FAILS_16, SHUT] {
+    for scene in [
+        ONE_KEY,
+        ROTATED,
+        SECOND_LACKS,
+        FAILS_15,
+        FAILS_16,
+        SHUT,
+        FEWER_EARS,
+    ] {
         show_single(world, &scene)?;
     }
     Ok(())

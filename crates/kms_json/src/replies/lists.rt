@@ -43,7 +43,7 @@ pub struct ListedGrant {
 }
 
 /// A rotation of a key as lists show it (AWS KMS API Reference, RotationsListEntry).
-#[derive(Clone, Copy, PartialEq, Eq)]
+#[derive(Clone, Copy)]
 pub struct Rotation {
     /// When it was, in seconds since 1970.
     pub date: u64,

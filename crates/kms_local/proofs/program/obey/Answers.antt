@@ -1,6 +1,6 @@
 use Rattle.std.proofs.Common.{Some, map, option_map, slice_set, subst, sym, refl, arith}
-use Rattle.kms_local.specs.declared.asked.Asked.{Asked}
-use Rattle.kms_local.specs.Words.{values_in, shown}
+use Rattle.kms_words.specs.declared.asked.Asked.{Asked}
+use Rattle.kms_words.specs.Words.{values_in, shown}
 use Rattle.kms_local.specs.Program.{around, everything, first_of, RunsValues, RunsConfig, WithFile, Does}
 use Rattle.kms_local.proofs.Clocks.{in_first_place, others_rest}
 use Rattle.kms_local.proofs.program.obey.Goals as goal

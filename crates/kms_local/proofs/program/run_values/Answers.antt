@@ -1,5 +1,5 @@
 use Rattle.std.proofs.Common.{refl, subst}
-use Rattle.kms_local.specs.Words.{values_in}
+use Rattle.kms_words.specs.Words.{values_in}
 use Rattle.kms_local.specs.Settings.{UnlessMemory}
 use Rattle.kms_local.specs.declared.settings.RunOption.{RunOption}
 use Rattle.kms_local.specs.Program.{SaysLine, refused_line, path_of, serves, refuses}

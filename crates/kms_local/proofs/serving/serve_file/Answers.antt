@@ -1,6 +1,6 @@
 use Rattle.std.proofs.Common.{map, refl, subst}
 use Rattle.kms_io.specs.Wire.{Wire}
-use Rattle.kms_local.specs.Words.{serve_values_in}
+use Rattle.kms_words.specs.Words.{serve_values_in}
 use Rattle.kms_local.specs.Program.{everything, first_of, ServesConfig, configured, otherwise}
 use Rattle.kms_local.proofs.serving.serve_file.Goals as goal
 
