@@ -1,9 +1,8 @@
-use Rattle.std.proofs.Common.{ap, ◌≡◌, ◌∙◌, true}
-use Rattle.clap.specs.Words.{App, app_of}
+use Rattle.std.proofs.Common.{ap, ◌∙◌, true}
+use Rattle.clap.specs.Words.{App}
 use Rattle.clap.specs.declared.builder.command.Command.{Command}
 use Rattle.clap.specs.declared.builder.command.Command.TheOpen.{Command-F}
 use Rattle.clap.specs.Simple.{app_of_fields}
-use Rattle.kms_words.specs.Words.{bare_line}
 use Rattle.kms_words.proofs.line.bare_command.Goals as goal
 
 pub returns : goal.returns
