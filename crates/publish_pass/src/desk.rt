@@ -1,5 +1,5 @@
 // The desk.
-ghost use Rattle.std.specs.Prelude.{◌≡◌, ◌<◌, ◌≤◌, ◌++◌, ◌∷◌, [], length, true, IfOk, OnOk, OnErr, IsTrue, ◌↔◌};
+ghost use Rattle.std.specs.Prelude.{◌≡◌, ◌<◌, ◌≤◌, ◌++◌, ◌∷◌, [], length, true, IfOk, IfSome, OnOk, OnErr, IsTrue, ◌↔◌};
 ghost use Rattle.std.specs.Arc.{arc_value};
 ghost use Rattle.kms_json.specs.Asks.{changes_account};
 ghost use Rattle.account_core.specs.Decide.{IsProper, IsNext};
@@ -39,6 +39,13 @@ impl<R: Realm> Model for Desk<R> {
     ghost view = { λ d. d.writer.desk.shown.value.whole.pairs };
 
     ghost invariant = { λ d. (d.book.total ≡ length d.writer.desk.shown.value.whole.pairs) × Names R.book R.facts R.passes d.writer.desk.shown.value };
+}
+
+// A reply as it is handed on, which is let go then.
+fn answer_owned(alloc: Global, front: u64, reply: Reply) -> Result<Answered, NoMemory>
+    ensures { IfOk result (λ a. (a.front ≡ front) × (answer_in a ≡ answer_of reply)) }
+{
+    answer_with(alloc, front, &reply)
 }
 
 impl<R: Realm> Desk<R> {
@@ -122,6 +129,22 @@ impl<R: Realm> Desk<R> {
         self.whole().next(alloc, entry, pass.number())
     }
 
+    // The published history with one more entry, which is in its log then; none where the log is longer, or full.
+    fn logged(&self, entry: Entry, number: u16) -> Option<Line<R>>
+        requires next { IsNext R.facts (entries_of self.now) entry × (0 < number) × (number ≤ R.passes) }
+        ensures { IfSome result (λ line. line ≡ self.now ++ (entry, number) ∷ []) }
+    {
+        let mut line = self.line();
+        if line.len() >= 1 << 62 {
+            return None;
+        }
+        if line.push(&self.head, &(entry, number)) {
+            Some(line)
+        } else {
+            None
+        }
+    }
+
     // Publishes the next account, whose last entry the pass makes. Where it answers want of memory nothing is
     // published; that doesn't come, since the desk alone makes the history longer.
     fn publish<W: Wait>(
@@ -138,11 +161,10 @@ impl<R: Realm> Desk<R> {
         ensures err { OnErr result ((self.new ≡ self.old) × (pass.new ≡ pass.old)) }
     {
         pass.own.reserve(1)?;
-        let mut line = self.line();
-        let place = line.len();
-        if place >= 1 << 62 || !line.push(&self.head, &(entry, pass.number())) {
+        let place = self.whole().len();
+        let Some(line) = self.logged(entry, pass.number()) else {
             return Err(NoMemory);
-        }
+        };
         let published = Published::new(whole, line.glimpse());
         show(rt, &mut self.writer, published);
         self.book.add(&mut pass.share, 1);
@@ -174,6 +196,24 @@ impl<R: Realm> Desk<R> {
         }
     }
 
+    // The next account, and the answer of the request that makes its last entry.
+    fn ready(
+        &self,
+        alloc: Global,
+        pass: &mut Pass<R>,
+        entry: &Entry,
+        reply: &Reply,
+    ) -> Result<(Arc<Whole>, Answered), NoMemory>
+        requires { IsNext R.facts (entries_of self.now) entry.now }
+        ensures pass { pass.new ≡ pass.old }
+        ensures whole { IfOk result (λ both. arc_value both.0 ≡ record { facts = R.facts; passes = R.passes; pairs = self.now ++ (entry.now, pass.old.number) ∷ [] }) }
+        ensures answer { IfOk result (λ both. (both.1.front ≡ length (self.now ++ (entry.now, pass.old.number) ∷ [])) × (answer_in both.1 ≡ answer_of reply.now)) }
+    {
+        let whole = self.prepare(alloc, pass, entry)?;
+        let answered = answer_with(alloc, whole.len(), reply)?;
+        Ok((whole, answered))
+    }
+
     // Publishes the entry of a request. The answer is made before.
     fn enact<W: Wait, G: Gate>(
         &mut self,
@@ -190,11 +230,29 @@ impl<R: Realm> Desk<R> {
         ensures answer { IfOk result (λ a. (a.front ≡ length pass.new.history) × (answer_in a ≡ answer_of reply.now)) }
         ensures err { OnErr result ((self.new ≡ self.old) × (pass.new ≡ pass.old)) }
     {
-        let whole = self.prepare(alloc, pass, &entry)?;
-        let answered = answer_with(alloc, whole.len(), reply)?;
+        let (whole, answered) = self.ready(alloc, pass, &entry, reply)?;
         gate.at(Point::AtDesk);
         self.publish(rt, pass, whole, entry)?;
         Ok(answered)
+    }
+
+    // The same of a reply that is let go then.
+    fn enact_owned<W: Wait, G: Gate>(
+        &mut self,
+        rt: &W,
+        alloc: Global,
+        pass: &mut Pass<R>,
+        entry: Entry,
+        reply: Reply,
+        gate: &G,
+    ) -> Result<Answered, NoMemory>
+        requires met { pass.old.history ≡ self.old }
+        requires next { IsNext R.facts (entries_of self.old) entry }
+        ensures made { OnOk result ((self.new ≡ pass.new.history) × (pass.new ≡ making pass.old entry)) }
+        ensures answer { IfOk result (λ a. (a.front ≡ length pass.new.history) × (answer_in a ≡ answer_of reply)) }
+        ensures err { OnErr result ((self.new ≡ self.old) × (pass.new ≡ pass.old)) }
+    {
+        self.enact(rt, alloc, pass, entry, &reply, gate)
     }
 
     // Answers a request that changes the account, and publishes its entry, if it has one.
@@ -215,9 +273,9 @@ impl<R: Realm> Desk<R> {
         let front = pass.seen();
         match self.account().decide_change(alloc, ask)? {
             Decision::Refused(reply) | Decision::Served(reply) => {
-                answer_with(alloc, front, &reply)
+                answer_owned(alloc, front, reply)
             }
-            Decision::Change(entry, reply) => self.enact(rt, alloc, pass, entry, &reply, gate),
+            Decision::Change(entry, reply) => self.enact_owned(rt, alloc, pass, entry, reply, gate),
         }
     }
 

@@ -1,5 +1,4 @@
 use Rattle.std.proofs.Common.{◌≡◌, sym, ap, ◌∙◌, length, ◌++◌, ◌∷◌, []}
-use Rattle.published_account.specs.Pairs.{Whole}
 use Rattle.published_account.specs.Growing.{Pairs}
 use Rattle.publish_pass.specs.Pass.{Pass, making}
 use Rattle.publish_pass.proofs.desk.Desk.enact.Goals as goal
@@ -8,7 +7,6 @@ pub returns-clause-answer : goal.returns-clause-answer
 returns-clause-answer g c =
     let s : Pass = c.args.pass.now in
     let made = c.in_ok-publish.ensures.ok in
-    let now : c.publish.new.pass ≡ making s c.args.entry = made.1 ∙ ap (λ (p : Pass). making p c.args.entry) c.in_ok-whole.ensures.pass in
-    let pairs = ap (λ (w : Whole). length w.pairs) (c.deref.ensures ∙ c.in_ok-whole.ensures.whole) in
+    let now : c.publish.new.pass ≡ making s c.args.entry = made.1 ∙ ap (λ (p : Pass). making p c.args.entry) c.ready.ensures.pass in
     let grown = ap (λ (h : Pairs). length (h ++ (c.args.entry, s.number) ∷ [])) (sym c.requires.met) in
-    (c.in_ok-answered.ensures.0 ∙ c.len.ensures.count ∙ pairs ∙ grown ∙ sym (ap (λ (p : Pass). length p.history) now), c.in_ok-answered.ensures.1)
+    (c.in_ok-whole.ensures.answer.0 ∙ grown ∙ sym (ap (λ (p : Pass). length p.history) now), c.in_ok-whole.ensures.answer.1)
