@@ -10,16 +10,17 @@ use Rattle.kms_json.specs.declared.refusals.Refusal.{Refusal}
 use Rattle.kms_json.proofs.Statuses.{refused_unserved}
 use Rattle.kms_json.specs.declared.replies.Reply.TheVariants.{Refused}
 use Rattle.account_core.specs.declared.decide.Decision.TheVariants as decision
-use Rattle.account_core.specs.declared.facts.RealmFacts.{RealmFacts}
+use Rattle.account_steps.specs.declared.facts.RealmFacts.{RealmFacts}
 use Rattle.account_rows.specs.declared.entries.Entry.{Entry}
-use Rattle.account_core.specs.declared.parts.Made.{Made}
-use Rattle.account_core.specs.declared.stops.Stop.{Stop}
-use Rattle.account_core.specs.declared.stops.Stop.TheVariants as stop
-use Rattle.account_core.specs.Places.{Places, no_places, line_at, IsWithin}
-use Rattle.account_core.specs.View.{View, view_of}
-use Rattle.account_core.specs.Steps.{unless}
-use Rattle.account_core.specs.Parts.{Outcome, Decided, decided_by, entry_of}
-use Rattle.account_core.specs.Settling.{Settles, Makes, effect_with}
+use Rattle.account_steps.specs.declared.parts.Made.{Made}
+use Rattle.account_steps.specs.declared.stops.Stop.{Stop}
+use Rattle.account_steps.specs.declared.stops.Stop.TheVariants as stop
+use Rattle.account_steps.specs.Places.{no_places, line_at, IsWithin}
+use Rattle.account_steps.specs.declared.places.Places.{Places}
+use Rattle.account_steps.specs.View.{View, view_of}
+use Rattle.account_steps.specs.Steps.{unless}
+use Rattle.account_steps.specs.Parts.{Outcome, Decided, decided_by, entry_of}
+use Rattle.account_steps.specs.Settling.{Settles, Makes, effect_with}
 use Rattle.account_core.specs.Operations.{change_outcome, read_outcome}
 use Rattle.account_core.specs.Decide.{lacking, body_outcome, decide, decision_by, decision_of}
 

@@ -5,14 +5,14 @@ use Rattle.draw_lines.specs.Iv.{iv_at}
 use Rattle.draw_lines.specs.Line.{Line}
 use Rattle.enc_context.specs.declared.pairs.Pair.{Pair}
 use Rattle.crypto_ops.specs.Sealed.{sealed}
-use Rattle.account_core.specs.declared.facts.RealmFacts.{RealmFacts}
+use Rattle.account_steps.specs.declared.facts.RealmFacts.{RealmFacts}
 use Rattle.kms_json.specs.declared.asks.cryptography.DataKey.{DataKey}
 use Rattle.key_states.specs.declared.rows.KeyRow.{KeyRow}
 use Rattle.account_core.specs.Crypto.{words_of, sealed_key}
-use Rattle.account_core.specs.Places.{places_of, line_at, IsLineOf}
-use Rattle.account_core.specs.Parts.{takes, after}
-use Rattle.account_core.specs.Steps.{seals, draws, newest_version}
-use Rattle.account_core.specs.View.{View}
+use Rattle.account_steps.specs.Places.{places_of, line_at, IsLineOf}
+use Rattle.account_steps.specs.Parts.{takes, after}
+use Rattle.account_steps.specs.Steps.{seals, draws, newest_version}
+use Rattle.account_steps.specs.View.{View}
 
 pub drawn_is : (view : View) (line : Line) (size n : ℕ) (room : List ℕ) → IsLineOf view.facts line → view.places ≡ places_of line → n ≡ size → room ≡ draw_at line.seed line.words n
     → room ≡ draws view.facts size view.places
@@ -37,8 +37,3 @@ sealed_is view x row line next size room blob at drawn on is =
     is ∙ sealed_after view.facts row x.context room line next size on
     ∙ ap (seals view.facts row x.context room) (sym at)
     ∙ ap (λ (text : List ℕ). seals view.facts row x.context text view.places) drawn
-
--- what follows of a value follows where there is one
-pub ok_where : {A E : Type 0} {P Q : A → Type 0} (r : Result A E) → ((v : A) → P v → Q v) → IfOk r P → IfOk r Q
-ok_where (Ok v) h k = h v k
-ok_where (Err e) h k = tt

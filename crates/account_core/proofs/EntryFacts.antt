@@ -8,12 +8,12 @@ use Rattle.kms_json.specs.declared.asks.Changing.TheVariants as changing
 use Rattle.kms_json.specs.declared.asks.Reading.{Reading}
 use Rattle.kms_json.specs.declared.asks.Reading.TheVariants as reading
 use Rattle.kms_json.specs.declared.refusals.Refusal.{Refusal}
-use Rattle.account_core.specs.declared.facts.RealmFacts.{RealmFacts}
+use Rattle.account_steps.specs.declared.facts.RealmFacts.{RealmFacts}
 use Rattle.account_rows.specs.declared.entries.Entry.{Entry}
 use Rattle.account_rows.specs.declared.entries.What.{What}
 use Rattle.account_rows.specs.declared.entries.What.TheVariants as what
-use Rattle.account_core.specs.declared.places.Uses.{Uses}
-use Rattle.account_core.specs.Ids.{key_id_at, grant_id_at}
+use Rattle.account_steps.specs.declared.places.Uses.{Uses}
+use Rattle.account_steps.specs.Ids.{key_id_at, grant_id_at}
 use Rattle.kms_json.specs.declared.asks.grants.CreateGrant.{CreateGrant}
 use Rattle.grant_table.specs.declared.rows.GrantRow.{GrantRow}
 use Rattle.account_core.specs.declared.grants.Granting.{Granting}
@@ -31,10 +31,10 @@ use Rattle.account_core.specs.Aliases.{changes_alias, done_to}
 use Rattle.account_core.specs.declared.lists.AccountList.TheVariants as all
 use Rattle.account_core.specs.declared.lists.KeyList.TheVariants as of
 use Rattle.account_core.specs.Lists.{lists_in, lists_on}
-use Rattle.account_core.specs.Places.{no_places}
-use Rattle.account_core.specs.View.{View, view_of, is_live, if_live, grant_held}
-use Rattle.account_core.specs.Steps.{unless, and_then, only_key_of}
-use Rattle.account_core.specs.Parts.{Parts, Outcome, Effect, takes, appends, entry_of, outcome, overfull, limited, decided_by, grant_id_of, grant_of_token}
+use Rattle.account_steps.specs.Places.{no_places}
+use Rattle.account_steps.specs.View.{View, view_of, is_live, if_live, grant_held}
+use Rattle.account_steps.specs.Steps.{unless, and_then, only_key_of}
+use Rattle.account_steps.specs.Parts.{Parts, Outcome, Effect, takes, appends, entry_of, outcome, overfull, limited, decided_by, grant_id_of, grant_of_token}
 use Rattle.account_core.specs.Keys.{creates_key, describes_key}
 use Rattle.account_core.specs.Policies.{puts_policy, gets_policy}
 use Rattle.account_core.specs.declared.key_changes.KeyChange.{KeyChange}
@@ -48,7 +48,7 @@ use Rattle.kms_json.proofs.Sizes.{asked_sized}
 use Rattle.account_core.specs.Crypto.{encrypts, decrypts, re_encrypts, generates_data_key, generates_sealed_data_key, generates_random}
 use Rattle.account_core.specs.Operations.{change_outcome, read_outcome}
 use Rattle.account_core.specs.Decide.{lacking, body_outcome, decide, IsProper}
-use Rattle.account_core.proofs.Passing.{Passed, passed, next_of, found_of, ok_of}
+use Rattle.account_steps.proofs.Passing.{Passed, passed, next_of, found_of, ok_of}
 
 effect_is : {F R : Type 0} {view : View} {parts : Parts F R} {o : Outcome} (p : Passed view parts o) → parts.effect p.found p.ready ≡ o.effect
 effect_is p = ap (λ (out : Outcome). out.effect) p.outcome_is

@@ -22,12 +22,12 @@ use Rattle.account_rows.proofs.GrantFacts.{grants_rise, grants-push}
 use Rattle.grant_table.specs.declared.rows.GrantRow.{GrantRow}
 use Rattle.account_rows.proofs.VersionFacts.{AreMadeFrom, made_push}
 use Rattle.account_rows.proofs.HouseFacts.{GivesDays, RowsHaveDays, days_after_entry, kept_once}
-use Rattle.account_core.specs.declared.facts.RealmFacts.{RealmFacts}
-use Rattle.account_core.specs.Ids.{key_id_at, grant_id_at, be32, be48}
-use Rattle.account_core.specs.Places.{no_places}
-use Rattle.account_core.specs.Steps.{or_else}
-use Rattle.account_core.specs.View.{View, view_of}
-use Rattle.account_core.specs.Parts.{overfull, full, entries_full, bytes_full}
+use Rattle.account_steps.specs.declared.facts.RealmFacts.{RealmFacts}
+use Rattle.account_steps.specs.Ids.{key_id_at, grant_id_at, be32, be48}
+use Rattle.account_steps.specs.Places.{no_places}
+use Rattle.account_steps.specs.Steps.{or_else}
+use Rattle.account_steps.specs.View.{View, view_of}
+use Rattle.account_steps.specs.Parts.{overfull, full, entries_full, bytes_full}
 use Rattle.account_core.specs.Decide.{IsNext, appended, kept, IsLawful, empty, longer}
 use Rattle.account_core.proofs.EntryFacts.{IsMadeAt, HoldsDropped, IsEntryAt, next_entry}
 

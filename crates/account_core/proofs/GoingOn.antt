@@ -6,11 +6,12 @@ use Rattle.kms_json.specs.declared.asks.Ask.{Ask}
 use Rattle.kms_json.specs.declared.asks.AskBody.{AskBody}
 use Rattle.kms_json.specs.declared.asks.AskBody.TheVariants as ask
 use Rattle.kms_json.specs.declared.refusals.Refusal.{Refusal}
-use Rattle.account_core.specs.declared.facts.RealmFacts.{RealmFacts}
+use Rattle.account_steps.specs.declared.facts.RealmFacts.{RealmFacts}
 use Rattle.account_rows.specs.declared.entries.Entry.{Entry}
-use Rattle.account_core.specs.Places.{Places, IsUpTo, IsWithin, places_of, line_at}
-use Rattle.account_core.specs.Steps.{unless}
-use Rattle.account_core.specs.Parts.{Outcome, Effect, takes, appends, after, decided_by}
+use Rattle.account_steps.specs.Places.{IsUpTo, IsWithin, places_of, line_at}
+use Rattle.account_steps.specs.declared.places.Places.{Places}
+use Rattle.account_steps.specs.Steps.{unless}
+use Rattle.account_steps.specs.Parts.{Outcome, Effect, takes, appends, after, decided_by}
 use Rattle.account_core.specs.Decide.{lacking, body_outcome, decide}
 
 abbrev GoesOn : Places → Places → Type 0

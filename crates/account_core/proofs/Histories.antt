@@ -1,7 +1,7 @@
 -- Lawful histories.
 use Rattle.std.proofs.Common.{◌≡◌, List, [], ◌∷◌, ◌++◌, sym, subst}
 use Rattle.account_rows.specs.declared.entries.Entry.{Entry}
-use Rattle.account_core.specs.declared.facts.RealmFacts.{RealmFacts}
+use Rattle.account_steps.specs.declared.facts.RealmFacts.{RealmFacts}
 use Rattle.account_core.specs.Decide.{IsLawful, IsNext, empty, longer}
 
 -- what holds of an account's fields

@@ -29,7 +29,7 @@ use Rattle.kms_json.specs.declared.replies.Reply.TheVariants as reply
 use Rattle.kms_json.specs.declared.refusals.Refusal.{Refusal}
 use Rattle.kms_json.specs.declared.refusals.Refusal.TheVariants as refusal
 use Rattle.kms_json.specs.declared.refusals.Unsupported.TheVariants.{Recipient}
-use Rattle.account_core.specs.declared.facts.RealmFacts.{RealmFacts}
+use Rattle.account_steps.specs.declared.facts.RealmFacts.{RealmFacts}
 use Rattle.account_rows.specs.declared.entries.Entry.{Entry}
 use Rattle.key_states.specs.declared.rows.KeyRow.{KeyRow}
 use Rattle.key_states.specs.declared.states.State.TheVariants as state
@@ -37,29 +37,31 @@ use Rattle.key_states.specs.declared.states.Stored.{Stored}
 use Rattle.key_states.specs.declared.states.Stored.TheVariants as at
 use Rattle.key_states.specs.Permissions.{refusal_of, need_of}
 use Rattle.key_states.specs.States.{state_of}
-use Rattle.account_core.specs.Ids.{key_id_at, be32, be48}
-use Rattle.account_core.specs.Places.{Places, IsUpTo, nothing_used}
-use Rattle.account_core.specs.Blobs.{BlobName, name_in, named_in}
+use Rattle.account_steps.specs.Ids.{key_id_at, be32, be48}
+use Rattle.account_steps.specs.Places.{IsUpTo, nothing_used}
+use Rattle.account_steps.specs.declared.places.Places.{Places}
+use Rattle.account_steps.specs.Blobs.{BlobName, name_in, named_in}
 use Rattle.account_rows.specs.History.{replay, latest_of, key_with, IsRowOf}
-use Rattle.account_core.specs.Source.{Source}
-use Rattle.account_core.specs.View.{View, view_of, unless_gone, key_held}
-use Rattle.account_core.specs.Steps.{unless, and_then, or_else, unfit, unsupported, key_if_given, other_key, alias_of, blob_name, source_in, source_of, newest_version, opens, seals, arn_of}
-use Rattle.account_core.specs.Authority.{on_key, denied, MayAsk}
-use Rattle.account_core.specs.declared.checks.Named.{Named}
-use Rattle.account_core.specs.Parts.{Outcome, takes, outcome, dead_token, decided_by, only_asked, refused_state, unfit_one, told_state}
-use Rattle.account_core.specs.Crypto.{decrypts, of_context}
+use Rattle.account_steps.specs.Source.{Source}
+use Rattle.account_steps.specs.View.{View, view_of, unless_gone, key_held}
+use Rattle.account_steps.specs.Steps.{unless, and_then, or_else, unfit, unsupported, key_if_given, other_key, alias_of, blob_name, source_in, source_of, newest_version, opens, seals, arn_of}
+use Rattle.account_steps.specs.Authority.{on_key, denied, MayAsk}
+use Rattle.account_steps.specs.declared.checks.Named.{Named}
+use Rattle.account_steps.specs.Parts.{Outcome, takes, outcome, dead_token, decided_by, only_asked, refused_state, unfit_one, told_state}
+use Rattle.account_core.specs.Crypto.{decrypts}
+use Rattle.account_steps.specs.Authority.{of_context}
 use Rattle.account_core.specs.Decide.{lacking, body_outcome, decide, IsNext, appended, kept, IsLawful, empty, longer}
 use Rattle.account_core.specs.Laws.{reply_to, PassGoesOn, no_request, one_more, wants_memory, iv_in, exception_of, unless_excepted, SealedIsDecryptedAgain, OnePassRepeatsNoIv, PassesShareNoIv, TimesNeverFall, HouseIsKeptOnce, KeysDiffer}
-use Rattle.account_core.proofs.BlobNames.{named_blob}
+use Rattle.account_steps.proofs.BlobNames.{named_blob}
 use Rattle.account_core.proofs.GoingOn.{decide_goes_on}
 use Rattle.account_rows.specs.Changes.{HasVersions, is_gone, is_state_gone}
 use Rattle.account_rows.proofs.RowFacts.{found_key, found_all, latest-push}
 use Rattle.account_rows.proofs.VersionFacts.{versions_grow}
 use Rattle.account_rows.proofs.HouseFacts.{kept_once}
 use Rattle.account_core.proofs.Fitting.{HasLaws, laws_of, comes_next, lawful_front, id_ends}
-use Rattle.account_core.proofs.Asking.{one_passes}
+use Rattle.account_steps.proofs.Asking.{one_passes}
 use Rattle.account_core.proofs.LawSealings.{IsText, is_sealed, there_of}
-use Rattle.account_core.proofs.Passing.{goes_through, stops_at_state}
+use Rattle.account_steps.proofs.Passing.{goes_through, stops_at_state}
 
 -- ---- the initialization vectors of a pass
 

@@ -23,28 +23,29 @@ use Rattle.kms_json.specs.declared.refusals.Refusal.TheVariants as refusal
 use Rattle.kms_json.specs.declared.refusals.Missing.TheVariants as missing
 use Rattle.kms_json.specs.Asks.{IsSized, IsSizedReading}
 use Rattle.kms_json.proofs.Sizes.{asked_sized}
-use Rattle.account_core.specs.declared.facts.RealmFacts.{RealmFacts}
+use Rattle.account_steps.specs.declared.facts.RealmFacts.{RealmFacts}
 use Rattle.account_rows.specs.declared.entries.Entry.{Entry}
 use Rattle.key_states.specs.declared.rows.KeyRow.{KeyRow}
 use Rattle.account_core.specs.declared.re_encrypt.Turning.{Turning}
-use Rattle.account_core.specs.declared.places.Uses.{Uses}
-use Rattle.account_core.specs.Places.{Places}
-use Rattle.account_core.specs.Blobs.{BlobName, name_in, named_in, has_form}
+use Rattle.account_steps.specs.declared.places.Uses.{Uses}
+use Rattle.account_steps.specs.declared.places.Places.{Places}
+use Rattle.account_steps.specs.Blobs.{BlobName, name_in, named_in, has_form}
 use Rattle.account_rows.specs.History.{replay, key_with}
-use Rattle.account_core.specs.Source.{Source}
+use Rattle.account_steps.specs.Source.{Source}
 use Rattle.alias_map.specs.declared.rows.AliasRow.{AliasRow}
 use Rattle.alias_map.specs.Aliases.{row_named}
-use Rattle.account_core.specs.declared.checks.Named.{Named}
-use Rattle.account_core.specs.View.{View, view_of, unless_gone, key_held, aliased}
+use Rattle.account_steps.specs.declared.checks.Named.{Named}
+use Rattle.account_steps.specs.View.{View, view_of, unless_gone, key_held, aliased}
 use Rattle.account_rows.specs.Changes.{is_gone}
-use Rattle.account_core.specs.Steps.{unless, or_else, and_then, unfit, named_by_id, named_by, named_by_alias, key_of_alias, alias_of, key_referred, reference_of, key_of, key_if_given, blob_name, other_key, held_key, source_in, source_of, newest_version, opens, seals, draws, arn_of}
-use Rattle.account_core.specs.Parts.{Outcome, takes, limited, spent, no_more_draws, no_more_ivs, after}
+use Rattle.account_steps.specs.Steps.{unless, or_else, and_then, unfit, named_by_id, named_by, named_by_alias, key_of_alias, alias_of, key_referred, reference_of, key_of, key_if_given, blob_name, other_key, held_key, source_in, source_of, newest_version, opens, seals, draws, arn_of}
+use Rattle.account_steps.specs.Parts.{Outcome, takes, limited, spent, no_more_draws, no_more_ivs, after}
 use Rattle.account_core.specs.Crypto.{one_iv, words_and_iv, encrypts, re_encrypts, generates_data_key, generates_sealed_data_key}
 use Rattle.account_core.specs.Decide.{decide, IsProper}
 use Rattle.account_core.specs.Laws.{Sealing, HasSealed, encrypted, re_encrypted, data_key, sealed_data_key}
-use Rattle.account_core.proofs.Openings.{size_of_opened}
+use Rattle.account_steps.proofs.Openings.{size_of_opened}
 use Rattle.account_rows.proofs.RowFacts.{found_key}
-use Rattle.account_core.proofs.Passing.{found_of, next_of, ok_of, ok_same, passed, Serves, serves_of}
+use Rattle.account_steps.proofs.Passing.{found_of, next_of, ok_of, ok_same, passed}
+use Rattle.account_core.proofs.Serving.{Serves, serves_of}
 
 -- ---- the keys
 

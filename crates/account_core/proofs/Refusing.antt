@@ -6,10 +6,10 @@ use Rattle.policy_doc.specs.declared.faults.PolicyFault.{PolicyFault}
 use Rattle.policy_doc.specs.declared.faults.PolicyFault.TheVariants as fault
 use Rattle.policy_doc.specs.declared.policies.Policy.{Policy}
 use Rattle.authority.specs.KeyPolicy.{fault_in, policy_in}
-use Rattle.account_core.specs.declared.stops.Stop.{Stop}
-use Rattle.account_core.specs.declared.stops.Stop.TheVariants as stop
-use Rattle.account_core.specs.Steps.{Passes}
-use Rattle.account_core.specs.View.{View}
+use Rattle.account_steps.specs.declared.stops.Stop.{Stop}
+use Rattle.account_steps.specs.declared.stops.Stop.TheVariants as stop
+use Rattle.account_steps.specs.Steps.{Passes}
+use Rattle.account_steps.specs.View.{View}
 use Rattle.account_core.specs.Policies.{malformed, StopsAt, IsStopAt, refused_by, locked_out, policy_refused}
 
 -- the stop at the fault that the document has

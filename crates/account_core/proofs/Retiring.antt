@@ -16,7 +16,7 @@ use Rattle.account_rows.specs.GrantChanges.{grants_after, new_grant}
 use Rattle.account_rows.specs.History.{replay, place_in_grant, IsMadeHere, IsGrantOf}
 use Rattle.account_rows.proofs.GrantFacts.{grants-push}
 use Rattle.account_rows.proofs.RowFacts.{length-push}
-use Rattle.account_core.specs.declared.facts.RealmFacts.{RealmFacts}
+use Rattle.account_steps.specs.declared.facts.RealmFacts.{RealmFacts}
 use Rattle.account_core.specs.Decide.{IsLawful, empty, longer}
 use Rattle.account_core.specs.Laws.{DroppedGrantsStayAway}
 use Rattle.account_core.proofs.EntryFacts.{HoldsDropped}

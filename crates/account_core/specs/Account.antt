@@ -1,6 +1,6 @@
 -- An account as contracts see it.
 use Rattle.std.specs.Prelude.{List}
-use Rattle.account_core.specs.declared.facts.RealmFacts.{RealmFacts}
+use Rattle.account_steps.specs.declared.facts.RealmFacts.{RealmFacts}
 use Rattle.account_rows.specs.declared.entries.Entry.{Entry}
 
 -- what is constant, and the entries in order

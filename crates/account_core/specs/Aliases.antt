@@ -11,10 +11,10 @@ use Rattle.account_rows.specs.declared.entries.What.TheVariants as what
 use Rattle.account_core.specs.declared.alias_changes.AliasChange.{AliasChange}
 use Rattle.account_core.specs.declared.alias_changes.AliasChange.TheVariants as change
 use Rattle.account_core.specs.declared.alias_changes.Moving.{Moving}
-use Rattle.account_core.specs.Steps.{unless, and_then, only_key_of, key_of_alias, alias_arn_of}
-use Rattle.account_core.specs.Authority.{Question, on_key, on_other, of_none, of_key}
-use Rattle.account_core.specs.View.{View, aliased}
-use Rattle.account_core.specs.Parts.{Parts, Use, Effect, appends}
+use Rattle.account_steps.specs.Steps.{unless, and_then, only_key_of, key_of_alias, alias_arn_of}
+use Rattle.account_steps.specs.Authority.{Question, on_key, on_other, of_none, of_key}
+use Rattle.account_steps.specs.View.{View, aliased}
+use Rattle.account_steps.specs.Parts.{Parts, Use, Effect, appends}
 
 abbrev pub action_of : AliasChange → Action
 action_of (change.Create key_id) = action.CreateAlias

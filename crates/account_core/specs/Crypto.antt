@@ -14,16 +14,16 @@ use Rattle.kms_json.specs.declared.replies.Reply.TheVariants as reply
 use Rattle.kms_json.specs.declared.refusals.Unsupported.TheVariants.{Recipient, CustomKeyStoreId}
 use Rattle.key_states.specs.declared.rows.KeyRow.{KeyRow}
 use Rattle.account_core.specs.declared.re_encrypt.Turning.{Turning}
-use Rattle.account_core.specs.declared.places.Uses.{Uses}
-use Rattle.account_core.specs.Places.{nothing_used}
-use Rattle.account_core.specs.Source.{Source}
-use Rattle.account_core.specs.Steps.{unless, and_then, unfit, unsupported, key_of, source_of, opens, seals, draws, arn_of}
-use Rattle.account_core.specs.Authority.{on_key, on_other, of_none, of_named}
-use Rattle.account_core.specs.View.{View}
-use Rattle.account_core.specs.declared.checks.Named.{Named}
+use Rattle.account_steps.specs.declared.places.Uses.{Uses}
+use Rattle.account_steps.specs.Places.{nothing_used}
+use Rattle.account_steps.specs.Source.{Source}
+use Rattle.account_steps.specs.Steps.{unless, and_then, unfit, unsupported, key_of, source_of, opens, seals, draws, arn_of}
+use Rattle.account_steps.specs.Authority.{on_key, on_other, of_none, of_context}
+use Rattle.account_steps.specs.View.{View}
+use Rattle.account_steps.specs.declared.checks.Named.{Named}
 use Rattle.enc_context.specs.declared.pairs.Pair.{Pair}
 use Rattle.authority.specs.Setting.{Particulars}
-use Rattle.account_core.specs.Parts.{Parts, takes}
+use Rattle.account_steps.specs.Parts.{Parts, takes}
 
 -- a sealing takes one initialization vector
 abbrev pub one_iv : Uses
@@ -36,10 +36,6 @@ words_of size = record { words = words_for size; ivs = 0 }
 -- a data key is drawn and sealed
 abbrev pub words_and_iv : ℕ → Uses
 words_and_iv size = record { words = words_for size; ivs = 1 }
-
--- what a request under an encryption context says of itself
-abbrev pub of_context : View → List ℕ → Option (List ℕ) → List Pair → Particulars
-of_context view key alias context = record (of_named view key alias) { context = context }
 
 -- Encrypt
 abbrev pub encrypts : View → Encrypt → Parts Named ⊤

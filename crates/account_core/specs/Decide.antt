@@ -10,15 +10,16 @@ use Rattle.kms_json.specs.Asks.{asked}
 use Rattle.kms_json.specs.Replies.{status_of}
 use Rattle.kms_names.specs.declared.principals.Principal.{Principal}
 use Rattle.kms_names.specs.declared.principals.Principal.TheVariants.{Root, User, Role}
-use Rattle.account_core.specs.declared.facts.RealmFacts.{RealmFacts}
+use Rattle.account_steps.specs.declared.facts.RealmFacts.{RealmFacts}
 use Rattle.account_rows.specs.declared.entries.Entry.{Entry}
 use Rattle.account_core.specs.declared.decide.Decision.{Decision}
 use Rattle.account_core.specs.declared.decide.Decision.TheVariants as decision
-use Rattle.account_core.specs.Places.{Places, no_places}
+use Rattle.account_steps.specs.Places.{no_places}
+use Rattle.account_steps.specs.declared.places.Places.{Places}
 use Rattle.account_rows.specs.History.{housekeeping_of}
-use Rattle.account_core.specs.Steps.{unless}
-use Rattle.account_core.specs.View.{view_of}
-use Rattle.account_core.specs.Parts.{Outcome, Decided, decided_by}
+use Rattle.account_steps.specs.Steps.{unless}
+use Rattle.account_steps.specs.View.{view_of}
+use Rattle.account_steps.specs.Parts.{Outcome, Decided, decided_by}
 use Rattle.account_core.specs.Operations.{change_outcome, read_outcome}
 
 -- the history has fewer entries than the request asks for

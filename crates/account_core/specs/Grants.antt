@@ -23,12 +23,12 @@ use Rattle.key_states.specs.declared.rows.KeyRow.{KeyRow}
 use Rattle.account_rows.specs.declared.entries.What.TheVariants as what
 use Rattle.account_core.specs.declared.grants.Granting.{Granting}
 use Rattle.account_core.specs.declared.grants.Revoking.{Revoking}
-use Rattle.account_core.specs.Ids.{grant_id_at}
-use Rattle.account_core.specs.Places.{nothing_used}
-use Rattle.account_core.specs.Steps.{unless, and_then, only_key_of}
-use Rattle.account_core.specs.Authority.{on_key, retiring, of_key}
-use Rattle.account_core.specs.View.{View, grant_held}
-use Rattle.account_core.specs.Parts.{Parts, Effect, takes, appends, grant_id_of, grant_of_token}
+use Rattle.account_steps.specs.Ids.{grant_id_at}
+use Rattle.account_steps.specs.Places.{nothing_used}
+use Rattle.account_steps.specs.Steps.{unless, and_then, only_key_of}
+use Rattle.account_steps.specs.Authority.{on_key, retiring, of_key}
+use Rattle.account_steps.specs.View.{View, grant_held}
+use Rattle.account_steps.specs.Parts.{Parts, Effect, takes, appends, grant_id_of, grant_of_token}
 
 -- ---- what requests say
 

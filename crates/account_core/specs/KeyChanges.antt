@@ -15,12 +15,12 @@ use Rattle.account_rows.specs.declared.entries.What.TheVariants as what
 use Rattle.account_rows.specs.Changes.{days_after}
 use Rattle.account_core.specs.declared.key_changes.KeyChange.{KeyChange}
 use Rattle.account_core.specs.declared.key_changes.KeyChange.TheVariants as change
-use Rattle.account_core.specs.Places.{nothing_used}
-use Rattle.account_core.specs.Steps.{only_key_of, arn_of}
+use Rattle.account_steps.specs.Places.{nothing_used}
+use Rattle.account_steps.specs.Steps.{only_key_of, arn_of}
 use Rattle.authority.specs.Setting.{Particulars}
-use Rattle.account_core.specs.Authority.{on_key, of_key}
-use Rattle.account_core.specs.View.{View}
-use Rattle.account_core.specs.Parts.{Parts, Effect, takes, appends}
+use Rattle.account_steps.specs.Authority.{on_key, of_key}
+use Rattle.account_steps.specs.View.{View}
+use Rattle.account_steps.specs.Parts.{Parts, Effect, takes, appends}
 
 abbrev pub action_of : KeyChange → Action
 action_of change.Enable = action.EnableKey

@@ -13,16 +13,16 @@ use Rattle.kms_json.specs.declared.states.KeyState.{KeyState}
 use Rattle.kms_json.specs.declared.states.KeyState.TheVariants as state
 use Rattle.kms_json.specs.declared.replies.Reply.TheVariants as reply
 use Rattle.authority.specs.KeyPolicy.{default_text}
-use Rattle.account_core.specs.declared.facts.RealmFacts.{RealmFacts}
+use Rattle.account_steps.specs.declared.facts.RealmFacts.{RealmFacts}
 use Rattle.account_rows.specs.declared.entries.What.TheVariants as what
 use Rattle.key_states.specs.declared.rows.KeyRow.{KeyRow}
-use Rattle.account_core.specs.Ids.{key_id_at}
-use Rattle.account_core.specs.Places.{nothing_used}
-use Rattle.account_core.specs.Steps.{unless, or_else, unsupported, key_of}
-use Rattle.account_core.specs.Authority.{on_key, on_other, of_new_key, of_named}
-use Rattle.account_core.specs.View.{View}
-use Rattle.account_core.specs.declared.checks.Named.{Named}
-use Rattle.account_core.specs.Parts.{Parts, takes, appends, told_state}
+use Rattle.account_steps.specs.Ids.{key_id_at}
+use Rattle.account_steps.specs.Places.{nothing_used}
+use Rattle.account_steps.specs.Steps.{unless, or_else, unsupported, key_of}
+use Rattle.account_steps.specs.Authority.{on_key, on_other, of_new_key, of_named}
+use Rattle.account_steps.specs.View.{View}
+use Rattle.account_steps.specs.declared.checks.Named.{Named}
+use Rattle.account_steps.specs.Parts.{Parts, takes, appends, told_state}
 use Rattle.account_core.specs.Policies.{policy_refused}
 
 -- a key as replies describe it

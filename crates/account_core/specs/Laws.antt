@@ -23,22 +23,23 @@ use Rattle.kms_json.specs.declared.replies.Reply.TheVariants.{Refused}
 use Rattle.kms_json.specs.declared.states.KeyState.TheVariants as told
 use Rattle.key_states.specs.declared.states.Stored.{Stored}
 use Rattle.key_states.specs.declared.states.Stored.TheVariants as stored
-use Rattle.account_core.specs.declared.facts.RealmFacts.{RealmFacts}
+use Rattle.account_steps.specs.declared.facts.RealmFacts.{RealmFacts}
 use Rattle.account_rows.specs.declared.entries.Entry.{Entry}
 use Rattle.key_states.specs.declared.rows.KeyRow.{KeyRow}
-use Rattle.account_core.specs.Ids.{key_id_at}
-use Rattle.account_core.specs.Places.{Places, IsUpTo}
-use Rattle.account_core.specs.Blobs.{BlobName, name_in, named_in}
+use Rattle.account_steps.specs.Ids.{key_id_at}
+use Rattle.account_steps.specs.Places.{IsUpTo}
+use Rattle.account_steps.specs.declared.places.Places.{Places}
+use Rattle.account_steps.specs.Blobs.{BlobName, name_in, named_in}
 use Rattle.account_rows.specs.declared.entries.What.TheVariants as what
 use Rattle.grant_table.specs.Grants.{grant_with}
 use Rattle.account_rows.specs.History.{replay, housekeeping_of}
-use Rattle.account_core.specs.View.{View, view_of, key_held}
-use Rattle.account_core.specs.Steps.{unfit, draws, key_if_given, other_key, alias_of}
-use Rattle.account_core.specs.declared.checks.Named.{Named}
+use Rattle.account_steps.specs.View.{View, view_of, key_held}
+use Rattle.account_steps.specs.Steps.{unfit, draws, key_if_given, other_key, alias_of}
+use Rattle.account_steps.specs.declared.checks.Named.{Named}
 use Rattle.authority.specs.Setting.{Particulars}
-use Rattle.account_core.specs.Authority.{Question, on_key, action_of, resource_of, denied, setting_of, granted, IsGranted, MayAsk}
-use Rattle.account_core.specs.Crypto.{of_context}
-use Rattle.account_core.specs.Parts.{dead_token}
+use Rattle.account_steps.specs.Authority.{Question, on_key, action_of, resource_of, denied, setting_of, granted, IsGranted, MayAsk}
+use Rattle.account_steps.specs.Authority.{of_context}
+use Rattle.account_steps.specs.Parts.{dead_token}
 use Rattle.account_core.specs.Decide.{lacking, decide, IsProper, IsLawful}
 
 -- a blob, the text that is sealed in it, the context that it is sealed under, and the ARN of the key

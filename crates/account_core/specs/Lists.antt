@@ -33,12 +33,12 @@ use Rattle.account_core.specs.declared.lists.KeyList.TheVariants as of
 use Rattle.account_core.specs.declared.lists.ListedOf.{ListedOf}
 use Rattle.account_core.specs.declared.lists.Sought.{Sought}
 use Rattle.account_core.specs.declared.listings.Numbered.{Numbered}
-use Rattle.account_core.specs.Places.{nothing_used}
-use Rattle.account_core.specs.Steps.{and_then, only_key_of}
-use Rattle.account_core.specs.Authority.{on_key, on_other, of_none, of_key}
-use Rattle.account_core.specs.View.{View, key_held, is_live}
+use Rattle.account_steps.specs.Places.{nothing_used}
+use Rattle.account_steps.specs.Steps.{and_then, only_key_of}
+use Rattle.account_steps.specs.Authority.{on_key, on_other, of_none, of_key}
+use Rattle.account_steps.specs.View.{View, key_held, is_live}
 use Rattle.account_core.specs.Pages.{Part, part_of, behind_marker, PartsMakeTheWhole}
-use Rattle.account_core.specs.Parts.{Parts, takes}
+use Rattle.account_steps.specs.Parts.{Parts, takes}
 use Rattle.account_core.specs.Grants.{principal_in, principal_if_given, grant_id_in}
 
 -- ---- the rows that are listed

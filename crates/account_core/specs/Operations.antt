@@ -5,8 +5,8 @@ use Rattle.kms_json.specs.declared.asks.Changing.TheVariants as changing
 use Rattle.kms_json.specs.declared.asks.Reading.{Reading}
 use Rattle.kms_json.specs.declared.asks.Reading.TheVariants as reading
 use Rattle.kms_json.specs.declared.refusals.Refusal.{Refusal}
-use Rattle.account_core.specs.View.{View}
-use Rattle.account_core.specs.Parts.{Outcome, outcome}
+use Rattle.account_steps.specs.View.{View}
+use Rattle.account_steps.specs.Parts.{Outcome, outcome}
 use Rattle.account_core.specs.Keys.{creates_key, describes_key}
 use Rattle.account_core.specs.Policies.{puts_policy, gets_policy}
 use Rattle.account_core.specs.declared.key_changes.KeyChange.TheVariants as change

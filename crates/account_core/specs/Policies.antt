@@ -12,13 +12,13 @@ use Rattle.policy_doc.specs.declared.policies.Policy.{Policy}
 use Rattle.authority.specs.KeyPolicy.{fault_in, policy_in}
 use Rattle.account_rows.specs.declared.entries.What.TheVariants as what
 use Rattle.key_states.specs.declared.rows.KeyRow.{KeyRow}
-use Rattle.account_core.specs.declared.stops.Stop.{Stop}
-use Rattle.account_core.specs.declared.stops.Stop.TheVariants as stop
-use Rattle.account_core.specs.Places.{nothing_used}
-use Rattle.account_core.specs.Steps.{unless, only_key_of}
-use Rattle.account_core.specs.Authority.{on_key, may_on_key, of_key}
-use Rattle.account_core.specs.View.{View}
-use Rattle.account_core.specs.Parts.{Parts, takes, appends}
+use Rattle.account_steps.specs.declared.stops.Stop.{Stop}
+use Rattle.account_steps.specs.declared.stops.Stop.TheVariants as stop
+use Rattle.account_steps.specs.Places.{nothing_used}
+use Rattle.account_steps.specs.Steps.{unless, only_key_of}
+use Rattle.account_steps.specs.Authority.{on_key, may_on_key, of_key}
+use Rattle.account_steps.specs.View.{View}
+use Rattle.account_steps.specs.Parts.{Parts, takes, appends}
 
 -- a fault of a document, as a refusal tells it
 abbrev pub flaw_of : PolicyFault → PolicyFlaw

@@ -3,12 +3,10 @@ ghost use Rattle.std.specs.Prelude.{◌≡◌, ◌<◌, ◌++◌, ◌∷◌, [],
 
 use crate::decide::{decision_from, lacking_entries};
 use crate::operations::{change_body, read_body};
-use crate::places::Places;
 use crate::realm::Realm;
-use crate::stops::Stop;
-use crate::view::View;
-use crate::{Decision, Entry, RealmFacts};
+use crate::{Decision, Entry};
 use account_rows::Rows;
+use account_steps::{Places, RealmFacts, Stop, View};
 use draw_lines::DrawLine;
 use kms_json::{Ask, AskBody, Reply};
 use kms_names::NoMemory;
@@ -39,8 +37,8 @@ impl Account {
     ghost use Rattle.kms_json.specs.Asks.{changes_account};
     ghost use Rattle.account_rows.specs.History.{latest_of, housekeeping_of};
     ghost use Rattle.std.specs.Prelude.{OnOk, OnErr};
-    ghost use Rattle.account_core.specs.Places.{places_of, line_at, IsLineOf, IsWithin};
-    ghost use Rattle.account_core.specs.View.{view_of};
+    ghost use Rattle.account_steps.specs.Places.{places_of, line_at, IsLineOf, IsWithin};
+    ghost use Rattle.account_steps.specs.View.{view_of};
     ghost use Rattle.account_core.specs.Decide.{decide, decision_of, IsProper, IsNext, IsLawful};
 
     /// The account of these facts with no entries.

@@ -2,13 +2,11 @@
 ghost use Rattle.std.specs.Prelude.{◌≡◌};
 ghost use Rattle.account_core.specs.Aliases.{action_of, changes_alias};
 
-use crate::checks::{key_of_alias, only_key_of};
-use crate::particulars::{of_key, of_none};
-use crate::parts::{Changes, Made, Operation, refuse};
-use crate::stops::Stop;
-use crate::texts::LentText;
-use crate::view::View;
 use account_rows::{Entry, Lent, What};
+use account_steps::{
+    Changes, LentText, Made, Operation, Stop, View, key_of_alias, of_key, of_none, only_key_of,
+    refuse,
+};
 use kms_json::{Refusal, Reply};
 use kms_names::{Action, AliasName, NoMemory, Text, alias_arn};
 use std::alloc::Global;
@@ -59,9 +57,9 @@ pub struct ChangingAlias<'a> {
 
 impl<'a> ChangingAlias<'a> {
     ghost use Rattle.std.specs.Prelude.{◌≡◌, IfOk};
-    ghost use Rattle.account_core.specs.Steps.{Passes};
-    ghost use Rattle.account_core.specs.Authority.{denied, denied_one, on_other, of_none};
-    ghost use Rattle.account_core.specs.Steps.{alias_arn_of};
+    ghost use Rattle.account_steps.specs.Steps.{Passes};
+    ghost use Rattle.account_steps.specs.Authority.{denied, denied_one, on_other, of_none};
+    ghost use Rattle.account_steps.specs.Steps.{alias_arn_of};
     ghost use Rattle.account_core.specs.Aliases.{action_of, question_on, taken, done_to};
 
     // Whether the caller may do it on a key, where there is one.

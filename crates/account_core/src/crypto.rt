@@ -1,14 +1,13 @@
 // Sealing and drawing by the line of a pass.
 ghost use Rattle.std.specs.Prelude.{◌≡◌, ◌+◌, ◌^◌, ◌<◌, ◌≤◌, length, IfOk};
 ghost use Rattle.draw_lines.specs.Draw.{words_for, draw_at};
-ghost use Rattle.account_core.specs.Places.{places_of, line_at, IsLineOf};
-ghost use Rattle.account_core.specs.Parts.{after, takes};
-ghost use Rattle.account_core.specs.Steps.{seals};
+ghost use Rattle.account_steps.specs.Places.{places_of, line_at, IsLineOf};
+ghost use Rattle.account_steps.specs.Parts.{after, takes};
+ghost use Rattle.account_steps.specs.Steps.{seals};
 ghost use Rattle.account_core.specs.Crypto.{one_iv, words_of};
 
-use crate::places::Uses;
-use crate::view::View;
 use account_rows::Lent;
+use account_steps::{Uses, View};
 use crypto_ops::seal_blob;
 use draw_lines::DrawLine;
 use enc_context::Context;

@@ -2,14 +2,11 @@
 ghost use Rattle.std.specs.Prelude.{◌≤◌};
 ghost use Rattle.account_core.specs.Crypto.{generates_data_key, generates_sealed_data_key};
 
-use crate::checks::{Named, key_of, unsupported};
 use crate::crypto::{draw, seal};
-use crate::particulars::of_context;
-use crate::parts::{Operation, Reads, refuse};
-use crate::places::Uses;
-use crate::stops::Stop;
-use crate::view::View;
 use account_rows::Lent;
+use account_steps::{
+    Named, Operation, Reads, Stop, Uses, View, key_of, of_context, refuse, unsupported,
+};
 use draw_lines::DrawLine;
 use kms_json::{DataKey, Reply, Unsupported};
 use kms_names::{Action, Bytes, NoMemory, Text};
@@ -31,11 +28,11 @@ pub struct Drawing<'a> {
 
 impl<'a> Drawing<'a> {
     ghost use Rattle.std.specs.Prelude.{◌≡◌, ◌≤◌, ◌∷◌, [], IfOk, length, None};
-    ghost use Rattle.account_core.specs.Authority.{denied, on_key};
-    ghost use Rattle.account_core.specs.Crypto.{of_context};
-    ghost use Rattle.account_core.specs.Places.{places_of, line_at, IsLineOf};
-    ghost use Rattle.account_core.specs.Parts.{after, takes, spent};
-    ghost use Rattle.account_core.specs.Steps.{Passes, draws};
+    ghost use Rattle.account_steps.specs.Authority.{denied, on_key};
+    ghost use Rattle.account_steps.specs.Authority.{of_context};
+    ghost use Rattle.account_steps.specs.Places.{places_of, line_at, IsLineOf};
+    ghost use Rattle.account_steps.specs.Parts.{after, takes, spent};
+    ghost use Rattle.account_steps.specs.Steps.{Passes, draws};
     ghost use Rattle.account_core.specs.Crypto.{sealed_key, words_and_iv};
 
     // What a data key uses.

@@ -3,7 +3,7 @@ ghost use Rattle.std.specs.Prelude.{◌≡◌};
 ghost use Rattle.account_core.specs.Decide.{lacking, decision_by};
 
 use crate::Entry;
-use crate::parts::Made;
+use account_steps::Made;
 use kms_json::{Refusal, Reply};
 
 /// What a changing request is answered.

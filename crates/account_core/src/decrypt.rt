@@ -1,13 +1,9 @@
 // Decrypt.
 ghost use Rattle.account_core.specs.Crypto.{decrypts};
 
-use crate::checks::{unfit, unsupported};
-use crate::particulars::of_context;
-use crate::parts::{Operation, Reads, refuse};
-use crate::places::Uses;
-use crate::sources::{Sealed, find_source};
-use crate::stops::Stop;
-use crate::view::View;
+use account_steps::{
+    Operation, Reads, Sealed, Stop, Uses, View, find_source, of_context, refuse, unfit, unsupported,
+};
 use draw_lines::DrawLine;
 use kms_json::{Decrypt, Reply, Unsupported};
 use kms_names::{Action, Bytes, NoMemory, Text};

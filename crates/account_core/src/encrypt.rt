@@ -2,13 +2,8 @@
 ghost use Rattle.std.specs.Prelude.{◌≤◌, length};
 ghost use Rattle.account_core.specs.Crypto.{encrypts};
 
-use crate::checks::{Named, key_of, unfit};
 use crate::crypto::{ONE_IV, seal};
-use crate::particulars::of_context;
-use crate::parts::{Operation, Reads, refuse};
-use crate::places::Uses;
-use crate::stops::Stop;
-use crate::view::View;
+use account_steps::{Named, Operation, Reads, Stop, Uses, View, key_of, of_context, refuse, unfit};
 use draw_lines::DrawLine;
 use kms_json::{Encrypt, Reply};
 use kms_names::{Action, NoMemory, Text};

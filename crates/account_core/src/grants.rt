@@ -2,16 +2,14 @@
 ghost use Rattle.std.specs.Prelude.{◌≡◌, [], Some, IfOk, option_map, unwrap_or};
 ghost use Rattle.kms_json.specs.declared.replies.Reply.TheVariants as reply;
 ghost use Rattle.account_rows.specs.declared.entries.What.TheVariants as what;
-ghost use Rattle.account_core.specs.Steps.{Gives};
+ghost use Rattle.account_steps.specs.Steps.{Gives};
 ghost use Rattle.account_core.specs.Grants.{constraint_of, pairs_of, principal_in, principal_if_given, grant_id_in, grant_of, creates_grant, retires_grant, revokes_grant};
 
-use crate::checks::only_key_of;
-use crate::ids::grant_id;
-use crate::particulars::of_key;
-use crate::parts::{Changes, Made, Operation, grant_id_of, grant_of_token};
-use crate::stops::Stop;
-use crate::view::{LentGrant, View};
 use account_rows::{Entry, Lent, What, same_key};
+use account_steps::{
+    Changes, LentGrant, Made, Operation, Stop, View, grant_id, grant_id_of, grant_of_token, of_key,
+    only_key_of,
+};
 use authority::{GrantSaid, Particulars};
 use enc_context::Context;
 use grant_table::{Constraint, GrantRow};
@@ -122,8 +120,8 @@ pub fn creating_grant<'a>(
 
 impl<'a> CreatingGrant<'a> {
     ghost use Rattle.std.specs.Prelude.{◌≡◌, IfOk, None, option_map};
-    ghost use Rattle.account_core.specs.Ids.{grant_id_at};
-    ghost use Rattle.account_core.specs.Parts.{appends};
+    ghost use Rattle.account_steps.specs.Ids.{grant_id_at};
+    ghost use Rattle.account_steps.specs.Parts.{appends};
     ghost use Rattle.account_core.specs.Grants.{same_grant, of_grant, made_unless};
 
     // What the request says of itself.

@@ -1,15 +1,10 @@
 // The operations on the state, the rotation and the description of a key.
 ghost use Rattle.std.specs.Prelude.{◌≡◌, ◌<◌, ◌≤◌, IfOk};
 ghost use Rattle.account_core.specs.KeyChanges.{action_of, said_of, effect_at, reply_of, rotation_of, changes_key, updates_description, gets_rotation_status};
-ghost use Rattle.account_core.specs.Settling.{effect_with};
+ghost use Rattle.account_steps.specs.Settling.{effect_with};
 
-use crate::checks::only_key_of;
-use crate::particulars::of_key;
-use crate::parts::{Changes, Made, Operation, Reads};
-use crate::places::Uses;
-use crate::stops::Stop;
-use crate::view::View;
 use account_rows::{Entry, Lent, What, days_after};
+use account_steps::{Changes, Made, Operation, Reads, Stop, Uses, View, of_key, only_key_of};
 use authority::Particulars;
 use draw_lines::DrawLine;
 use key_states::{KeyRow, Stored};

@@ -1,18 +1,15 @@
 // The operations on keys: CreateKey and DescribeKey.
 ghost use Rattle.std.specs.Prelude.{◌≡◌, IfOk, codes};
 ghost use Rattle.kms_json.specs.declared.replies.Reply.TheVariants as Reply;
-ghost use Rattle.account_core.specs.Steps.{Passes};
+ghost use Rattle.account_steps.specs.Steps.{Passes};
 ghost use Rattle.account_core.specs.Keys.{description_of, creates_key, describes_key, unsupported_unless, unserved_key, policy_or_default, refused_if_given};
 
-use crate::checks::{Named, key_of, unsupported};
-use crate::ids::key_id;
-use crate::particulars::{of_named, of_new_key};
-use crate::parts::{Changes, Made, Operation, Reads, refuse};
-use crate::places::Uses;
 use crate::policies::accept;
-use crate::stops::Stop;
-use crate::view::{View, told_state};
 use account_rows::{Entry, What};
+use account_steps::{
+    Changes, Made, Named, Operation, Reads, Stop, Uses, View, key_id, key_of, of_named, of_new_key,
+    refuse, told_state, unsupported,
+};
 use authority::{Particulars, default_policy_text};
 use draw_lines::DrawLine;
 use kms_json::{CreateKey, KeyMetadata, KeyState, Refusal, Reply, SYMMETRIC_DEFAULT, Unsupported};

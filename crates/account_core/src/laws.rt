@@ -1,7 +1,7 @@
 //! Laws of what the account answers. Each stands as the contract of a function that does nothing.
 
 ghost use Rattle.account_core.specs.Laws.{SealedIsDecryptedAgain, OnePassRepeatsNoIv, PassesShareNoIv, BlobsAreNamed, NamedAreBlobs, TimesNeverFall, HouseIsKeptOnce, KeysDiffer, PassesWhereStatementsAllow, NamesTheFirstDenied, GrantsPermit, DroppedGrantsStayAway};
-ghost use Rattle.account_core.specs.View.{View};
+ghost use Rattle.account_steps.specs.View.{View};
 ghost use Rattle.account_core.specs.Lists.{PartsOfListsMakeTheWhole};
 
 /// What Encrypt, ReEncrypt or a data key call answered as sealed under a context, Decrypt opens to the

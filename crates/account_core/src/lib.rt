@@ -6,15 +6,12 @@
 
 mod account;
 mod alias_changes;
-mod checks;
 mod crypto;
 mod data_keys;
 mod decide;
 mod decrypt;
 mod encrypt;
-mod facts;
 mod grants;
-mod ids;
 mod key_changes;
 mod keys;
 mod laws;
@@ -22,25 +19,17 @@ mod listings;
 mod lists;
 mod operations;
 mod pages;
-mod particulars;
-mod parts;
-mod places;
 mod policies;
 mod random;
 mod re_encrypt;
 mod realm;
-mod sources;
-mod stops;
-mod texts;
 mod threads;
-mod view;
 
 pub use account::Account;
 pub use account_rows::{Entry, What};
+pub use account_steps::{RealmFacts, draw_line, key_id_of};
 pub use authority::{Identity, IdentityList, PolicyList};
 pub use decide::Decision;
-pub use facts::RealmFacts;
-pub use ids::{draw_line, key_id_of};
 pub use laws::{
     authority_passes_where_statements_allow, blobs_name_their_keys, denial_names_the_first_denied,
     dropped_grants_stay_away, grants_permit, house_is_kept_once, keys_differ,

@@ -4,8 +4,8 @@ ghost use Rattle.account_core.specs.Lists.{shown_constraint, shown_grant, has_so
 
 use crate::lists::Sought;
 use crate::pages::Listing;
-use crate::view::{LentGrant, View};
 use account_rows::{Lent, is_gone};
+use account_steps::{LentGrant, View};
 use alias_map::AliasRow;
 use grant_table::{Constraint, GrantRow, copy_of_name, copy_of_principal, same_principal};
 use key_states::{KeyRow, Version};
@@ -195,7 +195,7 @@ impl<'a> RetirableGrants<'a> {
 impl<'a> Listing for RetirableGrants<'a> {
     ghost use Rattle.std.specs.Prelude.{filter};
     ghost use Rattle.grant_table.specs.Grants.{has_retiring};
-    ghost use Rattle.account_core.specs.View.{is_live};
+    ghost use Rattle.account_steps.specs.View.{is_live};
     ghost use Rattle.account_core.specs.Lists.{shown_grant};
 
     type Row = LentGrant<'a>;

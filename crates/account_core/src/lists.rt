@@ -1,20 +1,14 @@
 // The operations that list.
 ghost use Rattle.std.specs.Prelude.{◌≡◌, IfOk};
-ghost use Rattle.account_core.specs.Steps.{Gives};
+ghost use Rattle.account_steps.specs.Steps.{Gives};
 ghost use Rattle.account_core.specs.Grants.{principal_if_given};
 ghost use Rattle.account_core.specs.Lists.{action_in, key_id_if_given, lists_in, grant_id_if_given, lists_on};
 
-use crate::checks::only_key_of;
 use crate::grants::{grant_id_in, principal_in};
 use crate::listings::{AliasesListed, GrantsOfKey, KeysListed, RetirableGrants, RotationsOf};
 use crate::pages::{behind_marker, part_behind};
-use crate::particulars::{of_key, of_none};
-use crate::parts::{Operation, Reads};
-use crate::places::Uses;
-use crate::stops::Stop;
-use crate::texts::LentText;
-use crate::view::View;
 use account_rows::Lent;
+use account_steps::{LentText, Operation, Reads, Stop, Uses, View, of_key, of_none, only_key_of};
 use draw_lines::DrawLine;
 use kms_json::{
     AliasList, AliasPage, GrantList, GrantPage, KeyIdList, KeyPage, Page, Reply, RotationList,
@@ -271,7 +265,7 @@ fn grantee_if_given(alloc: Global, text: &Option<LentText<'_>>) -> Result<Option
 
 impl KeyList<'_> {
     ghost use Rattle.std.specs.Prelude.{◌≡◌};
-    ghost use Rattle.account_core.specs.Steps.{Gives};
+    ghost use Rattle.account_steps.specs.Steps.{Gives};
     ghost use Rattle.account_core.specs.Lists.{action_on, sought_of};
 
     // What it is called where it is authorized.

@@ -1,10 +1,10 @@
 // Parts of lists.
 ghost use Rattle.std.specs.Prelude.{◌≡◌, ◌<◌, ◌≤◌, ℕ, List, Bool, AllPairs, IfOk, option_map, find, filter, map};
 ghost use Rattle.kms_names.specs.Place.{is_behind};
-ghost use Rattle.account_core.specs.Steps.{Gives};
+ghost use Rattle.account_steps.specs.Steps.{Gives};
 ghost use Rattle.account_core.specs.Pages.{behind_marker, part_of};
 
-use crate::stops::Stop;
+use account_steps::Stop;
 use http_front::decimal;
 use kms_json::{Page, Refusal};
 use kms_names::{NoMemory, Text};

@@ -1,19 +1,14 @@
 // The operations on the policies of keys: PutKeyPolicy and GetKeyPolicy.
 ghost use Rattle.std.specs.Prelude.{◌≡◌, IfOk, IfErr, None, Some};
-ghost use Rattle.account_core.specs.Authority.{of_key};
+ghost use Rattle.account_steps.specs.Authority.{of_key};
 ghost use Rattle.authority.specs.KeyPolicy.{fault_in, policy_in};
 ghost use Rattle.kms_json.specs.declared.refusals.Refusal.TheVariants as refusal;
-ghost use Rattle.account_core.specs.declared.stops.Stop.TheVariants as stop;
-ghost use Rattle.account_core.specs.Steps.{Passes};
+ghost use Rattle.account_steps.specs.declared.stops.Stop.TheVariants as stop;
+ghost use Rattle.account_steps.specs.Steps.{Passes};
 ghost use Rattle.account_core.specs.Policies.{StopsAt, IsStopAt, may_put_again, locked_out, policy_refused, puts_policy, gets_policy};
 
-use crate::checks::only_key_of;
-use crate::particulars::of_key;
-use crate::parts::{Changes, Made, Operation, Reads};
-use crate::places::Uses;
-use crate::stops::Stop;
-use crate::view::View;
 use account_rows::{Entry, Lent, What};
+use account_steps::{Changes, Made, Operation, Reads, Stop, Uses, View, of_key, only_key_of};
 use authority::{KeyPolicy, Particulars};
 use draw_lines::DrawLine;
 use kms_json::{PolicyFlaw, Refusal, Reply};

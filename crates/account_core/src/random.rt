@@ -2,13 +2,8 @@
 ghost use Rattle.std.specs.Prelude.{◌≤◌};
 ghost use Rattle.account_core.specs.Crypto.{generates_random};
 
-use crate::checks::unsupported;
 use crate::crypto::draw;
-use crate::particulars::of_none;
-use crate::parts::{Operation, Reads, refuse};
-use crate::places::Uses;
-use crate::stops::Stop;
-use crate::view::View;
+use account_steps::{Operation, Reads, Stop, Uses, View, of_none, refuse, unsupported};
 use draw_lines::DrawLine;
 use kms_json::{Reply, Unsupported};
 use kms_names::{Action, Bytes, NoMemory, Text};

@@ -1,15 +1,12 @@
 // ReEncrypt.
 ghost use Rattle.account_core.specs.Crypto.{re_encrypts};
 
-use crate::checks::{Named, key_of, unfit};
 use crate::crypto::{ONE_IV, Sealable, seal};
-use crate::particulars::of_context;
-use crate::parts::{Operation, Reads, refuse};
-use crate::places::Uses;
-use crate::sources::{Sealed, find_source};
-use crate::stops::Stop;
-use crate::view::View;
 use account_rows::same_key;
+use account_steps::{
+    Named, Operation, Reads, Sealed, Stop, Uses, View, find_source, key_of, of_context, refuse,
+    unfit,
+};
 use authority::Particulars;
 use draw_lines::DrawLine;
 use kms_json::{ReEncrypt, Reply};

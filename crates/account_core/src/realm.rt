@@ -4,7 +4,7 @@ ghost use Rattle.std.specs.Arc.{arc_value};
 ghost use Rattle.authority.specs.Callers.{ArePoliciesOf, policies_at};
 ghost use Rattle.authority.specs.Setting.{callers_policies};
 
-use crate::RealmFacts;
+use account_steps::RealmFacts;
 use authority::Callers;
 use kms_names::{NoMemory, Principal, write_principal};
 use policy_eval::Compiled;
@@ -23,7 +23,7 @@ impl Model for Realm {
     ghost use Rattle.std.specs.Prelude.{◌≡◌};
     ghost use Rattle.std.specs.Arc.{arc_value};
     ghost use Rattle.authority.specs.Callers.{ArePoliciesOf};
-    ghost use Rattle.account_core.specs.declared.facts.RealmFacts.{RealmFacts as FactsValue};
+    ghost use Rattle.account_steps.specs.declared.facts.RealmFacts.{RealmFacts as FactsValue};
 
     ghost Value = { FactsValue };
 

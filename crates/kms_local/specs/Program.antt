@@ -4,7 +4,7 @@ use Rattle.kms_io.specs.Wire.{Wire, RoseBy}
 use Rattle.kms_io.specs.Shelf.{Shelf}
 use Rattle.kms_io.specs.Doorway.{Doorway}
 use Rattle.kms_io.specs.Files.{Asks, MayAsk}
-use Rattle.account_core.specs.declared.facts.RealmFacts.{RealmFacts}
+use Rattle.account_steps.specs.declared.facts.RealmFacts.{RealmFacts}
 use Rattle.kms_config.specs.declared.config.Config.{Config}
 use Rattle.kms_session.specs.declared.trust.Trust.{Trust}
 use Rattle.kms_session.specs.declared.trust.Trust.TheVariants.{Signed}

@@ -6,7 +6,7 @@ use Rattle.std.proofs.lemmas.List.Elements.{All-map, All-head, All-tail, All-con
 use Rattle.std.specs.Prelude.{All, IsTrue, Result, Ok, Err, OnOk, OnErr}
 use Rattle.std.specs.List.{slice_set}
 use Rattle.std.proofs.lemmas.List.{get_or-set_same, get_or-set_other, get_or_default}
-use Rattle.account_core.specs.declared.facts.RealmFacts.{RealmFacts}
+use Rattle.account_steps.specs.declared.facts.RealmFacts.{RealmFacts}
 use Rattle.publish_pass.specs.Pass.{Pass, fresh_pass, fresh_passes, KeepsHouse, WantsHouse}
 use Rattle.publish_pass.proofs.Meeting.{learns_self, learns_trans}
 use Rattle.kms_session.specs.declared.trust.Trust.{Trust}

@@ -1,8 +1,8 @@
 -- What the workers of a server do together.
 use Rattle.std.specs.Prelude.{◌≡◌, ◌↔◌, ℕ, List, [], ◌∷◌, length, map, sum, All, IsTrue, Option}
 use mathlib.Core.List.{IsPrefix}
-use Rattle.account_core.specs.declared.facts.RealmFacts.{RealmFacts}
-use Rattle.account_core.specs.History.{Entry}
+use Rattle.account_steps.specs.declared.facts.RealmFacts.{RealmFacts}
+use Rattle.account_steps.specs.History.{Entry}
 use Rattle.kms_io.specs.Listening.{Listening}
 use Rattle.kms_io.specs.Door.{IsNewEar}
 use Rattle.publish_pass.specs.Pass.{Pass, Learns}

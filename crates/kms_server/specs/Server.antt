@@ -4,7 +4,7 @@ use Rattle.kms_io.specs.Wire.{RoseBy}
 use Rattle.kms_io.specs.Listening.{Listening}
 use Rattle.kms_io.specs.Doorway.{Doorway}
 use Rattle.kms_io.specs.Door.{AsksFor, MayAskFor, Closes}
-use Rattle.account_core.specs.declared.facts.RealmFacts.{RealmFacts}
+use Rattle.account_steps.specs.declared.facts.RealmFacts.{RealmFacts}
 use Rattle.publish_pass.specs.Pass.{fresh_passes}
 use Rattle.kms_session.specs.declared.trust.Trust.{Trust}
 use Rattle.kms_server.specs.declared.server.Order.{Order}

@@ -1,8 +1,8 @@
 -- Along a run the pass's history only grows.
 use Rattle.std.proofs.Common.{◌≡◌, ◌⊎◌, inl, inr, ℕ, List, Bool, Option, Some, None, sym, ap, subst}
 use mathlib.Core.List.{IsPrefix}
-use Rattle.account_core.specs.History.{Entry}
-use Rattle.account_core.specs.History.{housekeeping_of}
+use Rattle.account_steps.specs.History.{Entry}
+use Rattle.account_steps.specs.History.{housekeeping_of}
 use Rattle.account_core.specs.Decide.{decide}
 use Rattle.published_account.specs.Answers.{Answer}
 use Rattle.published_account.specs.Pairs.{entries_of}

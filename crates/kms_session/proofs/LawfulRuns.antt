@@ -6,11 +6,11 @@ use Rattle.kms_json.specs.declared.asks.AskBody.{AskBody}
 use Rattle.kms_json.specs.declared.refusals.Refusal.{Refusal}
 use Rattle.kms_json.specs.declared.replies.Reply.{Reply}
 use Rattle.kms_json.specs.Asks.{changes_account}
-use Rattle.account_core.specs.declared.facts.RealmFacts.{RealmFacts}
-use Rattle.account_core.specs.History.{Entry}
-use Rattle.account_core.specs.declared.places.Places.{Places}
-use Rattle.account_core.specs.Places.{IsUpTo, no_places}
-use Rattle.account_core.specs.History.{housekeeping_of}
+use Rattle.account_steps.specs.declared.facts.RealmFacts.{RealmFacts}
+use Rattle.account_steps.specs.History.{Entry}
+use Rattle.account_steps.specs.declared.places.Places.{Places}
+use Rattle.account_steps.specs.Places.{IsUpTo, no_places}
+use Rattle.account_steps.specs.History.{housekeeping_of}
 use Rattle.account_core.specs.Decide.{decide, account_of, IsProper, IsNext, appended, kept, IsLawful, longer}
 use Rattle.account_core.specs.Laws.{Sealing, HasSealed, PassGoesOn, no_request, one_more, wants_memory as left_short}
 use Rattle.account_core.proofs.GoingOn.{same_entry}

@@ -8,8 +8,8 @@ use Rattle.http_front.specs.Head.{IsHead}
 use Rattle.kms_json.specs.declared.asks.Ask.{Ask}
 use Rattle.kms_json.specs.declared.replies.Reply.TheVariants.{Refused}
 use Rattle.kms_json.specs.Asks.{AnswersFor, refusal_of, changes_account}
-use Rattle.account_core.specs.History.{Entry}
-use Rattle.account_core.specs.History.{housekeeping_of}
+use Rattle.account_steps.specs.History.{Entry}
+use Rattle.account_steps.specs.History.{housekeeping_of}
 use Rattle.account_core.specs.Decide.{decide, IsLawful}
 use mathlib.Core.List.{IsPrefix}
 use Rattle.kms_session.specs.declared.trust.Trust.{Trust}

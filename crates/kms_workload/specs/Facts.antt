@@ -1,8 +1,8 @@
 -- Whose account the workload asks, and who asks it.
 use Rattle.std.specs.Prelude.{ℕ, List, [], codes, replicate}
 use Rattle.kms_names.specs.declared.principals.Principal.TheVariants.{Root}
-use Rattle.account_core.specs.declared.facts.RealmFacts.{RealmFacts}
-use Rattle.account_core.specs.Ids.{key_id_at}
+use Rattle.account_steps.specs.declared.facts.RealmFacts.{RealmFacts}
+use Rattle.account_steps.specs.Ids.{key_id_at}
 use Rattle.kms_session.specs.declared.trust.Trust.{Trust}
 use Rattle.kms_session.specs.declared.trust.Trust.TheVariants.{Word}
 

@@ -1,7 +1,7 @@
 -- One session of a new service.
 use Rattle.std.specs.Prelude.{◌≡◌, ℕ, List, [], Option, Some, length, Bool, true, false}
 use Rattle.kms_io.specs.Wire.{Wire}
-use Rattle.account_core.specs.declared.facts.RealmFacts.{RealmFacts}
+use Rattle.account_steps.specs.declared.facts.RealmFacts.{RealmFacts}
 use Rattle.publish_pass.specs.Pass.{Pass, fresh_pass}
 use Rattle.kms_session.specs.declared.trust.Trust.{Trust}
 use Rattle.kms_session.specs.declared.session.SessionEnd.{SessionEnd}

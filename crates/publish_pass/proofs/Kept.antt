@@ -1,10 +1,10 @@
 -- Each event keeps what holds of a state.
 use Rattle.std.proofs.Common.{◌≡◌, ℕ, ◌+◌, ◌≤◌, ◌==◌, Bool, true, false, cond, max, List, [], ◌∷◌, ◌++◌, length, take, Option, Some, None, refl, ap, sym, ◌∙◌, subst, arith, length-append, le_refl, le_trans}
 use Rattle.std.proofs.lemmas.Bool.Decides.{nat_tests}
-use Rattle.account_core.specs.declared.facts.RealmFacts.{RealmFacts}
-use Rattle.account_core.specs.History.{Entry}
-use Rattle.account_core.specs.declared.places.Places.{Places}
-use Rattle.account_core.specs.Places.{no_places}
+use Rattle.account_steps.specs.declared.facts.RealmFacts.{RealmFacts}
+use Rattle.account_steps.specs.History.{Entry}
+use Rattle.account_steps.specs.declared.places.Places.{Places}
+use Rattle.account_steps.specs.Places.{no_places}
 use Rattle.account_core.specs.Decide.{decide, IsNext, appended, kept, empty}
 use Rattle.account_core.specs.Laws.{PassGoesOn, no_request, one_more, wants_memory, TimesNeverFall}
 use Rattle.account_core.proofs.GoingOn.{same_entry, decide_goes_on}

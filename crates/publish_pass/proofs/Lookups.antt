@@ -5,10 +5,10 @@ use Rattle.std.proofs.lemmas.List.{length-map}
 use mathlib.Core.List.{IsPrefix}
 use Rattle.draw_lines.specs.Line.{Line}
 use Rattle.kms_json.specs.declared.asks.Ask.{Ask}
-use Rattle.account_core.specs.declared.facts.RealmFacts.{RealmFacts}
-use Rattle.account_core.specs.History.{Entry}
-use Rattle.account_core.specs.declared.places.Places.{Places}
-use Rattle.account_core.specs.Places.{IsWithin, places_of}
+use Rattle.account_steps.specs.declared.facts.RealmFacts.{RealmFacts}
+use Rattle.account_steps.specs.History.{Entry}
+use Rattle.account_steps.specs.declared.places.Places.{Places}
+use Rattle.account_steps.specs.Places.{IsWithin, places_of}
 use Rattle.account_core.specs.Decide.{decide}
 use Rattle.account_core.proofs.GoingOn.{decide_goes_on, places_at}
 use Rattle.published_account.specs.declared.answered.Answered.{Answered}

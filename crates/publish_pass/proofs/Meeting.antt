@@ -1,8 +1,8 @@
 -- A pass that learns more and more.
 use Rattle.std.proofs.Common.{◌≡◌, ℕ, List, refl, sym, ap, subst, ◌∙◌}
 use Rattle.kms_json.specs.declared.asks.Ask.{Ask}
-use Rattle.account_core.specs.declared.facts.RealmFacts.{RealmFacts}
-use Rattle.account_core.specs.History.{Entry}
+use Rattle.account_steps.specs.declared.facts.RealmFacts.{RealmFacts}
+use Rattle.account_steps.specs.History.{Entry}
 use Rattle.account_core.specs.Decide.{IsProper, IsLawful}
 use Rattle.published_account.specs.declared.answered.Answered.{Answered}
 use Rattle.published_account.specs.Pairs.{IsHistory, entries_of}

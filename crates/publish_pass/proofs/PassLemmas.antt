@@ -8,14 +8,14 @@ use Rattle.kms_json.specs.declared.asks.Ask.{Ask}
 use Rattle.kms_json.specs.declared.replies.Reply.{Reply}
 use Rattle.kms_json.specs.Replies.{status_of}
 use Rattle.kms_json.specs.Asks.{changes_account}
-use Rattle.account_core.specs.declared.facts.RealmFacts.{RealmFacts}
-use Rattle.account_core.specs.History.{Entry}
+use Rattle.account_steps.specs.declared.facts.RealmFacts.{RealmFacts}
+use Rattle.account_steps.specs.History.{Entry}
 use Rattle.account_core.specs.declared.decide.Decision.{Decision}
 use Rattle.account_core.specs.declared.decide.Decision.TheVariants.{Refused, Served, Change}
-use Rattle.account_core.specs.History.{housekeeping_of}
+use Rattle.account_steps.specs.History.{housekeeping_of}
 use Rattle.account_core.specs.Account.{Account}
 use Rattle.account_core.specs.Decide.{decision_by, decision_of, IsNext, appended, kept, IsProper}
-use Rattle.account_core.specs.Places.{no_places}
+use Rattle.account_steps.specs.Places.{no_places}
 use Rattle.account_core.proofs.GoingOn.{same_reply, same_entry}
 use Rattle.published_account.specs.Pairs.{entries_of}
 use Rattle.publish_pass.specs.Pass.{Pass, making, making_any, keeping_house, Decides, AnswersHere, fresh_pass, fresh_passes}

@@ -1,7 +1,7 @@
 -- After housekeeping nothing more is owed.
 use Rattle.std.proofs.Common.{◌≡◌, ℕ, List, [], ◌∷◌, Option, Some, None, refl, ap, ◌∙◌}
 use Rattle.std.proofs.lemmas.List.{map-append}
-use Rattle.account_core.specs.History.{Entry, housekeeping_of}
+use Rattle.account_steps.specs.History.{Entry, housekeeping_of}
 use Rattle.account_core.specs.Laws.{HouseIsKeptOnce}
 use Rattle.published_account.specs.Pairs.{entries_of}
 use Rattle.publish_pass.specs.Pass.{making_any}

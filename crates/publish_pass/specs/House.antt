@@ -1,6 +1,6 @@
 -- What housekeeping leaves to do.
 use Rattle.std.specs.Prelude.{◌≡◌, ℕ, None}
-use Rattle.account_core.specs.History.{housekeeping_of}
+use Rattle.account_steps.specs.History.{housekeeping_of}
 use Rattle.account_core.specs.Decide.{IsLawful}
 use Rattle.published_account.specs.Pairs.{entries_of}
 use Rattle.publish_pass.specs.Pass.{Pass, keeping_house}

@@ -7,14 +7,14 @@ use Rattle.kms_json.specs.declared.replies.Reply.TheVariants.{Decrypted}
 use Rattle.kms_json.specs.Asks.{changes_account}
 use Rattle.authority.specs.Setting.{callers_policies}
 use Rattle.authority.specs.Allowed.{AreIdentityPolicies}
-use Rattle.account_core.specs.declared.facts.RealmFacts.{RealmFacts}
-use Rattle.account_core.specs.History.{Entry}
-use Rattle.account_core.specs.declared.places.Places.{Places}
-use Rattle.account_core.specs.Places.{IsUpTo}
+use Rattle.account_steps.specs.declared.facts.RealmFacts.{RealmFacts}
+use Rattle.account_steps.specs.History.{Entry}
+use Rattle.account_steps.specs.declared.places.Places.{Places}
+use Rattle.account_steps.specs.Places.{IsUpTo}
 use Rattle.grant_table.specs.Grants.{grant_with}
 use Rattle.account_rows.specs.declared.entries.What.TheVariants as what
 use Rattle.account_rows.specs.History.{replay}
-use Rattle.account_core.specs.History.{housekeeping_of}
+use Rattle.account_steps.specs.History.{housekeeping_of}
 use Rattle.account_core.specs.Decide.{decide, IsProper}
 use Rattle.account_core.specs.Laws.{Sealing, HasSealed, AsksToOpen, reply_to, iv_in, PassGoesOn, exception_of, unless_excepted}
 use Rattle.published_account.specs.Pairs.{IsHistory, entries_of}

@@ -3,11 +3,11 @@ use Rattle.std.specs.Prelude.{◌≡◌, ◌≤◌, ℕ, zero, suc, List, [], �
 use mathlib.Core.List.{IsPrefix}
 use Rattle.kms_json.specs.declared.asks.Ask.{Ask}
 use Rattle.kms_json.specs.declared.replies.Reply.{Reply}
-use Rattle.account_core.specs.declared.facts.RealmFacts.{RealmFacts}
-use Rattle.account_core.specs.History.{Entry}
-use Rattle.account_core.specs.History.{housekeeping_of}
-use Rattle.account_core.specs.declared.places.Places.{Places}
-use Rattle.account_core.specs.Places.{IsUpTo}
+use Rattle.account_steps.specs.declared.facts.RealmFacts.{RealmFacts}
+use Rattle.account_steps.specs.History.{Entry}
+use Rattle.account_steps.specs.History.{housekeeping_of}
+use Rattle.account_steps.specs.declared.places.Places.{Places}
+use Rattle.account_steps.specs.Places.{IsUpTo}
 use Rattle.account_core.specs.Decide.{decide, IsLawful}
 use Rattle.published_account.specs.declared.answered.Answered.{Answered}
 use Rattle.published_account.specs.declared.answered.Unread.{Unread}

@@ -32,7 +32,7 @@ pub struct Desk<R: Realm> {
 impl<R: Realm> Model for Desk<R> {
     ghost use Rattle.std.specs.Prelude.{◌≡◌, ℕ, List, length};
     ghost use Rattle.published_account.specs.Rules.{Names};
-    ghost use Rattle.account_core.specs.History.{Entry};
+    ghost use Rattle.account_steps.specs.History.{Entry};
 
     ghost Value = { List (Entry × ℕ) };
 

@@ -2,7 +2,7 @@
 ghost use Rattle.std.specs.Prelude.{◌≡◌, ◌<◌, ◌≤◌, [], length, false, IfOk, IfErr};
 ghost use Rattle.kms_json.specs.Asks.{changes_account};
 ghost use Rattle.account_core.specs.Decide.{IsProper};
-ghost use Rattle.account_core.specs.Places.{first_line};
+ghost use Rattle.account_steps.specs.Places.{first_line};
 ghost use Rattle.published_account.specs.Growing.{IsLongerOf};
 ghost use Rattle.published_account.specs.Pairs.{IsHistory};
 ghost use Rattle.publish_pass.specs.Pass.{fresh_pass, Learns, AnswersRead, LacksRead};
@@ -30,7 +30,7 @@ pub struct Pass<R: Realm> {
 
 impl<R: Realm> Model for Pass<R> {
     ghost use Rattle.std.specs.Prelude.{◌≡◌, ◌<◌, ◌≤◌, length};
-    ghost use Rattle.account_core.specs.Places.{places_of, IsLineOf};
+    ghost use Rattle.account_steps.specs.Places.{places_of, IsLineOf};
     ghost use Rattle.publish_pass.specs.Pass as passes;
 
     ghost Value = { passes.Pass };

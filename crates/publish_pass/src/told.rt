@@ -15,7 +15,7 @@ pub struct Told<R: Realm> {
 
 impl<R: Realm> Model for Told<R> {
     ghost use Rattle.std.specs.Prelude.{ℕ, List};
-    ghost use Rattle.account_core.specs.History.{Entry};
+    ghost use Rattle.account_steps.specs.History.{Entry};
 
     ghost Value = { List (Entry × ℕ) };
 

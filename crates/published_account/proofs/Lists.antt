@@ -4,10 +4,10 @@ use Rattle.std.specs.List.{zip}
 use mathlib.Core.List.{IsPrefix}
 use Rattle.std.proofs.lemmas.List.{map-append}
 use Rattle.std.proofs.lemmas.List.Elements.{All-nil, All-push}
-use Rattle.account_core.specs.History.{Entry}
+use Rattle.account_steps.specs.History.{Entry}
 use Rattle.account_core.specs.Decide.{IsNext, IsLawful, empty, longer}
 use Rattle.published_account.specs.Pairs.{entries_of, IsHistory, Whole}
-use Rattle.account_core.specs.declared.facts.RealmFacts.{RealmFacts}
+use Rattle.account_steps.specs.declared.facts.RealmFacts.{RealmFacts}
 
 pub entries_of-zip : (es : List Entry) (ms : List ℕ) → length ms ≡ length es → entries_of (zip es ms) ≡ es
 entries_of-zip [] ms h = refl

@@ -5,7 +5,7 @@ use lib.ListN.{get_elem?}
 use Rattle.left_right.specs.Register.{Admits, TurnsAt, Forks, Merges}
 use Rattle.atomic_table.proofs.Lists.{at_set, at_snoc}
 use Rattle.logbook.specs.Pages.{Book}
-use Rattle.account_core.specs.declared.facts.RealmFacts.{RealmFacts}
+use Rattle.account_steps.specs.declared.facts.RealmFacts.{RealmFacts}
 use Rattle.published_account.specs.Pairs.{Shown}
 use Rattle.published_account.specs.Rules.{Fits, Keeps, GoesOn, Looks, Knows}
 use Rattle.published_account.proofs.Lists.{prefix_self, prefix_trans}

@@ -2,7 +2,7 @@
 use Rattle.std.specs.Prelude.{ℕ, ◌≡◌, ◌==◌, ◌<◌, ◌≤◌, ◌⊎◌, true, List, [], ◌∷◌, ◌++◌, length, MatchBool}
 use Rattle.logbook.specs.Pages.{Cell, Step, View, Book, Named}
 use mathlib.Core.List.{IsPrefix}
-use Rattle.account_core.specs.History.{Entry}
+use Rattle.account_steps.specs.History.{Entry}
 
 abbrev pub Pairs : Type 0
 Pairs = List (Entry × ℕ)

@@ -1,8 +1,8 @@
 -- The published history: each entry with the number of the pass that made it.
 use Rattle.std.specs.Prelude.{ℕ, ◌<◌, ◌≤◌, List, map, All}
 use Rattle.logbook.specs.Pages.{Book}
-use Rattle.account_core.specs.declared.facts.RealmFacts.{RealmFacts}
-use Rattle.account_core.specs.History.{Entry}
+use Rattle.account_steps.specs.declared.facts.RealmFacts.{RealmFacts}
+use Rattle.account_steps.specs.History.{Entry}
 use Rattle.account_core.specs.Decide.{IsLawful}
 
 -- an account with the makers of its entries: the facts, the number of passes, and the entries, each with its maker

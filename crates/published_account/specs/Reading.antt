@@ -3,9 +3,9 @@ use Rattle.std.specs.Prelude.{◌≡◌, ◌<◌, ◌≤◌, ◌⊎◌, ℕ, Lis
 use Rattle.draw_lines.specs.Line.{Line}
 use Rattle.kms_names.specs.declared.faults.NoMemory.{NoMemory}
 use Rattle.kms_json.specs.declared.asks.Ask.{Ask}
-use Rattle.account_core.specs.declared.facts.RealmFacts.{RealmFacts}
-use Rattle.account_core.specs.History.{Entry}
-use Rattle.account_core.specs.Places.{IsWithin, places_of, line_at}
+use Rattle.account_steps.specs.declared.facts.RealmFacts.{RealmFacts}
+use Rattle.account_steps.specs.History.{Entry}
+use Rattle.account_steps.specs.Places.{IsWithin, places_of, line_at}
 use Rattle.account_core.specs.Decide.{decide}
 use Rattle.published_account.specs.declared.answered.Answered.{Answered}
 use Rattle.published_account.specs.Answers.{answer_of, answer_in}

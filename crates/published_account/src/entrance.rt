@@ -4,7 +4,7 @@ ghost use mathlib.Core.List.{IsPrefix};
 ghost use Rattle.left_right.specs.Sides.{view};
 ghost use Rattle.kms_json.specs.Asks.{changes_account};
 ghost use Rattle.account_core.specs.Decide.{IsProper};
-ghost use Rattle.account_core.specs.Places.{IsLineOf};
+ghost use Rattle.account_steps.specs.Places.{IsLineOf};
 ghost use Rattle.published_account.specs.Pairs.{IsHistory, entries_of};
 ghost use Rattle.published_account.specs.Reading.{Rose};
 ghost use Rattle.published_account.specs.Reading.{Settles};

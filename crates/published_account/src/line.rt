@@ -119,7 +119,7 @@ pub struct Line<R: Realm> {
 
 impl<R: Realm> Model for Line<R> {
     ghost use Rattle.std.specs.Prelude.{◌≡◌, ℕ, List, length};
-    ghost use Rattle.account_core.specs.History.{Entry};
+    ghost use Rattle.account_steps.specs.History.{Entry};
     ghost use Rattle.published_account.specs.Pairs.{IsHistory};
 
     ghost Value = { List (Entry × ℕ) };

@@ -8,7 +8,7 @@ use std::sync::ledger::Ledger;
 pub trait Realm: Ledger {
     ghost use Rattle.std.specs.Prelude.{ℕ};
     ghost use Rattle.logbook.specs.Pages.{Book};
-    ghost use Rattle.account_core.specs.declared.facts.RealmFacts.{RealmFacts};
+    ghost use Rattle.account_steps.specs.declared.facts.RealmFacts.{RealmFacts};
 
     ghost book: { Book };
 

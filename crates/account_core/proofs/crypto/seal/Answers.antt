@@ -2,9 +2,9 @@ use Rattle.std.proofs.Common.{◌≡◌, ℕ, ◌<◌, ◌^◌, List, Option, So
 use Rattle.std.specs.Result.{IfOk}
 use Rattle.draw_lines.specs.Iv.{iv_at}
 use Rattle.crypto_ops.specs.Sealed.{sealed}
-use Rattle.account_core.specs.declared.facts.RealmFacts.{RealmFacts}
+use Rattle.account_steps.specs.declared.facts.RealmFacts.{RealmFacts}
 use Rattle.key_states.specs.declared.rows.KeyRow.{KeyRow}
-use Rattle.account_core.specs.Steps.{seals}
+use Rattle.account_steps.specs.Steps.{seals}
 use Rattle.account_core.proofs.crypto.seal.Goals as goal
 
 pub returns-clause-blob : goal.returns-clause-blob

@@ -1,7 +1,7 @@
 use Rattle.std.proofs.Common.{◌≡◌, ℕ, List, Option, ap, sym, ◌∙◌, subst}
-use Rattle.account_core.specs.declared.facts.RealmFacts.{RealmFacts}
-use Rattle.account_core.specs.Ids.{key_id_at}
-use Rattle.account_core.specs.Steps.{Passes}
+use Rattle.account_steps.specs.declared.facts.RealmFacts.{RealmFacts}
+use Rattle.account_steps.specs.Ids.{key_id_at}
+use Rattle.account_steps.specs.Steps.{Passes}
 use Rattle.account_core.specs.Policies.{policy_refused}
 use Rattle.account_core.specs.Keys.{refused_if_given}
 use Rattle.account_core.proofs.keys.accept_if_given.Goals as goal

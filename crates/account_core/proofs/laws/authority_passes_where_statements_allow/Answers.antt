@@ -1,4 +1,4 @@
-use Rattle.account_core.proofs.Asking.{passes_where_allowed}
+use Rattle.account_core.proofs.Allowing.{passes_where_allowed}
 use Rattle.account_core.proofs.laws.authority_passes_where_statements_allow.Goals as goal
 
 pub returns : goal.returns

@@ -1,4 +1,4 @@
-use Rattle.account_core.proofs.BlobNames.{named_blob, named_only}
+use Rattle.account_steps.proofs.BlobNames.{named_blob, named_only}
 use Rattle.account_core.proofs.laws.blobs_name_their_keys.Goals as goal
 
 pub returns-clause-named : goal.returns-clause-named

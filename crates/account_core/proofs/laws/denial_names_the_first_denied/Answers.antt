@@ -1,4 +1,4 @@
-use Rattle.account_core.proofs.Asking.{names_the_first}
+use Rattle.account_core.proofs.Allowing.{names_the_first}
 use Rattle.account_core.proofs.laws.denial_names_the_first_denied.Goals as goal
 
 pub returns : goal.returns

@@ -1,4 +1,4 @@
-use Rattle.account_core.proofs.Asking.{grants_permit}
+use Rattle.account_core.proofs.Allowing.{grants_permit}
 use Rattle.account_core.proofs.laws.grants_permit.Goals as goal
 
 pub returns : goal.returns

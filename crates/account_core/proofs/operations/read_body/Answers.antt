@@ -1,8 +1,8 @@
 use Rattle.std.proofs.Common.{sym, subst}
 use Rattle.kms_json.specs.declared.asks.Reading.{Reading}
-use Rattle.account_core.specs.Places.{places_of}
-use Rattle.account_core.specs.Parts.{decided_by}
-use Rattle.account_core.specs.Settling.{Settles}
+use Rattle.account_steps.specs.Places.{places_of}
+use Rattle.account_steps.specs.Parts.{decided_by}
+use Rattle.account_steps.specs.Settling.{Settles}
 use Rattle.account_core.specs.Operations.{read_outcome}
 use Rattle.account_core.proofs.operations.read_body.Goals as goal
 

@@ -1,9 +1,9 @@
 use Rattle.std.proofs.Common.{Bool, ap, ◌∙◌}
 use Rattle.authority.specs.Setting.{Particulars}
 use Rattle.kms_names.specs.declared.actions.Action.TheVariants as action
-use Rattle.account_core.specs.Authority.{may_on_key}
+use Rattle.account_steps.specs.Authority.{may_on_key}
 use Rattle.account_core.specs.Policies.{may_put_again}
-use Rattle.account_core.proofs.Drawing.{ok_where}
+use Rattle.account_steps.proofs.Following.{ok_where}
 use Rattle.account_core.proofs.policies.may_put_again.Goals as goal
 
 pub returns : goal.returns

@@ -1,7 +1,7 @@
 use Rattle.std.proofs.Common.{ℕ, ◌<◌, ◌≡◌, List, get_or, subst, below_more, arith, length}
 use Rattle.std.proofs.lemmas.List.{get_or_default}
 use mathlib.Core.List.{IsPrefix}
-use Rattle.account_core.specs.History.{Entry}
+use Rattle.account_steps.specs.History.{Entry}
 use Rattle.published_account.proofs.Lists.{prefix_trans}
 use Rattle.publish_pass.proofs.Meeting.{learns_trans}
 use Rattle.kms_server.proofs.crew.learn_from.Goals as goal

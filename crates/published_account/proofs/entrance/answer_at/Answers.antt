@@ -1,8 +1,8 @@
 use Rattle.std.proofs.Common.{◌≡◌, ap, sym, ◌∙◌, subst, ℕ, List, length}
-use Rattle.account_core.specs.declared.facts.RealmFacts.{RealmFacts}
-use Rattle.account_core.specs.History.{Entry}
+use Rattle.account_steps.specs.declared.facts.RealmFacts.{RealmFacts}
+use Rattle.account_steps.specs.History.{Entry}
 use Rattle.account_core.specs.Decide.{IsProper}
-use Rattle.account_core.specs.Places.{IsLineOf}
+use Rattle.account_steps.specs.Places.{IsLineOf}
 use Rattle.published_account.specs.Pairs.{Shown, Whole, IsHistory, entries_of}
 use Rattle.published_account.specs.Reading.{Settles}
 use Rattle.published_account.proofs.entrance.answer_at.Goals as goal

@@ -2,8 +2,8 @@ use Rattle.std.proofs.Common.{◌≡◌, ℕ, length, sym, ap, subst, ◌∙◌}
 use Rattle.kms_json.specs.Asks.{IsSized}
 use Rattle.kms_json.proofs.Sizes.{asked_sized}
 use Rattle.account_core.specs.Account.{Account}
-use Rattle.account_core.specs.Places.{no_places}
-use Rattle.account_core.specs.Parts.{decided_by}
+use Rattle.account_steps.specs.Places.{no_places}
+use Rattle.account_steps.specs.Parts.{decided_by}
 use Rattle.account_core.specs.Decide.{lacking}
 use Rattle.account_core.proofs.Decisions.{refused_first, by_change, made_refusal, refuses, makes}
 use Rattle.account_core.proofs.account.Account.decide_change.Goals as goal

@@ -2,9 +2,9 @@ use Rattle.std.proofs.Common.{◌≡◌, ℕ, length, sym, ap, ◌∙◌, subst}
 use Rattle.kms_json.specs.Asks.{IsSized}
 use Rattle.kms_json.proofs.Sizes.{asked_sized}
 use Rattle.account_core.specs.Account.{Account}
-use Rattle.account_core.specs.Places.{places_of, line_at, IsWithin}
-use Rattle.account_core.specs.View.{view_of}
-use Rattle.account_core.specs.Parts.{Decided, decided_by}
+use Rattle.account_steps.specs.Places.{places_of, line_at, IsWithin}
+use Rattle.account_steps.specs.View.{view_of}
+use Rattle.account_steps.specs.Parts.{Decided, decided_by}
 use Rattle.account_core.specs.Operations.{read_outcome}
 use Rattle.account_core.specs.Decide.{lacking}
 use Rattle.account_core.proofs.Decisions.{refused_first, by_read, at_refusal, at_want}

@@ -2,10 +2,10 @@ use Rattle.std.proofs.Common.{ap, ap₂, ◌∙◌, sym, subst, Option}
 use Rattle.kms_names.specs.declared.actions.Action.{Action}
 use Rattle.authority.specs.Setting.{Particulars}
 use Rattle.key_states.specs.declared.rows.KeyRow.{KeyRow}
-use Rattle.account_core.specs.Steps.{Passes}
-use Rattle.account_core.specs.Authority.{on_key, of_key, denied}
+use Rattle.account_steps.specs.Steps.{Passes}
+use Rattle.account_steps.specs.Authority.{on_key, of_key, denied}
 use Rattle.account_core.specs.Aliases.{action_of, question_on}
-use Rattle.account_core.proofs.Asking.{passes_one}
+use Rattle.account_steps.proofs.Asking.{passes_one}
 use Rattle.account_core.proofs.alias_changes.ChangingAlias.authorize_on.Goals as goal
 
 pub returns-in-Some : goal.returns-in-Some

@@ -2,9 +2,9 @@ use Rattle.std.proofs.Common.{ap, ap₂, ◌∙◌, subst, List, ℕ}
 use Rattle.kms_names.specs.Reference.{alias_arn_text}
 use Rattle.kms_names.specs.declared.actions.Action.{Action}
 use Rattle.authority.specs.Setting.{Particulars}
-use Rattle.account_core.specs.declared.facts.RealmFacts.{RealmFacts}
-use Rattle.account_core.specs.Steps.{Passes}
-use Rattle.account_core.specs.Authority.{Question, on_other, denied_one}
+use Rattle.account_steps.specs.declared.facts.RealmFacts.{RealmFacts}
+use Rattle.account_steps.specs.Steps.{Passes}
+use Rattle.account_steps.specs.Authority.{Question, on_other, denied_one}
 use Rattle.account_core.specs.Aliases.{action_of}
 use Rattle.account_core.proofs.alias_changes.ChangingAlias.authorize_on_alias.Goals as goal
 

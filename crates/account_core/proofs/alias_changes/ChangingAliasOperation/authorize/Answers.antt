@@ -1,11 +1,11 @@
 use Rattle.std.proofs.Common.{◌≡◌, sym, subst, rules, Option, Result, Err, None, ◌++◌}
 use Rattle.std.specs.Prelude.{⊤}
 use Rattle.kms_json.specs.declared.refusals.Refusal.{Refusal}
-use Rattle.account_core.specs.declared.stops.Stop.{Stop}
-use Rattle.account_core.specs.Steps.{Passes, or_else, alias_arn_of}
-use Rattle.account_core.specs.Authority.{on_other, of_none, denied_one, denied}
+use Rattle.account_steps.specs.declared.stops.Stop.{Stop}
+use Rattle.account_steps.specs.Steps.{Passes, or_else, alias_arn_of}
+use Rattle.account_steps.specs.Authority.{on_other, of_none, denied_one, denied}
 use Rattle.account_core.specs.Aliases.{action_of, question_on}
-use Rattle.account_core.proofs.Asking.{denied_both, stops_second}
+use Rattle.account_steps.proofs.Asking.{denied_both, stops_second}
 use Rattle.account_core.proofs.alias_changes.ChangingAliasOperation.authorize.Goals as goal
 
 pub returns-in_err-authorize_on : goal.returns-in_err-authorize_on

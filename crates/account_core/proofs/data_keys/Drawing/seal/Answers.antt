@@ -1,4 +1,5 @@
-use Rattle.account_core.proofs.Drawing.{drawn_is, sealed_is, ok_where}
+use Rattle.account_core.proofs.Drawing.{drawn_is, sealed_is}
+use Rattle.account_steps.proofs.Following.{ok_where}
 use Rattle.account_core.proofs.data_keys.Drawing.seal.Goals as goal
 
 pub returns-clause-room : goal.returns-clause-room

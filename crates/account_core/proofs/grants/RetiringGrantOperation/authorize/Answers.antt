@@ -1,6 +1,6 @@
 use Rattle.std.proofs.Common.{ap}
-use Rattle.account_core.specs.Authority.{retiring}
-use Rattle.account_core.proofs.Asking.{passes_one}
+use Rattle.account_steps.specs.Authority.{retiring}
+use Rattle.account_steps.proofs.Asking.{passes_one}
 use Rattle.account_core.proofs.grants.RetiringGrantOperation.authorize.Goals as goal
 
 pub returns : goal.returns

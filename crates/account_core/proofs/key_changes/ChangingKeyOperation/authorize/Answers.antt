@@ -2,9 +2,9 @@ use Rattle.std.proofs.Common.{ap, ap₂, ◌∙◌}
 use Rattle.kms_names.specs.declared.actions.Action.{Action}
 use Rattle.authority.specs.Setting.{Particulars}
 use Rattle.key_states.specs.declared.rows.KeyRow.{KeyRow}
-use Rattle.account_core.specs.Authority.{on_key, of_key}
+use Rattle.account_steps.specs.Authority.{on_key, of_key}
 use Rattle.account_core.specs.KeyChanges.{action_of, said_of}
-use Rattle.account_core.proofs.Asking.{passes_one}
+use Rattle.account_steps.proofs.Asking.{passes_one}
 use Rattle.account_core.proofs.key_changes.ChangingKeyOperation.authorize.Goals as goal
 
 pub returns : goal.returns

@@ -3,7 +3,7 @@ use Rattle.std.specs.Arc.{arc_value}
 use Rattle.authority.specs.Callers.{policies_at}
 use Rattle.authority.specs.Setting.{callers_policies}
 use Rattle.policy_doc.specs.declared.policies.Policy.{Policy}
-use Rattle.account_core.specs.declared.facts.RealmFacts.{RealmFacts}
+use Rattle.account_steps.specs.declared.facts.RealmFacts.{RealmFacts}
 use Rattle.account_core.proofs.OwnPolicies.{found_at_arn, not_root}
 use Rattle.account_core.proofs.realm.Realm.policies_of.Goals as goal
 

@@ -1,6 +1,6 @@
 use Rattle.std.proofs.Common.{sym, ap, ◌∙◌}
 use Rattle.account_core.specs.Account.{Account}
-use Rattle.account_core.specs.History.{housekeeping_of}
+use Rattle.account_steps.specs.History.{housekeeping_of}
 use Rattle.publish_pass.proofs.PassLemmas.{house_next}
 use Rattle.publish_pass.proofs.desk.Desk.keep_house.Goals as goal
 

@@ -1,6 +1,6 @@
 use Rattle.std.proofs.Common.{◌≡◌, ◌<◌, ◌≤◌, refl, ap, sym, ◌∙◌, subst, arith, ℕ, length, length-append, ◌++◌, ◌∷◌, []}
 use Rattle.account_core.specs.Decide.{IsNext}
-use Rattle.account_core.specs.History.{Entry}
+use Rattle.account_steps.specs.History.{Entry}
 use Rattle.published_account.specs.Pairs.{IsHistory, entries_of}
 use Rattle.published_account.specs.Growing.{Pairs}
 use Rattle.published_account.proofs.Lists.{history_push}

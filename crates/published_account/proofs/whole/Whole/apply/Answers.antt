@@ -1,9 +1,9 @@
 use Rattle.std.proofs.Common.{ap, sym, ◌∙◌, ◌≡◌, List, ℕ, length, subst, arith, length-append, ◌++◌, ◌∷◌, []}
 use Rattle.std.specs.List.{zip}
-use Rattle.account_core.specs.declared.facts.RealmFacts.{RealmFacts}
+use Rattle.account_steps.specs.declared.facts.RealmFacts.{RealmFacts}
 use Rattle.published_account.specs.Pairs.{entries_of, IsHistory, Whole}
 use Rattle.account_core.specs.Decide.{IsNext}
-use Rattle.account_core.specs.History.{Entry}
+use Rattle.account_steps.specs.History.{Entry}
 use Rattle.published_account.proofs.Lists.{entries_of-zip, history_push, zip_pushed, whole_is}
 use Rattle.published_account.proofs.whole.Whole.apply.Goals as goal
 

@@ -1,5 +1,0 @@
-use Rattle.account_core.proofs.TokenFacts.{grant_read}
-use Rattle.account_core.proofs.parts.grant_id_of.Goals as goal
-
-pub returns : goal.returns
-returns c = grant_read c.args.text.now c.read_grant_id.result c.read_grant_id.ensures

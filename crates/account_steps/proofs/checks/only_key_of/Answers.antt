@@ -1,0 +1,10 @@
+use Rattle.std.proofs.Common.{◌∙◌, ap}
+use Rattle.account_steps.specs.Steps.{reference_of}
+use Rattle.account_steps.specs.declared.facts.RealmFacts.{RealmFacts}
+use Rattle.account_steps.proofs.Referring.{only_key_found}
+use Rattle.account_steps.proofs.checks.only_key_of.Goals as goal
+
+pub returns : goal.returns
+returns c =
+    only_key_found c.args.view.now c.args.reference.now c.in_ok-read.read
+    (c.in_ok-read.ensures ∙ ap (λ (facts : RealmFacts). reference_of facts c.args.reference.now) c.facts.ensures) c.only_key.result c.only_key.ensures

@@ -1,0 +1,176 @@
+-- Whether the caller may do what a request asks (IAM User Guide, "Policy evaluation logic"; AWS KMS Developer Guide, "Key policies" and "Grants in AWS KMS").
+use Rattle.std.specs.Prelude.{◌≡◌, ◌⊎◌, ℕ, List, [], ◌∷◌, Bool, true, false, ◌&&◌, ◌||◌, IsTrue, Option, Some, None, is_some, Any}
+use Rattle.enc_context.specs.declared.pairs.Pair.{Pair}
+use Rattle.kms_names.specs.declared.actions.Action.{Action}
+use Rattle.kms_names.specs.declared.actions.Action.TheVariants as action
+use Rattle.kms_names.specs.declared.operations.GrantOp.{GrantOp}
+use Rattle.kms_names.specs.declared.operations.GrantOp.TheVariants as op
+use Rattle.kms_names.specs.GrantOps.{contains}
+use Rattle.kms_names.specs.declared.principals.Principal.{Principal}
+use Rattle.kms_json.specs.declared.refusals.Refusal.{Refusal}
+use Rattle.kms_json.specs.declared.refusals.Refusal.TheVariants as refusal
+use Rattle.policy_doc.specs.declared.policies.Policy.{Policy}
+use Rattle.authority.specs.KeyPolicy.{policy_in}
+use Rattle.authority.specs.Setting.{Setting, Particulars, GrantSaid, Asked, callers_policies, is_root, names_of}
+use Rattle.authority.specs.Facts.{request_of}
+use Rattle.authority.specs.Allowed.{is_allowed, May}
+use Rattle.key_states.specs.declared.rows.KeyRow.{KeyRow}
+use Rattle.grant_table.specs.declared.rows.GrantRow.{GrantRow}
+use Rattle.grant_table.specs.Grants.{Permits, IsChildOf, grant_permitting, parent_of, has_retiring}
+use Rattle.grant_table.specs.Principals.{same_principal}
+use Rattle.account_steps.specs.Steps.{or_else, arn_of}
+use Rattle.account_steps.specs.View.{View}
+
+-- whether the caller may do this: on a key, with what the request says of itself; on a resource that is no key, which is `*` or the ARN of an alias;
+-- or whether it may retire a grant
+pub data Question : Type 0 where
+  on_key : Action → KeyRow → Particulars → Question
+  on_other : Action → List ℕ → Particulars → Question
+  retiring : GrantRow → Question
+
+abbrev pub action_of : Question → Action
+action_of (on_key action row said) = action
+action_of (on_other action resource said) = action
+action_of (retiring grant) = action.RetireGrant
+
+-- the ARN of the key, or of the grant's key, or the other resource
+abbrev pub resource_of : View → Question → List ℕ
+resource_of view (on_key action row said) = arn_of view.facts row.key
+resource_of view (on_other action resource said) = resource
+resource_of view (retiring grant) = arn_of view.facts grant.key
+
+-- who asks, when and where
+abbrev pub setting_of : View → Setting
+setting_of view = record {
+  caller = view.caller;
+  moment = view.moment;
+  region = view.facts.region;
+  policies = callers_policies view.facts.identities view.caller;
+}
+
+-- ---- grants
+
+-- the operation that a grant permits by an action, if any
+abbrev pub grant_op_of : Action → Option GrantOp
+grant_op_of action.Encrypt = Some op.Encrypt
+grant_op_of action.Decrypt = Some op.Decrypt
+grant_op_of action.ReEncryptFrom = Some op.ReEncryptFrom
+grant_op_of action.ReEncryptTo = Some op.ReEncryptTo
+grant_op_of action.GenerateDataKey = Some op.GenerateDataKey
+grant_op_of action.GenerateDataKeyWithoutPlaintext = Some op.GenerateDataKeyWithoutPlaintext
+grant_op_of action.DescribeKey = Some op.DescribeKey
+grant_op_of action.CreateGrant = Some op.CreateGrant
+grant_op_of action.RetireGrant = None
+grant_op_of action.CreateKey = None
+grant_op_of action.ListKeys = None
+grant_op_of action.EnableKey = None
+grant_op_of action.DisableKey = None
+grant_op_of action.ScheduleKeyDeletion = None
+grant_op_of action.CancelKeyDeletion = None
+grant_op_of action.EnableKeyRotation = None
+grant_op_of action.DisableKeyRotation = None
+grant_op_of action.GetKeyRotationStatus = None
+grant_op_of action.RotateKeyOnDemand = None
+grant_op_of action.ListKeyRotations = None
+grant_op_of action.PutKeyPolicy = None
+grant_op_of action.GetKeyPolicy = None
+grant_op_of action.ListKeyPolicies = None
+grant_op_of action.UpdateKeyDescription = None
+grant_op_of action.CreateAlias = None
+grant_op_of action.UpdateAlias = None
+grant_op_of action.DeleteAlias = None
+grant_op_of action.ListAliases = None
+grant_op_of action.ListGrants = None
+grant_op_of action.ListRetirableGrants = None
+grant_op_of action.RevokeGrant = None
+grant_op_of action.GenerateRandom = None
+
+-- some grant of the key permits the caller an operation under its encryption context, or CreateGrant of such a grant
+abbrev pub granted_op : View → List ℕ → Particulars → Option GrantSaid → Option GrantOp → Bool
+granted_op view key said made None = false
+granted_op view key said (Some grant) (Some op) = is_some (parent_of view.grants key view.caller grant.operations grant.constraint)
+granted_op view key said None (Some op) = is_some (grant_permitting view.grants key view.caller op said.context)
+
+abbrev pub granted : View → Action → List ℕ → Particulars → Bool
+granted view action key said = granted_op view key said said.grant (grant_op_of action)
+
+-- ---- questions
+
+abbrev pub asked_of : Action → List ℕ → Particulars → Asked
+asked_of action resource said = record { action = action; resource = resource; particulars = said }
+
+-- a grant is retired by the root, by its retiring principal, and by its grantee where RetireGrant is among its operations
+abbrev pub may_retire : Principal → GrantRow → Bool
+may_retire caller grant = is_root caller || (has_retiring caller grant || (same_principal grant.grantee caller && contains grant.operations op.RetireGrant))
+
+unfoldable pub may_on_key : View → Policy → Action → List ℕ → Particulars → Bool
+may_on_key view policy action key said = is_allowed (setting_of view) (Some policy) (asked_of action (arn_of view.facts key) said) (granted view action key said)
+
+unfoldable pub may_on_other : View → Action → List ℕ → Particulars → Bool
+may_on_other view action resource said = is_allowed (setting_of view) None (asked_of action resource said) false
+
+abbrev pub may : View → Question → Bool
+may view (on_key action row said) = may_on_key view (policy_in row.policy) action row.key said
+may view (on_other action resource said) = may_on_other view action resource said
+may view (retiring grant) = may_retire view.caller grant
+
+-- the refusal of what isn't allowed
+abbrev pub denied_at : Principal → Action → List ℕ → Bool → Option Refusal
+denied_at caller action resource true = None
+denied_at caller action resource false = Some (refusal.AccessDenied caller action resource)
+
+abbrev pub denied_one : View → Question → Option Refusal
+denied_one view q = denied_at view.caller (action_of q) (resource_of view q) (may view q)
+
+-- the refusal of the first that isn't allowed
+abbrev pub denied : View → List Question → Option Refusal
+denied view [] = None
+denied view (q ∷ questions) = or_else (denied_one view q) (denied view questions)
+
+-- ---- what requests say of themselves
+
+-- nothing about a key
+abbrev pub of_none : Particulars
+of_none = record { keyed = false; context = []; aliases = []; request_alias = None; grant = None; same_key = None; bypass = None; window = None; period = None }
+
+-- about a key that is to be made
+abbrev pub of_new_key : Particulars
+of_new_key = record of_none { keyed = true }
+
+-- about a key with its aliases
+abbrev pub of_key : View → List ℕ → Particulars
+of_key view key = record of_none { keyed = true; aliases = names_of key view.aliases }
+
+-- the same where the request may name it by an alias
+abbrev pub of_named : View → List ℕ → Option (List ℕ) → Particulars
+of_named view key alias = record (of_key view key) { request_alias = alias }
+
+-- what a request under an encryption context says of itself
+abbrev pub of_context : View → List ℕ → Option (List ℕ) → List Pair → Particulars
+of_context view key alias context = record (of_named view key alias) { context = context }
+
+-- ---- in terms of statements and grants
+
+-- the grant permits the caller CreateGrant, and such a grant would be a child of it
+abbrev pub IsParent : List ℕ → Principal → GrantSaid → GrantRow → Type 0
+IsParent key caller said grant = Permits grant key caller op.CreateGrant [] × IsChildOf grant said.operations said.constraint
+
+abbrev pub GrantedOp : View → List ℕ → Particulars → Option GrantSaid → Option GrantOp → Type 0
+GrantedOp view key said made None = ⊥
+GrantedOp view key said (Some grant) (Some op) = Any (IsParent key view.caller grant) view.grants
+GrantedOp view key said None (Some op) = Any (λ grant. Permits grant key view.caller op said.context) view.grants
+
+-- some grant of the key permits it
+abbrev pub IsGranted : View → Action → List ℕ → Particulars → Type 0
+IsGranted view action key said = GrantedOp view key said said.grant (grant_op_of action)
+
+-- who may retire a grant
+abbrev pub MayRetire : Principal → GrantRow → Type 0
+MayRetire caller grant = IsTrue (is_root caller) ⊎ ((grant.retiring ≡ Some caller) ⊎ ((grant.grantee ≡ caller) × (contains grant.operations op.RetireGrant ≡ true)))
+
+-- no statement denies the question, and statements allow it, or a grant of the key does
+abbrev pub MayAsk : View → Question → Type 0
+MayAsk view (on_key action row said) =
+    May (setting_of view) (Some (policy_in row.policy)) (granted view action row.key said) (request_of (setting_of view) (asked_of action (arn_of view.facts row.key) said))
+MayAsk view (on_other action resource said) = May (setting_of view) None false (request_of (setting_of view) (asked_of action resource said))
+MayAsk view (retiring grant) = MayRetire view.caller grant

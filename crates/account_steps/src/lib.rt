@@ -1,0 +1,28 @@
+//! What the steps of a decision go by, and their order. Each operation says its own parts of them.
+#![tactic(auto)]
+
+mod checks;
+mod facts;
+mod ids;
+mod particulars;
+mod parts;
+mod places;
+mod sources;
+mod stops;
+mod texts;
+mod view;
+
+pub use checks::{
+    Named, key_if_given, key_of, key_of_alias, only_key_of, other_key, unfit, unsupported,
+};
+pub use facts::RealmFacts;
+pub use ids::{draw_line, grant_id, key_id, key_id_of};
+pub use particulars::{of_context, of_key, of_named, of_new_key, of_none};
+pub use parts::{
+    Changes, Made, Operation, Reads, change, grant_id_of, grant_of_token, read, refuse,
+};
+pub use places::{Places, Uses};
+pub use sources::{Sealed, find_source};
+pub use stops::Stop;
+pub use texts::{LentText, lent_if_given};
+pub use view::{LentGrant, View, told_state};
