@@ -38,7 +38,7 @@ fn ask(
 }
 
 // The line of the first pass after so many words and so many initialization vectors.
-#[tactic(auto, unfolding(account_core::specs::Ids::draw_seed))]
+#[tactic(auto, unfolding(account_steps::specs::Ids::draw_seed))]
 fn line_after(facts: &RealmFacts, words: u64, ivs: u64) -> DrawLine
     requires words { words ≤ 2 ^ 48 }
     requires ivs { ivs ≤ 2 ^ 48 }
