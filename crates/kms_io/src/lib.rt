@@ -2,6 +2,7 @@
 //! memory that tests use, and the real ones.
 #![tactic(auto)]
 
+mod again;
 mod clock;
 mod door;
 mod ear;

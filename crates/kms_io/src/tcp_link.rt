@@ -1,7 +1,8 @@
 // A connection over TCP. It tells nothing of its bytes.
+use crate::again::{read_again, write_again};
 use crate::{Link, Put, Took};
 use std::io;
-use std::io::{ErrorKind, Read, Write};
+use std::io::ErrorKind;
 use std::net::TcpStream;
 use std::time::Duration;
 
@@ -11,7 +12,7 @@ const PATIENCE: u64 = 5;
 /// A connection over TCP. Where nothing came for 5 seconds it counts as ended, so that one that is
 /// kept open and unused holds nobody up; a write that waits as long is a fault. What is written goes
 /// out at once (TCP_NODELAY). It counts the stream's errors, a write of no bytes among them, and
-/// tells nothing of its bytes.
+/// tells nothing of its bytes. A call that a signal cuts short is made again.
 #[derive(Drop)]
 pub struct TcpLink {
     stream: TcpStream,
@@ -51,7 +52,7 @@ impl Link for TcpLink {
     ghost shows = { counts_of };
 
     fn read_some(&mut self, room: &mut [u8]) -> Took {
-        match self.stream.read(room) {
+        match read_again(&mut self.stream, room) {
             Ok(0) => Took::End,
             Ok(n) => Took::Got(n),
             Err(fault) if is_wait(fault.kind()) => Took::End,
@@ -63,7 +64,7 @@ impl Link for TcpLink {
     }
 
     fn write_some(&mut self, piece: &[u8]) -> Put {
-        match self.stream.write(piece) {
+        match write_again(&mut self.stream, piece) {
             Ok(n) if n > 0 => Put::Wrote(n),
             _ => {
                 self.write_faults = self.write_faults.saturating_add(1);
