@@ -14,7 +14,7 @@ pub fn lines_share_no_iv()
 {}
 
 /// A draw has the bytes that were asked for, and each is a byte of one of the words that the draw
-/// counts. So draws that count different words of a line have nothing of one another.
+/// counts.
 pub fn draws_keep_to_their_words()
     ensures { DrawsKeepToTheirWords }
 {}

@@ -1,15 +1,15 @@
 // Whom the texts of Principal name.
-ghost use Rattle.std.specs.Prelude.{◌≡◌, ◌++◌, ◌∷◌, [], IfOk, OnOk, option_map};
+ghost use Rattle.std.specs.Prelude.{◌≡◌, ◌++◌, IfOk, OnOk, option_map};
 ghost use Rattle.std.specs.List.{filter_map};
 ghost use Rattle.kms_names.specs.Reading.{principal_of};
 ghost use Rattle.serde_json.specs.View.{view, members_view};
 ghost use Rattle.policy_doc.specs.Paths.{path_text};
 ghost use Rattle.policy_doc.specs.Answers.{Answers, Adds};
 ghost use Rattle.policy_doc.specs.Callers.{named_of, kind_form, kind_fault, kind_named, kinds_fault, kinds_named, required_fault, required_named, principal_fault, principal_named};
-ghost use Rattle.policy_doc.specs.declared.policies.Named.TheVariants.{Everyone};
 
 use crate::faults::{Departure, PolicyFault};
 use crate::forms::{Form, account};
+use crate::lists::one;
 use crate::names::has_members;
 use crate::paths::{Path, fault};
 use crate::policies::{Named, NamedList, PolicyKind};
@@ -102,14 +102,6 @@ fn read_kinds<'a>(
     Ok(NamedList::new(names))
 }
 
-fn everyone(alloc: Global) -> Result<NamedList, NoMemory>
-    ensures { IfOk result (λ l. l ≡ Everyone ∷ []) }
-{
-    let mut names = Vec::new(alloc);
-    names.push(Named::Everyone)?;
-    Ok(NamedList::new(names))
-}
-
 // Those whom the Principal of a key policy's statement names.
 fn read_required(
     alloc: Global,
@@ -119,7 +111,10 @@ fn read_required(
     ensures { Answers (required_fault (path_text path.now) (option_map (λ v. view v.now) value.entry)) (required_named (option_map (λ v. view v.now) value.entry)) result }
 {
     match value {
-        Some(Value::String(text)) if text.as_str() == "*" => Ok(everyone(alloc)?),
+        Some(Value::String(text)) if text.as_str() == "*" => Ok(NamedList::new(one(
+            alloc,
+            Named::Everyone,
+        )?)),
         Some(Value::Object(map)) if has_members(map) => read_kinds(alloc, path, map),
         None | Some(_) => Err(fault(alloc, Departure::BadShape, path)),
     }

@@ -1,5 +1,5 @@
 // Documents.
-ghost use Rattle.std.specs.Prelude.{◌≡◌, ◌≢◌, ◌⊎◌, ◌↔◌, ◌<◌, ◌∷◌, [], length, IfOk, IfErr, option_map};
+ghost use Rattle.std.specs.Prelude.{◌≡◌, ◌≢◌, ◌⊎◌, ◌↔◌, ◌<◌, length, IfOk, IfErr, option_map};
 ghost use Rattle.serde_json.specs.Data.{Data};
 ghost use Rattle.serde_json.specs.View.{view};
 ghost use Rattle.policy_doc.specs.Paths.{path_text};
@@ -10,12 +10,12 @@ ghost use Rattle.policy_doc.specs.Reading.{Reads, ReadsNothing, IsFaultOf};
 ghost use Rattle.policy_doc.specs.declared.faults.PolicyFault.TheVariants.{TooLong, NotJson, NoMemory as OutOfMemory};
 
 use crate::faults::{Departure, PolicyFault};
+use crate::lists::one;
 use crate::members::DocumentMembers;
 use crate::names::{check_unknown, has_items};
 use crate::paths::{Path, fault};
 use crate::policies::{Policy, PolicyKind, Statement, StatementList};
 use crate::statements::{check_optional, read_items, read_statement};
-use kms_names::NoMemory;
 use serde_json::Value;
 use std::alloc::Global;
 
@@ -35,14 +35,6 @@ fn is_version(text: &str) -> bool
     text == "2012-10-17" || text == "2008-10-17"
 }
 
-fn one(alloc: Global, statement: Statement) -> Result<StatementList, NoMemory>
-    ensures { IfOk result (λ l. l ≡ statement ∷ []) }
-{
-    let mut statements = Vec::new(alloc);
-    statements.push(statement)?;
-    Ok(StatementList::new(statements))
-}
-
 // A statement, or a list of one or more.
 fn read_statements(
     alloc: Global,
@@ -55,7 +47,8 @@ fn read_statements(
     match value {
         Some(Value::Array(items)) if has_items(items) => read_items(alloc, kind, path, items),
         Some(statement) if statement.is_object() => {
-            Ok(one(alloc, read_statement(alloc, kind, path, statement)?)?)
+            let statement = read_statement(alloc, kind, path, statement)?;
+            Ok(StatementList::new(one(alloc, statement)?))
         }
         _ => Err(fault(alloc, Departure::BadShape, path)),
     }

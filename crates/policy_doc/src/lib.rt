@@ -11,6 +11,7 @@ mod documents;
 mod faults;
 mod forms;
 mod laws;
+mod lists;
 mod members;
 mod names;
 mod operators;

@@ -1,5 +1,5 @@
 // Values that are a text or a list of texts.
-ghost use Rattle.std.specs.Prelude.{◌≡◌, ◌∷◌, [], IfOk};
+ghost use Rattle.std.specs.Prelude.{◌≡◌, IfOk};
 ghost use Rattle.serde_json.specs.View.{view, items_view, number_view};
 ghost use Rattle.policy_doc.specs.Paths.{path_text};
 ghost use Rattle.policy_doc.specs.Answers.{Answers};
@@ -8,6 +8,7 @@ ghost use Rattle.policy_doc.specs.Texts.{truth_text, whole_text, text_given, tex
 
 use crate::faults::{Departure, PolicyFault};
 use crate::forms::{Form, departure};
+use crate::lists::one;
 use crate::paths::{Path, fault};
 use kms_names::{NoMemory, Text, TextList};
 use serde_json::{Number, Value};
@@ -72,14 +73,6 @@ fn read_items(
     Ok(TextList::new(texts))
 }
 
-fn one(alloc: Global, text: Text) -> Result<TextList, NoMemory>
-    ensures { IfOk result (λ texts. texts ≡ text ∷ []) }
-{
-    let mut texts = Vec::new(alloc);
-    texts.push(text)?;
-    Ok(TextList::new(texts))
-}
-
 fn takes_items(form: Form, items: &[Value]) -> bool
     ensures { result ≡ takes_count form (items_len (items_view items.now)) }
 {
@@ -98,6 +91,9 @@ pub fn read_texts(
     match value {
         Value::Array(items) if takes_items(form, items) => read_items(alloc, form, path, items),
         Value::Array(_) => Err(fault(alloc, Departure::BadShape, path)),
-        _ => Ok(one(alloc, read_text(alloc, form, path, value)?)?),
+        _ => {
+            let text = read_text(alloc, form, path, value)?;
+            Ok(TextList::new(one(alloc, text)?))
+        }
     }
 }
