@@ -11,8 +11,10 @@ mod parts;
 mod signed_names;
 mod signers;
 mod signing;
+mod threads;
 
 pub use credentials::{Credential, CredentialList, are_distinct};
 pub use faults::AuthFault;
 pub use signers::check;
 pub use signing::signing_key;
+pub use threads::credentials_cross_threads;
