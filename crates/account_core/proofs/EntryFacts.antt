@@ -16,7 +16,7 @@ use Rattle.account_steps.specs.declared.places.Uses.{Uses}
 use Rattle.account_steps.specs.Ids.{key_id_at, grant_id_at}
 use Rattle.kms_json.specs.declared.asks.grants.CreateGrant.{CreateGrant}
 use Rattle.grant_table.specs.declared.rows.GrantRow.{GrantRow}
-use Rattle.account_core.specs.declared.grants.Granting.{Granting}
+use Rattle.account_keys.specs.declared.grants.Granting.{Granting}
 use Rattle.std.specs.Prelude.{option_and_then}
 use Rattle.std.specs.Str.{bytes_eq}
 use Rattle.grant_table.specs.Grants.{grant_with}
@@ -24,28 +24,29 @@ use Rattle.kms_json.specs.declared.refusals.Refusal.TheVariants as refusal
 use Rattle.kms_json.specs.declared.refusals.Missing.TheVariants as missing
 use Rattle.kms_json.specs.declared.asks.grants.RetiredGrant.{RetiredGrant}
 use Rattle.kms_json.specs.declared.asks.grants.RetiredGrant.TheVariants as retired
-use Rattle.account_core.specs.Grants.{creates_grant, retires_grant, revokes_grant, made_unless, same_grant, if_of_key, grant_of, grant_id_in, retired_of}
-use Rattle.account_core.specs.declared.alias_changes.AliasChange.{AliasChange}
-use Rattle.account_core.specs.declared.alias_changes.AliasChange.TheVariants as alias
-use Rattle.account_core.specs.Aliases.{changes_alias, done_to}
-use Rattle.account_core.specs.declared.lists.AccountList.TheVariants as all
-use Rattle.account_core.specs.declared.lists.KeyList.TheVariants as of
-use Rattle.account_core.specs.Lists.{lists_in, lists_on}
+use Rattle.account_keys.specs.Grants.{creates_grant, retires_grant, revokes_grant, made_unless, same_grant, if_of_key, grant_of, retired_of}
+use Rattle.account_steps.specs.Given.{grant_id_in}
+use Rattle.account_keys.specs.declared.alias_changes.AliasChange.{AliasChange}
+use Rattle.account_keys.specs.declared.alias_changes.AliasChange.TheVariants as alias
+use Rattle.account_keys.specs.Aliases.{changes_alias, done_to}
+use Rattle.account_lists.specs.declared.lists.AccountList.TheVariants as all
+use Rattle.account_lists.specs.declared.lists.KeyList.TheVariants as of
+use Rattle.account_lists.specs.Lists.{lists_in, lists_on}
 use Rattle.account_steps.specs.Places.{no_places}
 use Rattle.account_steps.specs.View.{View, view_of, is_live, if_live, grant_held}
 use Rattle.account_steps.specs.Steps.{unless, and_then, only_key_of}
 use Rattle.account_steps.specs.Parts.{Parts, Outcome, Effect, takes, appends, entry_of, outcome, overfull, limited, decided_by, grant_id_of, grant_of_token}
-use Rattle.account_core.specs.Keys.{creates_key, describes_key}
-use Rattle.account_core.specs.Policies.{puts_policy, gets_policy}
-use Rattle.account_core.specs.declared.key_changes.KeyChange.{KeyChange}
-use Rattle.account_core.specs.declared.key_changes.KeyChange.TheVariants as change
-use Rattle.account_core.specs.KeyChanges.{effect_at, does_unless, is_enabled, is_disabled, is_period, is_off, changes_key, updates_description, gets_rotation_status}
+use Rattle.account_keys.specs.Keys.{creates_key, describes_key}
+use Rattle.account_keys.specs.Policies.{puts_policy, gets_policy}
+use Rattle.account_keys.specs.declared.key_changes.KeyChange.{KeyChange}
+use Rattle.account_keys.specs.declared.key_changes.KeyChange.TheVariants as change
+use Rattle.account_keys.specs.KeyChanges.{effect_at, does_unless, is_enabled, is_disabled, is_period, is_off, changes_key, updates_description, gets_rotation_status}
 use Rattle.account_rows.specs.Changes.{days_after}
 use Rattle.account_rows.proofs.HouseFacts.{GivesDays}
 use Rattle.key_states.specs.declared.rows.KeyRow.{KeyRow}
 use Rattle.kms_json.specs.Asks.{IsSized, IsSizedChanging}
 use Rattle.kms_json.proofs.Sizes.{asked_sized}
-use Rattle.account_core.specs.Crypto.{encrypts, decrypts, re_encrypts, generates_data_key, generates_sealed_data_key, generates_random}
+use Rattle.account_crypto.specs.Crypto.{encrypts, decrypts, re_encrypts, generates_data_key, generates_sealed_data_key, generates_random}
 use Rattle.account_core.specs.Operations.{change_outcome, read_outcome}
 use Rattle.account_core.specs.Decide.{lacking, body_outcome, decide, IsProper}
 use Rattle.account_steps.proofs.Passing.{Passed, passed, next_of, found_of, ok_of}
@@ -126,6 +127,23 @@ entry_is view effect made entry at same is =
     let equal : made ≡ entry = cc in
     subst (IsEntryOf view) equal at
 
+-- the limits leave room for it
+left_of : (view : View) (effect : Effect) (entry : Entry) → limited view effect ≡ None → entry_of effect ≡ Some entry → overfull view entry.what ≡ None
+left_of view (takes uses) entry left e = cc
+left_of view (appends made) entry left e = let same : made ≡ entry = cc in subst (λ (x : Entry). overfull view x.what ≡ None) same left
+
+pub record IsEntryAt (view : View) (entry : Entry) : Type 0 where
+  pub of : IsEntryOf view entry
+  pub left : overfull view entry.what ≡ None
+
+room_of : {F R : Type 0} (view : View) (parts : Parts F R) (o : Outcome) (entry : Entry) → outcome view parts ≡ Ok o → entry_of o.effect ≡ Some entry → overfull view entry.what ≡ None
+room_of view parts o entry e is =
+    let p = passed view parts o e in
+    left_of view (parts.effect p.found p.ready) entry p.left (ap entry_of (effect_is p) ∙ is)
+
+at_parts : {F R : Type 0} (view : View) (parts : Parts F R) (o : Outcome) (entry : Entry) → outcome view parts ≡ Ok o → entry_of o.effect ≡ Some entry → IsEntryOf view entry → IsEntryAt view entry
+at_parts view parts o entry e is entered = record { of = entered; left = room_of view parts o entry e is }
+
 -- ---- of the changes of one key
 
 abbrev SizedChange : KeyChange → Type 0
@@ -154,10 +172,10 @@ change_of view row (change.RotateEvery period) entry sized e = done_of view (is_
 change_of view row change.RotateNoMore entry sized e = done_of view (is_off row.period) (what.RotationOff row.key) entry tt tt tt e
 change_of view row change.RotateNow entry sized e = done_of view false (what.RotateNow row.key) entry tt tt tt e
 
-key_changed : (view : View) (key_id : List ℕ) (c : KeyChange) (o : Outcome) (entry : Entry) → SizedChange c → outcome view (changes_key view key_id c) ≡ Ok o → entry_of o.effect ≡ Some entry → IsEntryOf view entry
+key_changed : (view : View) (key_id : List ℕ) (c : KeyChange) (o : Outcome) (entry : Entry) → SizedChange c → outcome view (changes_key view key_id c) ≡ Ok o → entry_of o.effect ≡ Some entry → IsEntryAt view entry
 key_changed view key_id c o entry sized e is =
     let p = passed view (changes_key view key_id c) o e in
-    change_of view p.found c entry sized (ap entry_of (effect_is p) ∙ is)
+    at_parts view (changes_key view key_id c) o entry e is (change_of view p.found c entry sized (ap entry_of (effect_is p) ∙ is))
 
 -- ---- of aliases and grants
 
@@ -165,10 +183,10 @@ alias_put : (view : View) (name : List ℕ) (new : Option KeyRow) → IsEntryOf 
 alias_put view name None = record { time = refl; made = tt; gives = tt; holds = tt }
 alias_put view name (Some row) = record { time = refl; made = tt; gives = tt; holds = tt }
 
-alias_changed : (view : View) (name : List ℕ) (c : AliasChange) (o : Outcome) (entry : Entry) → outcome view (changes_alias view name c) ≡ Ok o → entry_of o.effect ≡ Some entry → IsEntryOf view entry
+alias_changed : (view : View) (name : List ℕ) (c : AliasChange) (o : Outcome) (entry : Entry) → outcome view (changes_alias view name c) ≡ Ok o → entry_of o.effect ≡ Some entry → IsEntryAt view entry
 alias_changed view name c o entry e is =
     let p = passed view (changes_alias view name c) o e in
-    entry_is view o.effect _ entry (alias_put view name p.found.new) (effect_is p) is
+    at_parts view (changes_alias view name c) o entry e is (entry_is view o.effect _ entry (alias_put view name p.found.new) (effect_is p) is)
 
 grant_made : (view : View) (x : CreateGrant) (granting : Granting) (same : Option GrantRow) (entry : Entry) → entry_of (made_unless same view x granting) ≡ Some entry → IsEntryOf view entry
 grant_made view x granting (Some grant) entry e = cc
@@ -215,13 +233,13 @@ retired_held view (retired.OfKey key_id id) row e =
 
 -- ---- of all
 
-entry_at : (view : View) (body : Changing) (o : Outcome) (entry : Entry) → IsSizedChanging body → change_outcome view body ≡ Ok o → entry_of o.effect ≡ Some entry → IsEntryOf view entry
+entry_at : (view : View) (body : Changing) (o : Outcome) (entry : Entry) → IsSizedChanging body → change_outcome view body ≡ Ok o → entry_of o.effect ≡ Some entry → IsEntryAt view entry
 entry_at view (changing.CreateKey x) o entry sized e is =
-    entry_is view o.effect _ entry (record { time = refl; made = refl; gives = tt; holds = tt }) (effect_is (passed view (creates_key view x) o e)) is
+    at_parts view (creates_key view x) o entry e is (entry_is view o.effect _ entry (record { time = refl; made = refl; gives = tt; holds = tt }) (effect_is (passed view (creates_key view x) o e)) is)
 entry_at view (changing.PutKeyPolicy key_id text bypass) o entry sized e is =
-    entry_is view o.effect _ entry (record { time = refl; made = tt; gives = tt; holds = tt }) (effect_is (passed view (puts_policy view key_id text bypass) o e)) is
+    at_parts view (puts_policy view key_id text bypass) o entry e is (entry_is view o.effect _ entry (record { time = refl; made = tt; gives = tt; holds = tt }) (effect_is (passed view (puts_policy view key_id text bypass) o e)) is)
 entry_at view (changing.UpdateKeyDescription key_id text) o entry sized e is =
-    entry_is view o.effect _ entry (record { time = refl; made = tt; gives = tt; holds = tt }) (effect_is (passed view (updates_description view key_id text) o e)) is
+    at_parts view (updates_description view key_id text) o entry e is (entry_is view o.effect _ entry (record { time = refl; made = tt; gives = tt; holds = tt }) (effect_is (passed view (updates_description view key_id text) o e)) is)
 entry_at view (changing.EnableKey key_id) o entry sized e is = key_changed view key_id change.Enable o entry tt e is
 entry_at view (changing.DisableKey key_id) o entry sized e is = key_changed view key_id change.Disable o entry tt e is
 entry_at view (changing.ScheduleKeyDeletion key_id days) o entry sized e is = key_changed view key_id (change.ScheduleDeletion days) o entry tt e is
@@ -234,52 +252,19 @@ entry_at view (changing.UpdateAlias name key_id) o entry sized e is = alias_chan
 entry_at view (changing.DeleteAlias name) o entry sized e is = alias_changed view name alias.Delete o entry e is
 entry_at view (changing.CreateGrant x) o entry sized e is =
     let p = passed view (creates_grant view x) o e in
-    grant_made view x p.found (same_grant view x p.found) entry (ap entry_of (effect_is p) ∙ is)
+    at_parts view (creates_grant view x) o entry e is (grant_made view x p.found (same_grant view x p.found) entry (ap entry_of (effect_is p) ∙ is))
 entry_at view (changing.RetireGrant grant dry_run) o entry sized e is =
     let p = passed view (retires_grant view grant dry_run) o e in
-    entry_is view o.effect _ entry (record { time = refl; made = tt; gives = tt; holds = retired_held view grant p.found p.found_is }) (effect_is p) is
+    at_parts view (retires_grant view grant dry_run) o entry e is
+    (entry_is view o.effect _ entry (record { time = refl; made = tt; gives = tt; holds = retired_held view grant p.found p.found_is }) (effect_is p) is)
 entry_at view (changing.RevokeGrant key_id grant_id dry_run) o entry sized e is =
     let p = passed view (revokes_grant view key_id grant_id dry_run) o e in
-    entry_is view o.effect _ entry (record { time = refl; made = tt; gives = tt; holds = of_key_and_id view p.found.row p.found.grant p.ready p.own_is }) (effect_is p) is
-
--- the limits leave room for it
-left_of : (view : View) (effect : Effect) (entry : Entry) → limited view effect ≡ None → entry_of effect ≡ Some entry → overfull view entry.what ≡ None
-left_of view (takes uses) entry left e = cc
-left_of view (appends made) entry left e = let same : made ≡ entry = cc in subst (λ (x : Entry). overfull view x.what ≡ None) same left
-
-pub record IsEntryAt (view : View) (entry : Entry) : Type 0 where
-  pub of : IsEntryOf view entry
-  pub left : overfull view entry.what ≡ None
-
-room_of : {F R : Type 0} (view : View) (parts : Parts F R) (o : Outcome) (entry : Entry) → outcome view parts ≡ Ok o → entry_of o.effect ≡ Some entry → overfull view entry.what ≡ None
-room_of view parts o entry e is =
-    let p = passed view parts o e in
-    left_of view (parts.effect p.found p.ready) entry p.left (ap entry_of (effect_is p) ∙ is)
-
-room_at : (view : View) (body : Changing) (o : Outcome) (entry : Entry) → change_outcome view body ≡ Ok o → entry_of o.effect ≡ Some entry → overfull view entry.what ≡ None
-room_at view (changing.CreateKey x) o entry e is = room_of view (creates_key view x) o entry e is
-room_at view (changing.PutKeyPolicy key_id text bypass) o entry e is = room_of view (puts_policy view key_id text bypass) o entry e is
-room_at view (changing.UpdateKeyDescription key_id text) o entry e is = room_of view (updates_description view key_id text) o entry e is
-room_at view (changing.EnableKey key_id) o entry e is = room_of view (changes_key view key_id change.Enable) o entry e is
-room_at view (changing.DisableKey key_id) o entry e is = room_of view (changes_key view key_id change.Disable) o entry e is
-room_at view (changing.ScheduleKeyDeletion key_id days) o entry e is = room_of view (changes_key view key_id (change.ScheduleDeletion days)) o entry e is
-room_at view (changing.CancelKeyDeletion key_id) o entry e is = room_of view (changes_key view key_id change.CancelDeletion) o entry e is
-room_at view (changing.EnableKeyRotation key_id period) o entry e is = room_of view (changes_key view key_id (change.RotateEvery period)) o entry e is
-room_at view (changing.DisableKeyRotation key_id) o entry e is = room_of view (changes_key view key_id change.RotateNoMore) o entry e is
-room_at view (changing.RotateKeyOnDemand key_id) o entry e is = room_of view (changes_key view key_id change.RotateNow) o entry e is
-room_at view (changing.CreateAlias name key_id) o entry e is = room_of view (changes_alias view name (alias.Create key_id)) o entry e is
-room_at view (changing.UpdateAlias name key_id) o entry e is = room_of view (changes_alias view name (alias.Update key_id)) o entry e is
-room_at view (changing.DeleteAlias name) o entry e is = room_of view (changes_alias view name alias.Delete) o entry e is
-room_at view (changing.CreateGrant x) o entry e is = room_of view (creates_grant view x) o entry e is
-room_at view (changing.RetireGrant grant dry_run) o entry e is = room_of view (retires_grant view grant dry_run) o entry e is
-room_at view (changing.RevokeGrant key_id grant_id dry_run) o entry e is = room_of view (revokes_grant view key_id grant_id dry_run) o entry e is
+    at_parts view (revokes_grant view key_id grant_id dry_run) o entry e is
+    (entry_is view o.effect _ entry (record { time = refl; made = tt; gives = tt; holds = of_key_and_id view p.found.row p.found.grant p.ready p.own_is }) (effect_is p) is)
 
 module _ (facts : RealmFacts) (history : List Entry) (x : Ask) (entry : Entry) where
   of_body : (body : AskBody) (o : Outcome) → IsSized body → body_outcome facts history x no_places body ≡ Ok o → entry_of o.effect ≡ Some entry → IsEntryAt (view_of facts history x no_places) entry
-  of_body (ask.Change body) o sized e is = record {
-    of = entry_at (view_of facts history x no_places) body o entry sized e is;
-    left = room_at (view_of facts history x no_places) body o entry e is;
-  }
+  of_body (ask.Change body) o sized e is = entry_at (view_of facts history x no_places) body o entry sized e is
   of_body (ask.Read body) o sized e is =
       let only = takes_only (view_of facts history x no_places) body o e in
       let nothing : None ≡ Some entry = ap entry_of only.1 ∙ is in

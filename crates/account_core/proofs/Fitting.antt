@@ -50,7 +50,7 @@ id_place facts p fits =
     let whole : 0 ∷ 0 ∷ be48 p ≡ to_be_bytes w64 p = ap₂ (λ (a b : ℕ). a ∷ b ∷ be48 p) (first_byte p fits) (second_byte p fits) in
     ap (λ (bytes : List ℕ). from_be_bytes w64 (0 ∷ 0 ∷ bytes)) (id_ends facts p) ∙ ap (from_be_bytes w64) whole ∙ from_be_bytes-to_be_bytes_8 p (omega (arith, fits))
 
-grant_ends : (facts : RealmFacts) (place : ℕ) → drop 26 (grant_id_at facts place) ≡ be48 place
+pub grant_ends : (facts : RealmFacts) (place : ℕ) → drop 26 (grant_id_at facts place) ≡ be48 place
 grant_ends facts place =
     let text : List ℕ = codes "grant" ++ be32 facts.boot ++ be48 place in
     let digest : List ℕ = hmac_sha256 facts.root text in

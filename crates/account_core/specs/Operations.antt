@@ -7,17 +7,17 @@ use Rattle.kms_json.specs.declared.asks.Reading.TheVariants as reading
 use Rattle.kms_json.specs.declared.refusals.Refusal.{Refusal}
 use Rattle.account_steps.specs.View.{View}
 use Rattle.account_steps.specs.Parts.{Outcome, outcome}
-use Rattle.account_core.specs.Keys.{creates_key, describes_key}
-use Rattle.account_core.specs.Policies.{puts_policy, gets_policy}
-use Rattle.account_core.specs.declared.key_changes.KeyChange.TheVariants as change
-use Rattle.account_core.specs.KeyChanges.{changes_key, updates_description, gets_rotation_status}
-use Rattle.account_core.specs.declared.alias_changes.AliasChange.TheVariants as alias
-use Rattle.account_core.specs.Aliases.{changes_alias}
-use Rattle.account_core.specs.Grants.{creates_grant, retires_grant, revokes_grant}
-use Rattle.account_core.specs.declared.lists.AccountList.TheVariants as all
-use Rattle.account_core.specs.declared.lists.KeyList.TheVariants as of
-use Rattle.account_core.specs.Lists.{lists_in, lists_on}
-use Rattle.account_core.specs.Crypto.{encrypts, decrypts, re_encrypts, generates_data_key, generates_sealed_data_key, generates_random}
+use Rattle.account_keys.specs.Keys.{creates_key, describes_key}
+use Rattle.account_keys.specs.Policies.{puts_policy, gets_policy}
+use Rattle.account_keys.specs.declared.key_changes.KeyChange.TheVariants as change
+use Rattle.account_keys.specs.KeyChanges.{changes_key, updates_description, gets_rotation_status}
+use Rattle.account_keys.specs.declared.alias_changes.AliasChange.TheVariants as alias
+use Rattle.account_keys.specs.Aliases.{changes_alias}
+use Rattle.account_keys.specs.Grants.{creates_grant, retires_grant, revokes_grant}
+use Rattle.account_lists.specs.declared.lists.AccountList.TheVariants as all
+use Rattle.account_lists.specs.declared.lists.KeyList.TheVariants as of
+use Rattle.account_lists.specs.Lists.{lists_in, lists_on}
+use Rattle.account_crypto.specs.Crypto.{encrypts, decrypts, re_encrypts, generates_data_key, generates_sealed_data_key, generates_random}
 
 -- those that change the account
 abbrev pub change_outcome : View → Changing → Result Outcome Refusal

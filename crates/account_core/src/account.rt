@@ -1,11 +1,11 @@
 // The account.
 ghost use Rattle.std.specs.Prelude.{◌≡◌, ◌<◌, ◌++◌, ◌∷◌, [], length, true, false, IfOk};
 
+use crate::Decision;
 use crate::decide::{decision_from, lacking_entries};
 use crate::operations::{change_body, read_body};
 use crate::realm::Realm;
-use crate::{Decision, Entry};
-use account_rows::Rows;
+use account_rows::{Entry, Rows};
 use account_steps::{Places, RealmFacts, Stop, View};
 use draw_lines::DrawLine;
 use kms_json::{Ask, AskBody, Reply};

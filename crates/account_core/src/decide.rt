@@ -2,7 +2,7 @@
 ghost use Rattle.std.specs.Prelude.{◌≡◌};
 ghost use Rattle.account_core.specs.Decide.{lacking, decision_by};
 
-use crate::Entry;
+use account_rows::Entry;
 use account_steps::Made;
 use kms_json::{Refusal, Reply};
 

@@ -1,27 +1,26 @@
 // The operations, one arm each.
 ghost use Rattle.std.specs.Prelude.{◌≡◌, true, IfOk};
 ghost use Rattle.kms_names.specs.Reading.{is_alias_text};
-ghost use Rattle.account_core.specs.Aliases.{changes_alias};
-ghost use Rattle.account_core.specs.Grants.{creates_grant};
-ghost use Rattle.account_core.specs.Lists.{lists_in, lists_on};
+ghost use Rattle.account_keys.specs.Aliases.{changes_alias};
+ghost use Rattle.account_keys.specs.Grants.{creates_grant};
+ghost use Rattle.account_lists.specs.Lists.{lists_in, lists_on};
 ghost use Rattle.kms_json.specs.Asks.{IsSizedReading, IsSizedChanging};
-ghost use Rattle.account_core.specs.KeyChanges.{changes_key};
+ghost use Rattle.account_keys.specs.KeyChanges.{changes_key};
 ghost use Rattle.account_steps.specs.Places.{places_of, IsLineOf};
 ghost use Rattle.account_steps.specs.Parts.{decided_by, outcome};
 ghost use Rattle.account_steps.specs.Settling.{Settles, Makes};
 ghost use Rattle.account_core.specs.Operations.{change_outcome, read_outcome};
 
-use crate::alias_changes::{AliasChange, ChangingAlias};
-use crate::data_keys::{Drawing, GeneratingDataKey, GeneratingSealedDataKey};
-use crate::decrypt::Decrypting;
-use crate::encrypt::Encrypting;
-use crate::grants::{RetiringGrant, RevokingGrant, creating_grant};
-use crate::key_changes::{ChangingKey, GettingRotationStatus, KeyChange, UpdatingDescription};
-use crate::keys::{CreatingKey, DescribingKey};
-use crate::lists::{AccountList, KeyList, ListingAccount, ListingKey};
-use crate::policies::{GettingPolicy, PuttingPolicy};
-use crate::random::GeneratingRandom;
-use crate::re_encrypt::ReEncrypting;
+use account_crypto::{
+    Decrypting, Drawing, Encrypting, GeneratingDataKey, GeneratingRandom, GeneratingSealedDataKey,
+    ReEncrypting,
+};
+use account_keys::{
+    AliasChange, ChangingAlias, ChangingKey, CreatingKey, DescribingKey, GettingPolicy,
+    GettingRotationStatus, KeyChange, PuttingPolicy, RetiringGrant, RevokingGrant,
+    UpdatingDescription, creating_grant,
+};
+use account_lists::{AccountList, KeyList, ListingAccount, ListingKey};
 use account_steps::{LentText, Made, Stop, View, change as apply, lent_if_given, read};
 use draw_lines::DrawLine;
 use kms_json::{Changing, CreateGrant, Page, Reading, Reply};

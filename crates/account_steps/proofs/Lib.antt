@@ -1,9 +1,9 @@
 pub mod Following
 pub mod KeyIds
-pub mod BlobNames
 pub mod Openings
 pub mod Passing
 pub mod Fit
 pub mod Asking
 pub mod Referring
 pub mod TokenFacts
+mod PrincipalFacts

@@ -1,10 +1,10 @@
 pub mod Ids
 pub mod Places
 pub mod History
-pub mod Blobs
 pub mod Source
 pub mod View
 pub mod Steps
 pub mod Authority
 pub mod Parts
+pub mod Given
 pub mod Settling

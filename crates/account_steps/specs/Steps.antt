@@ -20,8 +20,7 @@ use Rattle.account_steps.specs.declared.facts.RealmFacts.{RealmFacts}
 use Rattle.key_states.specs.declared.rows.KeyRow.{KeyRow}
 use Rattle.account_steps.specs.declared.stops.Stop.{Stop}
 use Rattle.account_steps.specs.declared.stops.Stop.TheVariants as stop
-use Rattle.blob_format.specs.declared.reading.Blob.{Blob}
-use Rattle.account_steps.specs.Blobs.{BlobName, named_in}
+use Rattle.blob_format.specs.Names.{BlobName, named_in}
 use Rattle.account_steps.specs.Ids.{draw_seed}
 use Rattle.account_steps.specs.Places.{Places}
 use Rattle.account_steps.specs.Source.{Source}
@@ -147,10 +146,6 @@ alias_arn_of facts name = alias_arn_text facts.account facts.region name
 -- the key of a blob; one that isn't there is refused as to a caller who may not use it
 abbrev pub held_key : View → Action → List ℕ → Result KeyRow Refusal
 held_key view action key = ok_or (key_held view key) (refusal.AccessDenied view.caller action (arn_of view.facts key))
-
--- what a blob that was read names
-abbrev pub name_of : Blob → BlobName
-name_of blob = record { key = blob.key; version = blob.version }
 
 -- the form of a blob
 abbrev pub blob_name : List ℕ → Result BlobName Refusal

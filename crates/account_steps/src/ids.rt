@@ -1,5 +1,5 @@
 // The ids of keys and grants, and the lines of passes.
-ghost use Rattle.std.specs.Prelude.{◌≡◌, ◌+◌, ◌≤◌, ◌++◌, codes, length, take};
+ghost use Rattle.std.specs.Prelude.{◌≡◌, ◌-◌, ◌≤◌, ◌++◌, codes, length, take};
 ghost use Rattle.mac_sha.specs.Hmac.{hmac_sha256};
 ghost use Rattle.account_steps.specs.Ids.{be32, be48, key_id_at, grant_id_at};
 ghost use Rattle.account_steps.specs.Places.{first_line};
@@ -19,12 +19,13 @@ fn place_bytes(place: u64) -> [u8; 6]
     low
 }
 
-// Writes a part behind the first bytes of a text.
-fn write_at(text: &mut [u8], at: usize, part: &[u8])
-    requires { at + length part.now ≤ length text.old }
-    ensures { take (at + length part.now) text.new ≡ take at text.old ++ part.now }
+// Writes a place over the last bytes of a text.
+fn end_with(text: &mut [u8], place: &[u8; 6])
+    requires { 6 ≤ length text.old }
+    ensures { take (length text.old) text.new ≡ take (length text.old - 6) text.old ++ place.now }
 {
-    text[at..at + part.len()].copy_from_slice(part);
+    let first = text.len() - place.len();
+    text[first..].copy_from_slice(place);
 }
 
 /// The id of the key that the entry at this place makes. It takes no memory.
@@ -44,10 +45,9 @@ pub fn key_id_of(root: &[u8; 32], boot: u32, place: u64) -> KeyId
     mac.add(b"key");
     mac.add(&boot.to_be_bytes());
     mac.add(&place);
-    let digest = mac.end();
     let mut id = [0; 16];
-    write_at(&mut id, 0, &digest[..10]);
-    write_at(&mut id, 10, &place);
+    id.copy_from_slice(&mac.end()[..16]);
+    end_with(&mut id, &place);
     KeyId::new(id)
 }
 
@@ -60,10 +60,8 @@ pub fn grant_id(facts: &RealmFacts, place: u64) -> GrantId
     mac.add(b"grant");
     mac.add(&facts.boot.to_be_bytes());
     mac.add(&place);
-    let digest = mac.end();
-    let mut id = [0; 32];
-    write_at(&mut id, 0, &digest[..26]);
-    write_at(&mut id, 26, &place);
+    let mut id = mac.end();
+    end_with(&mut id, &place);
     GrantId::new(id)
 }
 

@@ -3,6 +3,7 @@
 
 mod checks;
 mod facts;
+mod given;
 mod ids;
 mod particulars;
 mod parts;
@@ -10,12 +11,14 @@ mod places;
 mod sources;
 mod stops;
 mod texts;
+mod threads;
 mod view;
 
 pub use checks::{
     Named, key_if_given, key_of, key_of_alias, only_key_of, other_key, unfit, unsupported,
 };
 pub use facts::RealmFacts;
+pub use given::{grant_id_in, principal_if_given, principal_in};
 pub use ids::{draw_line, grant_id, key_id, key_id_of};
 pub use particulars::{of_context, of_key, of_named, of_new_key, of_none};
 pub use parts::{
@@ -25,4 +28,5 @@ pub use places::{Places, Uses};
 pub use sources::{Sealed, find_source};
 pub use stops::Stop;
 pub use texts::{LentText, lent_if_given};
+pub use threads::realm_facts_cross_threads;
 pub use view::{LentGrant, View, told_state};

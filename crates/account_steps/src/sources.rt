@@ -1,7 +1,8 @@
 // The key of a sealed text.
 ghost use Rattle.std.specs.Prelude.{◌≡◌, ◌≤◌, length, IfOk};
 ghost use Rattle.blob_format.specs.Reading.{IsBlobOf};
-ghost use Rattle.account_steps.specs.Steps.{Gives, GivesAs, alias_of, name_of, blob_name, held_key, source_of, opens};
+ghost use Rattle.blob_format.specs.Names.{name_of};
+ghost use Rattle.account_steps.specs.Steps.{Gives, GivesAs, alias_of, blob_name, held_key, source_of, opens};
 
 use crate::checks::{Named, key_if_given, other_key};
 use crate::parts::refuse;

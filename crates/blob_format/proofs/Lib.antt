@@ -1,1 +1,2 @@
 pub mod BlobFacts
+pub mod BlobNames

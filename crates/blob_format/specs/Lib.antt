@@ -1,3 +1,4 @@
 pub mod Blob
+pub mod Names
 pub mod Laws
 pub mod Reading

@@ -1,6 +1,6 @@
 //! Laws of blobs. Each stands as the contract of a function that does nothing.
 
-ghost use Rattle.blob_format.specs.Laws.{OneSpelling, OneValue, WrittenIsReadAgain};
+ghost use Rattle.blob_format.specs.Laws.{BlobsAreNamed, NamedAreBlobs, OneSpelling, OneValue, WrittenIsReadAgain};
 
 /// The blobs of one value are the same bytes.
 pub fn one_spelling()
@@ -15,4 +15,11 @@ pub fn one_value()
 /// What `write_blob` writes of a value, `read_blob` reads, and it gives that value.
 pub fn written_is_read_again()
     ensures { WrittenIsReadAgain }
+{}
+
+/// What bytes name (`named_in`) are the key and the version of their blob, and only the bytes of a
+/// blob name any.
+pub fn blobs_name_their_keys()
+    ensures named { BlobsAreNamed }
+    ensures blobs { NamedAreBlobs }
 {}

@@ -11,7 +11,7 @@ mod places;
 mod reading;
 mod writing;
 
-pub use laws::{one_spelling, one_value, written_is_read_again};
+pub use laws::{blobs_name_their_keys, one_spelling, one_value, written_is_read_again};
 pub use places::HEAD_SIZE;
 pub use reading::{Blob, read_blob};
 pub use writing::{push_head, write_blob};

@@ -9,7 +9,8 @@ ghost use Rattle.kms_session.specs.declared.trust.Trust.TheVariants.{Signed};
 ghost use Rattle.kms_words.specs.Words.{values_in};
 ghost use Rattle.kms_local.specs.Settings.{boot_of, IsSettings, IsConfigured, IsNobody, Names, UnlessMemory};
 
-use account_core::{IdentityList, RealmFacts};
+use account_steps::RealmFacts;
+use authority::IdentityList;
 use hex::FromHex;
 use kms_config::Config;
 use kms_names::{AccountNumber, NameFault, NoMemory, Principal, Text, is_region, read_principal};

@@ -32,10 +32,6 @@ settles_self s = record { learns = learns_self s.pass; others = refl }
 pub settles_then : (s t u : WorkerState) → Settles s t → Settles t u → Settles s u
 settles_then s t u p q = record { learns = learns_trans s.pass t.pass u.pass p.learns q.learns; others = cc }
 
--- the first of them settles further
-pub first_settles : {s t u : WorkerState} {ss ts : List WorkerState} → Pairwise Settles (s ∷ ss) (t ∷ ts) → Settles t u → Pairwise Settles (s ∷ ss) (u ∷ ts)
-first_settles {s} {t} {u} (both p h) q = both (settles_then s t u p q) h
-
 pub settled_all : (ss : List WorkerState) → Pairwise Settles ss ss
 settled_all [] = none
 settled_all (s ∷ ss) = both (settles_self s) (settled_all ss)

@@ -9,7 +9,7 @@ ghost use Rattle.kms_server.specs.Server.{wanted_by, surroundings, Fulfils};
 
 use crate::crew::{disband, gather, learn_all, settle_all, taken_by, took_all, work_all};
 use crate::worker::{Host, Worker};
-use account_core::RealmFacts;
+use account_steps::RealmFacts;
 use kms_io::{Clock, Door, Ear, Gate, Opened};
 use kms_session::Trust;
 use publish_pass::{Opening, Pass, Realm, Service, open_service};

@@ -1,10 +1,6 @@
 mod Wires
-mod AskedLemmas
+pub mod AskedLemmas
 mod Messages
 mod Runs
 mod ReplyLemmas
-mod OneCut
-mod OneEnd
-mod LawfulRuns
-mod GrowingRuns
-mod Signers
+pub mod Signers

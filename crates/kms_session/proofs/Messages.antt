@@ -23,9 +23,6 @@ pub empty_buffer : (buffer bytes : List ℕ) → bytes ≡ buffer → true ≡ (
 empty_buffer buffer [] same is = sym same
 empty_buffer buffer (byte ∷ bytes) same is = absurd (not_empty (length bytes) is)
 
-pub some_left : (buffer bytes : List ℕ) → bytes ≡ buffer → false ≡ (length bytes == 0) → 0 < length buffer
-some_left buffer bytes same is = subst (λ (all : List ℕ). 0 < length all) same (positive (length bytes) is)
-
 pub not_last : (closed : Bool) (number : ℕ) → false ≡ (closed || (number + 1 == 100000)) → number < 100000 → number + 1 < 100000
 not_last true number is few = cc
 not_last false number is few = grind (arith, nat_tests)

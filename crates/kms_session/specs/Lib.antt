@@ -6,4 +6,3 @@ pub mod Run
 pub mod Pace
 pub mod Session
 pub mod Replying
-pub mod Laws

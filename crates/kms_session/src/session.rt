@@ -24,6 +24,7 @@ use kms_io::{Clock, Gate, Link, Point};
 use kms_json::{Ask, AskBody, JsonFault, Refusal, Reply};
 use kms_names::{NoMemory, Principal, Text};
 use publish_pass::{Answered, Pass, Realm, Service, Unread, answer_with};
+use published_account::let_ask_go;
 use std::alloc::Global;
 use std::sync::Wait;
 
@@ -160,11 +161,10 @@ fn answer_owned<W: Wait, R: Realm, G: Gate>(
     ensures answer { IfOk result (λ a. Gives pass.old (asks ask) a pass.new) }
     ensures wants { OnErr result (Wanting pass.old (asks ask) pass.new) }
 {
-    answer_ask(host, pass, &ask)
+    let answered = answer_ask(host, pass, &ask);
+    let_ask_go(ask);
+    answered
 }
-
-// Lets a caller and the body of a request go.
-fn let_go(_caller: Principal, _body: AskBody) {}
 
 // Answers a request that asks nothing of the account.
 fn answer_refusal<R: Realm>(
@@ -174,7 +174,7 @@ fn answer_refusal<R: Realm>(
 ) -> Result<Answered, NoMemory>
     ensures { IfOk result (λ a. Gives pass.now (answered (answer_of (Refused refusal))) a pass.now) }
 {
-    answer_with(alloc, pass.seen(), &Reply::Refused(refusal))
+    answer_with(alloc, pass.seen(), Reply::Refused(refusal))
 }
 
 // Answers a message whose header x-kms-after is malformed.
@@ -211,7 +211,12 @@ fn answer_body<W: Wait, R: Realm, G: Gate>(
             answer_owned(host, pass, ask)
         }
         After::Malformed => {
-            let_go(caller, body);
+            let_ask_go(Ask {
+                body,
+                caller,
+                moment: now,
+                after: None,
+            });
             answer_malformed(host.alloc, pass)
         }
     }

@@ -225,9 +225,6 @@ pub record IsLeft (statuses rest : List ℕ) (count served : ℕ) : Type 0 where
   pub number : length statuses ≡ count + length left
   pub served_is : served_in statuses ≡ served + served_in left
 
-pub left_none : (statuses text : List ℕ) → AreReplies text statuses → IsLeft statuses text 0 0
-left_none statuses text are = record { left = statuses; are = are; number = omega arith; served_is = omega arith }
-
 -- what a look at the first reply tells
 abbrev pub Tells : List ℕ → Bool → List ℕ → Type 0
 Tells text served behind = (status : ℕ) (reply more : List ℕ) → IsReply status reply → text ≡ reply ++ more → (served ≡ (status == 200)) × (behind ≡ more)

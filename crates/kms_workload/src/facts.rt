@@ -2,7 +2,8 @@
 ghost use Rattle.std.specs.Prelude.{◌≡◌, IfOk};
 ghost use Rattle.kms_workload.specs.Facts.{load_facts, load_trust, key_at};
 
-use account_core::{IdentityList, RealmFacts, key_id_of};
+use account_steps::{RealmFacts, key_id_of};
+use authority::IdentityList;
 use kms_names::{AccountNumber, KeyId, NoMemory, Principal, Text};
 use kms_session::Trust;
 use std::alloc::Global;

@@ -10,7 +10,8 @@ mod steps;
 ghost use Rattle.std.specs.Prelude.{◌≡◌, ◌<◌, ◌≤◌, IfOk};
 ghost use Rattle.published_account.specs.Rules.{Names};
 
-use account_core::{IdentityList, RealmFacts};
+use account_steps::RealmFacts;
+use authority::IdentityList;
 use kms_names::{AccountNumber, NoMemory, Text};
 use publish_pass::{Opening, Realm, open_service};
 use requests::{Failure, Host};

@@ -3,11 +3,12 @@ ghost use Rattle.std.specs.Prelude.{◌≡◌, false, IfOk};
 ghost use Rattle.kms_json.specs.Asks.{changes_account};
 ghost use Rattle.account_core.specs.Decide.{IsProper, account_of};
 
-use account_core::RealmFacts;
+use account_steps::RealmFacts;
 use kms_io::Gate;
 use kms_json::{Ask, JsonFault, read_ask};
 use kms_names::{NoMemory, Principal, Text};
 use publish_pass::{Answered, Pass, Realm, Service, Unread};
+use published_account::let_ask_go;
 use std::alloc::{AllocError, Global};
 use std::io;
 use std::sync::Wait;
@@ -69,9 +70,10 @@ fn ask(alloc: Global, facts: &RealmFacts, request: &Request<'_>) -> Result<Ask, 
     let Ok(target) = format!(in alloc; "TrentService.{operation}") else {
         return Err(JsonFault::NoMemory);
     };
+    let caller = principal(alloc, facts, request.caller)?;
     Ok(Ask {
         body: read_ask(alloc, target.as_bytes(), request.body.as_bytes())?,
-        caller: principal(alloc, facts, request.caller)?,
+        caller,
         moment: NOW,
         after: request.after,
     })
@@ -168,7 +170,9 @@ fn answer_owned<R: Realm, W: Wait, G: Gate>(
 ) -> Result<Answered, NoMemory>
     requires { IsProper R.facts ask }
 {
-    change_or_read(host, pass, &ask, gate)
+    let answered = change_or_read(host, pass, &ask, gate);
+    let_ask_go(ask);
+    answered
 }
 
 /// What a pass answers to a request.

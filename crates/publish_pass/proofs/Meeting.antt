@@ -20,15 +20,6 @@ learns_trans s t u p q = record {
   lawful = λ is. q.lawful (p.lawful is);
 }
 
--- what is learnt is the longer of two histories of the service
-pub learns_longer : (facts : RealmFacts) (n : ℕ) (s u : Pass) (other : List (Entry × ℕ)) → IsLongerOf s.history other u.history → u ≡ record s { history = u.history }
-    → u.facts ≡ facts → IsHistory facts n u.history → Learns s u
-learns_longer facts n s u other longer others same is = record {
-  history = longer.first;
-  others = others;
-  lawful = λ lawful. subst (λ (f : RealmFacts). IsLawful f (entries_of u.history)) (sym same) is.lawful;
-}
-
 pub changed_on : (s u t : Pass) (x : Ask) (a : Answered) → Learns s u → AnswersAtDesk u x a t → AnswersChange s x a t
 changed_on s u t x a met h = record { reply = h.reply; changes = record { met = u; seen = met; decides = h.decides }; answer = h.answer; front = h.front }
 

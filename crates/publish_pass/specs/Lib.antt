@@ -1,3 +1,1 @@
 pub mod Pass
-pub mod Machine
-pub mod House

@@ -10,11 +10,14 @@ ghost use Rattle.publish_pass.specs.Pass.{Learns, making, keeping_house, Answers
 ghost use Rattle.published_account.specs.Rules.{Names};
 
 use crate::pass::Pass;
-use account_core::{Account, Decision, Entry};
+use account_core::{Account, Decision};
+use account_rows::Entry;
 use kms_io::{Gate, Point};
 use kms_json::{Ask, Reply};
 use kms_names::NoMemory;
-use published_account::{Answered, Copies, Head, Line, Published, Realm, Whole, answer_with, show};
+use published_account::{
+    Answered, Copies, Head, Line, Published, Realm, Whole, answer_with, let_reply_go, show,
+};
 use std::alloc::Global;
 use std::marker::{Model, PhantomData};
 use std::sync::ledger::Book;
@@ -39,13 +42,6 @@ impl<R: Realm> Model for Desk<R> {
     ghost view = { λ d. d.writer.desk.shown.value.whole.pairs };
 
     ghost invariant = { λ d. (d.book.total ≡ length d.writer.desk.shown.value.whole.pairs) × Names R.book R.facts R.passes d.writer.desk.shown.value };
-}
-
-// A reply as it is handed on, which is let go then.
-fn answer_owned(alloc: Global, front: u64, reply: Reply) -> Result<Answered, NoMemory>
-    ensures { IfOk result (λ a. (a.front ≡ front) × (answer_in a ≡ answer_of reply)) }
-{
-    answer_with(alloc, front, &reply)
 }
 
 impl<R: Realm> Desk<R> {
@@ -114,18 +110,11 @@ impl<R: Realm> Desk<R> {
         pass.seen() == line.len()
     }
 
-    // All that takes memory before an entry is published: the next account, and room for its place.
-    fn prepare(
-        &self,
-        alloc: Global,
-        pass: &mut Pass<R>,
-        entry: &Entry,
-    ) -> Result<Arc<Whole>, NoMemory>
+    // The next account, with the entry as its last, which the pass makes.
+    fn prepare(&self, alloc: Global, pass: &Pass<R>, entry: &Entry) -> Result<Arc<Whole>, NoMemory>
         requires { IsNext R.facts (entries_of self.now) entry.now }
-        ensures pass { pass.new ≡ pass.old }
-        ensures whole { IfOk result (λ w. arc_value w ≡ record { facts = R.facts; passes = R.passes; pairs = self.now ++ (entry.now, pass.old.number) ∷ [] }) }
+        ensures { IfOk result (λ w. arc_value w ≡ record { facts = R.facts; passes = R.passes; pairs = self.now ++ (entry.now, pass.now.number) ∷ [] }) }
     {
-        pass.own.reserve(1)?;
         self.whole().next(alloc, entry, pass.number())
     }
 
@@ -145,7 +134,7 @@ impl<R: Realm> Desk<R> {
         }
     }
 
-    // Publishes the next account, whose last entry the pass makes. Where it answers want of memory nothing is
+    // Publishes the next account, whose last entry the pass makes, once there is room for the entry's place. Where it answers want of memory nothing is
     // published; that doesn't come, since the desk alone makes the history longer.
     fn publish<W: Wait>(
         &mut self,
@@ -200,44 +189,28 @@ impl<R: Realm> Desk<R> {
     fn ready(
         &self,
         alloc: Global,
-        pass: &mut Pass<R>,
+        pass: &Pass<R>,
         entry: &Entry,
-        reply: &Reply,
+        reply: Reply,
     ) -> Result<(Arc<Whole>, Answered), NoMemory>
         requires { IsNext R.facts (entries_of self.now) entry.now }
-        ensures pass { pass.new ≡ pass.old }
-        ensures whole { IfOk result (λ both. arc_value both.0 ≡ record { facts = R.facts; passes = R.passes; pairs = self.now ++ (entry.now, pass.old.number) ∷ [] }) }
-        ensures answer { IfOk result (λ both. (both.1.front ≡ length (self.now ++ (entry.now, pass.old.number) ∷ [])) × (answer_in both.1 ≡ answer_of reply.now)) }
+        ensures whole { IfOk result (λ both. arc_value both.0 ≡ record { facts = R.facts; passes = R.passes; pairs = self.now ++ (entry.now, pass.now.number) ∷ [] }) }
+        ensures answer { IfOk result (λ both. (both.1.front ≡ length (self.now ++ (entry.now, pass.now.number) ∷ [])) × (answer_in both.1 ≡ answer_of reply)) }
     {
-        let whole = self.prepare(alloc, pass, entry)?;
-        let answered = answer_with(alloc, whole.len(), reply)?;
-        Ok((whole, answered))
+        match self.prepare(alloc, pass, entry) {
+            Ok(whole) => {
+                let answered = answer_with(alloc, whole.len(), reply)?;
+                Ok((whole, answered))
+            }
+            Err(NoMemory) => {
+                let_reply_go(reply);
+                Err(NoMemory)
+            }
+        }
     }
 
     // Publishes the entry of a request. The answer is made before.
     fn enact<W: Wait, G: Gate>(
-        &mut self,
-        rt: &W,
-        alloc: Global,
-        pass: &mut Pass<R>,
-        entry: Entry,
-        reply: &Reply,
-        gate: &G,
-    ) -> Result<Answered, NoMemory>
-        requires met { pass.old.history ≡ self.old }
-        requires next { IsNext R.facts (entries_of self.old) entry }
-        ensures made { OnOk result ((self.new ≡ pass.new.history) × (pass.new ≡ making pass.old entry)) }
-        ensures answer { IfOk result (λ a. (a.front ≡ length pass.new.history) × (answer_in a ≡ answer_of reply.now)) }
-        ensures err { OnErr result ((self.new ≡ self.old) × (pass.new ≡ pass.old)) }
-    {
-        let (whole, answered) = self.ready(alloc, pass, &entry, reply)?;
-        gate.at(Point::AtDesk);
-        self.publish(rt, pass, whole, entry)?;
-        Ok(answered)
-    }
-
-    // The same of a reply that is let go then.
-    fn enact_owned<W: Wait, G: Gate>(
         &mut self,
         rt: &W,
         alloc: Global,
@@ -252,7 +225,10 @@ impl<R: Realm> Desk<R> {
         ensures answer { IfOk result (λ a. (a.front ≡ length pass.new.history) × (answer_in a ≡ answer_of reply)) }
         ensures err { OnErr result ((self.new ≡ self.old) × (pass.new ≡ pass.old)) }
     {
-        self.enact(rt, alloc, pass, entry, &reply, gate)
+        let (whole, answered) = self.ready(alloc, pass, &entry, reply)?;
+        gate.at(Point::AtDesk);
+        self.publish(rt, pass, whole, entry)?;
+        Ok(answered)
     }
 
     // Answers a request that changes the account, and publishes its entry, if it has one.
@@ -273,9 +249,9 @@ impl<R: Realm> Desk<R> {
         let front = pass.seen();
         match self.account().decide_change(alloc, ask)? {
             Decision::Refused(reply) | Decision::Served(reply) => {
-                answer_owned(alloc, front, reply)
+                answer_with(alloc, front, reply)
             }
-            Decision::Change(entry, reply) => self.enact_owned(rt, alloc, pass, entry, reply, gate),
+            Decision::Change(entry, reply) => self.enact(rt, alloc, pass, entry, reply, gate),
         }
     }
 

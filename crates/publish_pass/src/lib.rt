@@ -6,7 +6,6 @@
 #![tactic(auto)]
 
 mod desk;
-mod laws;
 mod opening;
 mod pass;
 mod service;
@@ -14,7 +13,6 @@ mod threads;
 mod told;
 
 pub use desk::Desk;
-pub use laws::{house_owes_nothing_more, machine_law};
 pub use opening::{Opening, open_service};
 pub use pass::Pass;
 pub use published_account::{Answered, Realm, Unread, answer_with};

@@ -8,7 +8,7 @@ use crate::desk::Desk;
 use crate::pass::Pass;
 use crate::service::Service;
 use crate::told::Told;
-use account_core::{RealmFacts, draw_line};
+use account_steps::{RealmFacts, draw_line};
 use kms_names::{NoMemory, Text};
 use published_account::{
     Copies, Entrance, Line, Notes, Published, Realm, Unnamed, Whole, Window, warm,

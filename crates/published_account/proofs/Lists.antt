@@ -30,9 +30,6 @@ pub prefix_self : {A : Type 0} (xs : List A) → IsPrefix xs xs
 prefix_self [] = ([], refl)
 prefix_self (x ∷ xs) = (let r = prefix_self xs in r.0, ap (λ ys. x ∷ ys) (prefix_self xs).1)
 
-pub prefix_nil : {A : Type 0} (xs : List A) → IsPrefix [] xs
-prefix_nil xs = (xs, refl)
-
 pub prefix_push : {A : Type 0} (xs : List A) (x : A) → IsPrefix xs (xs ++ x ∷ [])
 prefix_push xs x = (x ∷ [], refl)
 
@@ -48,9 +45,6 @@ prefix_shorter (x ∷ xs) (y ∷ ys) (z ∷ zs) p q le =
     let heads : x ≡ y = cc (p.1, q.1) in
     let rest = prefix_shorter xs ys zs (p.0, cc (p.1)) (q.0, cc (q.1)) (omega arith) in
     (rest.0, cc (heads, rest.1))
-
-pub prefix_length : {A : Type 0} (xs ys : List A) → IsPrefix xs ys → length xs ≤ length ys
-prefix_length xs ys p = omega (arith, sym (ap length p.1) ∙ length-append xs p.0)
 
 -- the last operation is what is left, where each takes the place of all
 pub fold_last : {A : Type 0} (s o : A) (os : List A) → fold (λ (x y : A). y) s (os ++ o ∷ []) ≡ o

@@ -2,7 +2,7 @@
 ghost use Rattle.std.specs.Prelude.{◌≡◌, IfOk};
 ghost use Rattle.published_account.specs.Answers.{answer_of, answer_in};
 
-use kms_json::{Reply, write_reply};
+use kms_json::{Ask, Reply, write_reply};
 use kms_names::{Bytes, NoMemory};
 use std::alloc::Global;
 
@@ -38,12 +38,21 @@ impl From<NoMemory> for Unread {
 }
 
 /// A reply as it is handed on, at so many entries.
-pub fn answer_with(alloc: Global, front: u64, reply: &Reply) -> Result<Answered, NoMemory>
-    ensures { IfOk result (λ a. (a.front ≡ front) × (answer_in a ≡ answer_of reply.now)) }
+pub fn answer_with(alloc: Global, front: u64, reply: Reply) -> Result<Answered, NoMemory>
+    ensures { IfOk result (λ a. (a.front ≡ front) × (answer_in a ≡ answer_of reply)) }
 {
+    let status = reply.status();
+    let body = write_reply(alloc, &reply);
+    let_reply_go(reply);
     Ok(Answered {
         front,
-        status: reply.status(),
-        body: write_reply(alloc, reply)?,
+        status,
+        body: body?,
     })
 }
+
+/// Lets a reply go. Its drop is long, and is proved here alone.
+pub fn let_reply_go(_reply: Reply) {}
+
+/// Lets a request go. Its drop is as long.
+pub fn let_ask_go(_ask: Ask) {}

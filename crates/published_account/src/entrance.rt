@@ -64,7 +64,7 @@ fn answer(
     ensures { Settles account.now.facts account.now.entries ask.now draws.old result draws.new }
 {
     let reply = account.decide_read(alloc, ask, draws)?;
-    let answered = answer_with(alloc, account.entries(), &reply)?;
+    let answered = answer_with(alloc, account.entries(), reply)?;
     Ok(answered)
 }
 

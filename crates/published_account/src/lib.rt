@@ -12,13 +12,15 @@ mod published;
 mod realm;
 mod rule;
 mod showing;
+mod threads;
 mod whole;
 
-pub use answered::{Answered, Unread, answer_with};
+pub use answered::{Answered, Unread, answer_with, let_ask_go, let_reply_go};
 pub use entrance::{Entrance, Found};
 pub use line::{Glimpse, Head, Line, Unnamed};
 pub use published::Published;
 pub use realm::Realm;
 pub use rule::{Copies, Notes, Window};
 pub use showing::{show, warm};
+pub use threads::whole_crosses_threads;
 pub use whole::Whole;

@@ -6,7 +6,7 @@ ghost use Rattle.published_account.specs.Pairs.{IsHistory, entries_of};
 ghost use Rattle.published_account.specs.Growing.{head_of, IsLongerOf};
 
 use crate::realm::Realm;
-use account_core::Entry;
+use account_rows::Entry;
 use logbook::{Gain, Offer, Plain, Play, Rule, Seen, Start, Word};
 use std::marker::{Model, PhantomData};
 

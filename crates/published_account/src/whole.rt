@@ -4,7 +4,9 @@ ghost use Rattle.std.specs.Arc.{arc_value};
 ghost use Rattle.account_core.specs.Decide.{IsNext};
 ghost use Rattle.published_account.specs.Pairs.{IsHistory};
 
-use account_core::{Account, Entry, RealmFacts};
+use account_core::Account;
+use account_rows::Entry;
+use account_steps::RealmFacts;
 use kms_names::NoMemory;
 use std::alloc::Global;
 use std::marker::Model;

@@ -2,7 +2,8 @@
 ghost use Rattle.std.specs.Prelude.{◌≡◌, IfOk, vec_len};
 ghost use Rattle.kms_session.specs.Callers.{IsOfAccount};
 
-use account_core::{IdentityList, RealmFacts};
+use account_steps::RealmFacts;
+use authority::IdentityList;
 use kms_io::{Door, Ear, Gate, MemoryClock};
 use kms_names::{AccountNumber, NoMemory, Principal, Text};
 use kms_server::{Order, Outcome, serve};

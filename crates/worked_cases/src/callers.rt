@@ -6,7 +6,7 @@ ghost use Rattle.kms_session.specs.Callers.{IsOfAccount};
 
 use crate::cases::{Case, KnownKey};
 use crate::identities::principal_of;
-use account_core::RealmFacts;
+use account_steps::RealmFacts;
 use kms_names::{AccountNumber, NoMemory, Principal, Text};
 use kms_session::Trust;
 use sigv4_check::{Credential, CredentialList, are_distinct};

@@ -1,6 +1,6 @@
 // The principals of a case with their own policies.
 use crate::cases::{Case, OwnPolicy};
-use account_core::{Identity, IdentityList, PolicyList};
+use authority::{Identity, IdentityList, PolicyList};
 use kms_names::{NameFault, NoMemory, Principal, read_principal};
 use policy_doc::{Policy, PolicyFault, PolicyKind, read_policy};
 use std::alloc::Global;

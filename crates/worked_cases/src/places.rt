@@ -7,11 +7,13 @@ ghost use Rattle.account_core.specs.Decide.{IsProper, account_of};
 use crate::callers::caller_of;
 use crate::cases::{Case, Ending, Places, Request, Wanted};
 use crate::sessions::{Outcome, facts_of};
-use account_core::{Account, Decision, RealmFacts};
+use account_core::{Account, Decision};
+use account_steps::RealmFacts;
 use draw_lines::DrawLine;
 use kms_json::{Ask, JsonFault, Reply, read_ask, write_reply};
 use kms_names::{NoMemory, Principal};
 use mac_sha::Mac;
+use published_account::{let_ask_go, let_reply_go};
 use std::alloc::{AllocError, Global};
 
 const MOST: u64 = 0x1_0000_0000_0000;
@@ -79,7 +81,9 @@ impl Asked {
     fn answer_owned(&mut self, alloc: Global, ask: Ask) -> Result<Reply, NoMemory>
         requires { IsProper self.old.account.facts ask }
     {
-        self.answer(alloc, &ask)
+        let reply = self.answer(alloc, &ask);
+        let_ask_go(ask);
+        reply
     }
 
     // Answers a request that changes the account, and appends its entry.
@@ -89,7 +93,11 @@ impl Asked {
     {
         match self.account.decide_change(alloc, ask)? {
             Decision::Change(entry, reply) => {
-                self.account = self.account.apply(alloc, &entry)?;
+                let Ok(next) = self.account.apply(alloc, &entry) else {
+                    let_reply_go(reply);
+                    return Err(NoMemory);
+                };
+                self.account = next;
                 Ok(reply)
             }
             Decision::Refused(reply) | Decision::Served(reply) => Ok(reply),
@@ -133,7 +141,9 @@ impl Asked {
 
     // The same of a reply that is let go then.
     fn gives(&self, alloc: Global, reply: Reply, wanted: &Wanted) -> Result<bool, NoMemory> {
-        self.is_wanted(alloc, &reply, wanted)
+        let holds = self.is_wanted(alloc, &reply, wanted);
+        let_reply_go(reply);
+        holds
     }
 }
 

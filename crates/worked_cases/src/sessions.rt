@@ -8,7 +8,7 @@ use crate::callers::trust_of;
 use crate::cases::{Case, Ending, Span};
 use crate::identities::identities_of;
 use crate::replies::{input, is_all, is_front, reply_texts};
-use account_core::RealmFacts;
+use account_steps::RealmFacts;
 use kms_io::{MemoryClock, MemoryLink, NoGate};
 use kms_names::{AccountNumber, NoMemory, Text};
 use kms_session::{SessionEnd, Trust, serve_session};

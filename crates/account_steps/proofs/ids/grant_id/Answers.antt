@@ -1,20 +1,12 @@
-use Rattle.std.proofs.Common.{◌≡◌, ◌∙◌, length, codes, rules, arith, length-take}
+use Rattle.std.proofs.Common.{◌≡◌, ◌∙◌, length, codes, rules, refl}
 use Rattle.account_steps.proofs.KeyIds.{id_of_parts}
 use Rattle.account_steps.proofs.ids.grant_id.Goals as goal
-
-pub slice_bounds-write_at-end-2 : goal.slice_bounds-write_at-end-2
-slice_bounds-write_at-end-2 c = let n : length c.end-digest.result ≡ 32 = search rules in omega (arith, n, length-take 26 c.end-digest.result)
-
-pub write_at-requires : goal.write_at-requires
-write_at-requires c = let n : length c.end-digest.result ≡ 32 = search rules in omega (arith, n, length-take 26 c.end-digest.result)
 
 pub returns : goal.returns
 returns c =
     let root = c.args.facts.now.root in
     let held = c.add-3.ensures _ _ (c.add-2.ensures _ _ (c.add.ensures _ _ c.new-mac.ensures)) in
-    let digest = c.end-digest.ensures _ _ held in
-    let n : length c.end-digest.result ≡ 32 = search rules in
-    let m : length c.place_bytes-place.result ≡ 6 = search rules in
-    let k : length c.write_at-2.new.text ≡ 32 = search rules in
-    c.new.ensures ∙ id_of_parts (codes "grant") 26 (omega arith) root c.to_be_bytes.result c.place_bytes-place.result c.end-digest.result c.write_at.new.text c.write_at-2.new.text c.args.facts.now.boot c.args.place
-    digest c.to_be_bytes.ensures c.place_bytes-place.ensures n m k c.write_at.ensures c.write_at-2.ensures
+    let n : length c.end-id.result ≡ 32 = search rules in
+    let k : length c.end_with.new.text ≡ 32 = search rules in
+    c.new.ensures ∙ id_of_parts (codes "grant") 26 root c.to_be_bytes.result c.place_bytes-place.result c.end-id.result c.end-id.result c.end_with.new.text c.args.facts.now.boot c.args.place
+    (c.end-id.ensures _ _ held) c.to_be_bytes.ensures c.place_bytes-place.ensures n k refl c.end_with.ensures

@@ -1,4 +1,4 @@
-use Rattle.std.proofs.Common.{◌≡◌, ◌∙◌, length, codes, rules, arith}
+use Rattle.std.proofs.Common.{◌≡◌, ◌∙◌, length, codes, rules, arith, take, ap, take-take}
 use Rattle.account_steps.proofs.KeyIds.{id_of_parts}
 use Rattle.account_steps.proofs.ids.key_id_of.Goals as goal
 
@@ -6,9 +6,8 @@ pub returns : goal.returns
 returns c =
     let root = c.args.root.now in
     let held = c.add-3.ensures _ _ (c.add-2.ensures _ _ (c.add.ensures _ _ c.new-mac.ensures)) in
-    let digest = c.end-digest.ensures _ _ held in
-    let n : length c.end-digest.result ≡ 32 = search rules in
-    let m : length c.place_bytes-place.result ≡ 6 = search rules in
-    let k : length c.write_at-2.new.text ≡ 16 = search rules in
-    c.new.ensures ∙ id_of_parts (codes "key") 10 (omega arith) root c.to_be_bytes.result c.place_bytes-place.result c.end-digest.result c.write_at.new.text c.write_at-2.new.text c.args.boot c.args.place
-    digest c.to_be_bytes.ensures c.place_bytes-place.ensures n m k c.write_at.ensures c.write_at-2.ensures
+    let n : length c.copy_from_slice.new.self ≡ 16 = search rules in
+    let k : length c.end_with.new.text ≡ 16 = search rules in
+    let head : take 10 c.copy_from_slice.new.self ≡ take 10 c.end.result = ap (take 10) c.copy_from_slice.ensures.after ∙ take-take 10 16 c.end.result (omega (arith)) in
+    c.new.ensures ∙ id_of_parts (codes "key") 10 root c.to_be_bytes.result c.place_bytes-place.result c.end.result c.copy_from_slice.new.self c.end_with.new.text c.args.boot c.args.place
+    (c.end.ensures _ _ held) c.to_be_bytes.ensures c.place_bytes-place.ensures n k head c.end_with.ensures

@@ -1,7 +1,7 @@
 use Rattle.std.proofs.Common.{Option, ap, ok_or, rules}
 use Rattle.kms_json.specs.declared.refusals.Refusal.TheVariants as refusal
-use Rattle.account_steps.specs.Blobs.{BlobName}
-use Rattle.account_steps.proofs.BlobNames.{named_read, named_none}
+use Rattle.blob_format.specs.Names.{BlobName}
+use Rattle.blob_format.proofs.BlobNames.{named_read, named_none}
 use Rattle.account_steps.proofs.sources.read.Goals as goal
 
 pub returns-in-Some-clause-gives : goal.returns-in-Some-clause-gives

@@ -7,8 +7,8 @@ use Rattle.publish_pass.specs.Pass.{Pass}
 use Rattle.publish_pass.proofs.PassLemmas.{next_entry, answers_none, answers_one}
 use Rattle.publish_pass.proofs.desk.Desk.decide.Goals as goal
 
-pub enact_owned-requires-clause-next : goal.enact_owned-requires-clause-next
-enact_owned-requires-clause-next g c =
+pub enact-requires-clause-next : goal.enact-requires-clause-next
+enact-requires-clause-next g c =
     let proper = subst (λ (f : RealmFacts). IsProper f c.args.ask.now) c.seen-front.ensures.facts c.requires.proper in
     let gives = sym c.in-Change.is ∙ c.in_ok-reply.ensures ∙ ap (λ (a : Account). decision_of a.facts a.entries c.args.ask.now) c.account.ensures in
     next_entry g.R.Realm.facts _ c.args.ask.now c.in-Change.entry c.in-Change.reply gives proper
@@ -19,7 +19,7 @@ returns-in-Change-clause-ok g c =
     let account : Account = c.account.result.now in
     let facts : account.facts ≡ s.facts = ap (λ (a : Account). a.facts) c.account.ensures ∙ sym c.seen-front.ensures.facts in
     let entries : account.entries ≡ entries_of s.history = ap (λ (a : Account). a.entries) c.account.ensures ∙ ap entries_of (sym c.requires.met) in
-    answers_one s c.args.ask.now account facts entries c.requires.changes c.enact_owned.result c.in-Change.entry c.in-Change.reply (sym c.in-Change.is ∙ c.in_ok-reply.ensures) c.enact_owned.new.pass c.enact_owned.new.self c.enact_owned.ensures.made c.enact_owned.ensures.answer
+    answers_one s c.args.ask.now account facts entries c.requires.changes c.enact.result c.in-Change.entry c.in-Change.reply (sym c.in-Change.is ∙ c.in_ok-reply.ensures) c.enact.new.pass c.enact.new.self c.enact.ensures.made c.enact.ensures.answer
 
 pub returns-in-Refused-clause-ok : goal.returns-in-Refused-clause-ok
 returns-in-Refused-clause-ok g c =
@@ -27,4 +27,4 @@ returns-in-Refused-clause-ok g c =
     let account : Account = c.account.result.now in
     let facts : account.facts ≡ s.facts = ap (λ (a : Account). a.facts) c.account.ensures ∙ sym c.seen-front.ensures.facts in
     let entries : account.entries ≡ entries_of s.history = ap (λ (a : Account). a.entries) c.account.ensures ∙ ap entries_of (sym c.requires.met) in
-    answers_none s c.args.ask.now account facts entries c.requires.changes c.answer_owned.result c.seen-front.result c.in-Refused.reply _ c.in-Refused.is c.in_ok-reply.ensures c.seen-front.ensures.number c.args.self.now (sym c.requires.met) c.answer_owned.ensures
+    answers_none s c.args.ask.now account facts entries c.requires.changes c.answer_with.result c.seen-front.result c.in-Refused.reply _ c.in-Refused.is c.in_ok-reply.ensures c.seen-front.ensures.number c.args.self.now (sym c.requires.met) c.answer_with.ensures

@@ -1,5 +1,0 @@
-use Rattle.account_core.proofs.Retiring.{dropped_stays_away}
-use Rattle.account_core.proofs.laws.dropped_grants_stay_away.Goals as goal
-
-pub returns : goal.returns
-returns c = dropped_stays_away

@@ -1,5 +1,0 @@
-use Rattle.account_core.proofs.LawFacts.{house_kept_once as law}
-use Rattle.account_core.proofs.laws.house_is_kept_once.Goals as goal
-
-pub returns : goal.returns
-returns c = law

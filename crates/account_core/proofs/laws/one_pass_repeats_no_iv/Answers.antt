@@ -1,5 +1,0 @@
-use Rattle.account_core.proofs.LawFacts.{no_iv_again}
-use Rattle.account_core.proofs.laws.one_pass_repeats_no_iv.Goals as goal
-
-pub returns : goal.returns
-returns c = no_iv_again

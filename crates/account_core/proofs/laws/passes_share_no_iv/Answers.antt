@@ -1,5 +1,0 @@
-use Rattle.account_core.proofs.LawFacts.{no_iv_shared as law}
-use Rattle.account_core.proofs.laws.passes_share_no_iv.Goals as goal
-
-pub returns : goal.returns
-returns c = law

@@ -1,5 +1,0 @@
-use Rattle.account_core.proofs.LawFacts.{times_never_fall as law}
-use Rattle.account_core.proofs.laws.times_never_fall.Goals as goal
-
-pub returns : goal.returns
-returns c = law

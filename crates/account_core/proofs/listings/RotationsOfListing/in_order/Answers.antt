@@ -1,6 +1,0 @@
-use Rattle.std.proofs.Common.{drop}
-use Rattle.account_core.proofs.ListFacts.{numbers_rise}
-use Rattle.account_core.proofs.listings.RotationsOfListing.in_order.Goals as goal
-
-pub returns : goal.returns
-returns c = numbers_rise 2 (drop 1 c.args.self.now.row.now.versions)

@@ -1,5 +1,0 @@
-use Rattle.account_core.proofs.Refusing.{told_at}
-use Rattle.account_core.proofs.policies.read.Goals as goal
-
-pub returns-in-Err-clause-fault : goal.returns-in-Err-clause-fault
-returns-in-Err-clause-fault c = told_at c.in-Err.fault c.stop_at.result _ c.stop_at.ensures c.in-Err.ensures.fault

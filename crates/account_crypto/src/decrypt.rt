@@ -1,0 +1,87 @@
+// Decrypt.
+ghost use Rattle.account_crypto.specs.Crypto.{decrypts};
+
+use account_steps::{
+    Operation, Reads, Sealed, Stop, Uses, View, find_source, of_context, refuse, unfit, unsupported,
+};
+use draw_lines::DrawLine;
+use kms_json::{Decrypt, Reply, Unsupported};
+use kms_names::{Action, Bytes, NoMemory, Text};
+use std::alloc::Global;
+
+/// Decrypt.
+#[derive(Drop)]
+pub struct Decrypting<'a> {
+    /// What its steps go by.
+    pub view: &'a View<'a>,
+    /// What it asks.
+    pub x: &'a Decrypt,
+}
+
+impl<'a> Operation for Decrypting<'a> {
+    type Found = Sealed<'a>;
+
+    type Ready = Bytes;
+
+    ghost seen = { λ op. op.view.now };
+
+    ghost parts = { λ op. decrypts op.view.now op.x.now };
+
+    fn view(&self) -> &View<'_> {
+        self.view
+    }
+
+    fn find(&self, alloc: Global) -> Result<Sealed<'a>, Stop> {
+        find_source(
+            alloc,
+            self.view,
+            Action::Decrypt,
+            &self.x.key_id,
+            self.x.blob.as_slice(),
+        )
+    }
+
+    fn authorize(&self, alloc: Global, found: &Sealed<'a>) -> Result<(), Stop> {
+        let said = of_context(self.view, found.key(), found.alias(), &self.x.context);
+        self.view
+            .authorize_on(alloc, Action::Decrypt, found.lent(), &said)
+    }
+
+    fn tokens(&self) -> &[Text] {
+        self.x.grant_tokens.as_slice()
+    }
+
+    fn fit(&self, alloc: Global, found: &Sealed<'a>) -> Result<(), Stop> {
+        self.view.fit(alloc, Action::Decrypt, found.lent())
+    }
+
+    fn own(&self, alloc: Global, found: &Sealed<'a>) -> Result<Bytes, Stop> {
+        refuse(unfit(&self.x.algorithm))?;
+        refuse(unsupported(self.x.recipient, Unsupported::Recipient))?;
+        found.open(alloc, self.view, &self.x.context)
+    }
+
+    fn dry_run(&self) -> bool {
+        self.x.dry_run
+    }
+}
+
+impl<'a> Reads for Decrypting<'a> {
+    fn uses(&self) -> Uses {
+        Uses::NOTHING
+    }
+
+    fn serve(
+        &self,
+        alloc: Global,
+        found: Sealed<'a>,
+        ready: Bytes,
+        _line: &mut DrawLine,
+    ) -> Result<Reply, NoMemory> {
+        let arn = self.view.arn(alloc, found.key())?;
+        Ok(Reply::Decrypted {
+            plaintext: ready,
+            arn,
+        })
+    }
+}

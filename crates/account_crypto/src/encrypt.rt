@@ -1,0 +1,87 @@
+// Encrypt.
+ghost use Rattle.std.specs.Prelude.{◌≤◌, length};
+ghost use Rattle.account_crypto.specs.Crypto.{encrypts};
+
+use crate::crypto::{ONE_IV, seal};
+use account_steps::{Named, Operation, Reads, Stop, Uses, View, key_of, of_context, refuse, unfit};
+use draw_lines::DrawLine;
+use kms_json::{Encrypt, Reply};
+use kms_names::{Action, NoMemory, Text};
+use std::alloc::Global;
+
+/// Encrypt of a text of 1 to 4,096 bytes.
+#[derive(Drop)]
+pub struct Encrypting<'a> {
+    /// What its steps go by.
+    pub view: &'a View<'a>,
+    /// What it asks.
+    pub x: &'a Encrypt,
+    ghost some: { 1 ≤ length x.now.plaintext },
+    ghost short: { length x.now.plaintext ≤ 4096 },
+}
+
+impl<'a> Operation for Encrypting<'a> {
+    type Found = Named<'a>;
+
+    type Ready = ();
+
+    ghost seen = { λ op. op.view.now };
+
+    ghost parts = { λ op. encrypts op.view.now op.x.now };
+
+    fn view(&self) -> &View<'_> {
+        self.view
+    }
+
+    fn find(&self, alloc: Global) -> Result<Named<'a>, Stop> {
+        key_of(alloc, self.view, &self.x.key_id)
+    }
+
+    fn authorize(&self, alloc: Global, found: &Named<'a>) -> Result<(), Stop> {
+        let key = &found.row.row().key;
+        let said = of_context(self.view, key, &found.alias, &self.x.context);
+        self.view
+            .authorize_on(alloc, Action::Encrypt, &found.row, &said)
+    }
+
+    fn tokens(&self) -> &[Text] {
+        self.x.grant_tokens.as_slice()
+    }
+
+    fn fit(&self, alloc: Global, found: &Named<'a>) -> Result<(), Stop> {
+        self.view.fit(alloc, Action::Encrypt, &found.row)
+    }
+
+    fn own(&self, _alloc: Global, _found: &Named<'a>) -> Result<(), Stop> {
+        refuse(unfit(&self.x.algorithm))
+    }
+
+    fn dry_run(&self) -> bool {
+        self.x.dry_run
+    }
+}
+
+impl<'a> Reads for Encrypting<'a> {
+    fn uses(&self) -> Uses {
+        ONE_IV
+    }
+
+    fn serve(
+        &self,
+        alloc: Global,
+        found: Named<'a>,
+        _ready: (),
+        line: &mut DrawLine,
+    ) -> Result<Reply, NoMemory> {
+        let arn = self.view.arn(alloc, &found.row.row().key)?;
+        let blob = seal(
+            alloc,
+            self.view,
+            &found.row,
+            &self.x.context,
+            self.x.plaintext.as_slice(),
+            line,
+        )?;
+        Ok(Reply::Encrypted { blob, arn })
+    }
+}

@@ -1,0 +1,17 @@
+//! The cryptographic operations: what Encrypt, Decrypt, ReEncrypt, the data key calls and GenerateRandom say of the steps of a decision.
+//!
+//! Each is an `Operation` of `account_steps`, whose `Parts` are a function of plain values.
+#![tactic(auto)]
+
+mod crypto;
+mod data_keys;
+mod decrypt;
+mod encrypt;
+mod random;
+mod re_encrypt;
+
+pub use data_keys::{Drawing, GeneratingDataKey, GeneratingSealedDataKey};
+pub use decrypt::Decrypting;
+pub use encrypt::Encrypting;
+pub use random::GeneratingRandom;
+pub use re_encrypt::ReEncrypting;

@@ -1,0 +1,161 @@
+// ReEncrypt.
+ghost use Rattle.account_crypto.specs.Crypto.{re_encrypts};
+
+use crate::crypto::{ONE_IV, Sealable, seal};
+use account_rows::same_key;
+use account_steps::{
+    Named, Operation, Reads, Sealed, Stop, Uses, View, find_source, key_of, of_context, refuse,
+    unfit,
+};
+use authority::Particulars;
+use draw_lines::DrawLine;
+use kms_json::{ReEncrypt, Reply};
+use kms_names::{Action, NoMemory, Text};
+use std::alloc::Global;
+
+/// A sealed text, and the key that it is sealed under anew.
+#[derive(Drop)]
+pub struct Turning<'a> {
+    /// The sealed text, with the key that it was sealed under.
+    pub source: Sealed<'a>,
+    /// The key that it is sealed under anew.
+    pub to: Named<'a>,
+}
+
+impl Turning<'_> {
+    ghost use Rattle.std.specs.Prelude.{◌≡◌};
+    ghost use Rattle.account_crypto.specs.Crypto.{same_key};
+
+    // Whether the text is sealed anew under the key that sealed it.
+    fn turns_to_same(&self) -> bool
+        ensures { result ≡ same_key self.now }
+    {
+        same_key(self.source.key(), &self.to.row.row().key)
+    }
+}
+
+/// ReEncrypt.
+#[derive(Drop)]
+pub struct ReEncrypting<'a> {
+    /// What its steps go by.
+    pub view: &'a View<'a>,
+    /// What it asks.
+    pub x: &'a ReEncrypt,
+}
+
+impl<'a> ReEncrypting<'a> {
+    ghost use Rattle.std.specs.Prelude.{◌≡◌};
+    ghost use Rattle.account_crypto.specs.Crypto.{of_source, of_destination};
+
+    // What the request says of the key that sealed the text.
+    fn from<'b>(&'b self, found: &'b Turning<'a>) -> Particulars<'b>
+        ensures { result ≡ of_source self.now.view.now self.now.x.now found.now }
+    {
+        let source = &found.source;
+        Particulars {
+            same_key: Some(found.turns_to_same()),
+            ..of_context(
+                self.view,
+                source.key(),
+                source.alias(),
+                &self.x.source_context,
+            )
+        }
+    }
+
+    // What it says of the key to seal it anew.
+    fn to<'b>(&'b self, found: &'b Turning<'a>) -> Particulars<'b>
+        ensures { result ≡ of_destination self.now.view.now self.now.x.now found.now }
+    {
+        let key = &found.to.row.row().key;
+        Particulars {
+            same_key: Some(found.turns_to_same()),
+            ..of_context(self.view, key, &found.to.alias, &self.x.context)
+        }
+    }
+}
+
+impl<'a> Operation for ReEncrypting<'a> {
+    type Found = Turning<'a>;
+
+    type Ready = Sealable;
+
+    ghost seen = { λ op. op.view.now };
+
+    ghost parts = { λ op. re_encrypts op.view.now op.x.now };
+
+    fn view(&self) -> &View<'_> {
+        self.view
+    }
+
+    fn find(&self, alloc: Global) -> Result<Turning<'a>, Stop> {
+        let source = find_source(
+            alloc,
+            self.view,
+            Action::ReEncryptFrom,
+            &self.x.source_key_id,
+            self.x.blob.as_slice(),
+        )?;
+        let to = key_of(alloc, self.view, &self.x.key_id)?;
+        Ok(Turning { source, to })
+    }
+
+    fn authorize(&self, alloc: Global, found: &Turning<'a>) -> Result<(), Stop> {
+        let source = found.source.lent();
+        self.view
+            .authorize_on(alloc, Action::ReEncryptFrom, source, &self.from(found))?;
+        self.view
+            .authorize_on(alloc, Action::ReEncryptTo, &found.to.row, &self.to(found))
+    }
+
+    fn tokens(&self) -> &[Text] {
+        self.x.grant_tokens.as_slice()
+    }
+
+    fn fit(&self, alloc: Global, found: &Turning<'a>) -> Result<(), Stop> {
+        let view = self.view;
+        view.fit(alloc, Action::ReEncryptFrom, found.source.lent())?;
+        view.fit(alloc, Action::ReEncryptTo, &found.to.row)
+    }
+
+    fn own(&self, alloc: Global, found: &Turning<'a>) -> Result<Sealable, Stop> {
+        refuse(unfit(&self.x.source_algorithm))?;
+        refuse(unfit(&self.x.algorithm))?;
+        let text = found.source.open(alloc, self.view, &self.x.source_context)?;
+        Ok(Sealable::new(text))
+    }
+
+    fn dry_run(&self) -> bool {
+        self.x.dry_run
+    }
+}
+
+impl<'a> Reads for ReEncrypting<'a> {
+    fn uses(&self) -> Uses {
+        ONE_IV
+    }
+
+    fn serve(
+        &self,
+        alloc: Global,
+        found: Turning<'a>,
+        ready: Sealable,
+        line: &mut DrawLine,
+    ) -> Result<Reply, NoMemory> {
+        let arn = self.view.arn(alloc, &found.to.row.row().key)?;
+        let source_arn = self.view.arn(alloc, found.source.key())?;
+        let blob = seal(
+            alloc,
+            self.view,
+            &found.to.row,
+            &self.x.context,
+            ready.as_slice(),
+            line,
+        )?;
+        Ok(Reply::ReEncrypted {
+            blob,
+            arn,
+            source_arn,
+        })
+    }
+}

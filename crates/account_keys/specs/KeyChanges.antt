@@ -1,0 +1,130 @@
+-- The operations on the state, the rotation and the description of a key (AWS KMS API Reference, EnableKey, DisableKey,
+-- ScheduleKeyDeletion, CancelKeyDeletion, EnableKeyRotation, DisableKeyRotation, RotateKeyOnDemand, UpdateKeyDescription,
+-- GetKeyRotationStatus): what each says of the steps.
+use Rattle.std.specs.Prelude.{ℕ, ◌==◌, List, [], ◌∷◌, Bool, true, false, if◌then◌else◌, Option, Some, None, option_map, Ok, ⊤}
+use Rattle.kms_names.specs.declared.actions.Action.{Action}
+use Rattle.kms_names.specs.declared.actions.Action.TheVariants as action
+use Rattle.kms_json.specs.declared.replies.AutomaticRotation.{AutomaticRotation}
+use Rattle.kms_json.specs.declared.replies.Reply.{Reply}
+use Rattle.kms_json.specs.declared.replies.Reply.TheVariants as reply
+use Rattle.key_states.specs.declared.rows.KeyRow.{KeyRow}
+use Rattle.key_states.specs.declared.states.Stored.{Stored}
+use Rattle.key_states.specs.declared.states.Stored.TheVariants as stored
+use Rattle.account_rows.specs.declared.entries.What.{What}
+use Rattle.account_rows.specs.declared.entries.What.TheVariants as what
+use Rattle.account_rows.specs.Changes.{days_after}
+use Rattle.account_keys.specs.declared.key_changes.KeyChange.{KeyChange}
+use Rattle.account_keys.specs.declared.key_changes.KeyChange.TheVariants as change
+use Rattle.account_steps.specs.Places.{nothing_used}
+use Rattle.account_steps.specs.Steps.{only_key_of, arn_of}
+use Rattle.authority.specs.Setting.{Particulars}
+use Rattle.account_steps.specs.Authority.{on_key, of_key}
+use Rattle.account_steps.specs.View.{View}
+use Rattle.account_steps.specs.Parts.{Parts, Effect, takes, appends}
+
+abbrev pub action_of : KeyChange → Action
+action_of change.Enable = action.EnableKey
+action_of change.Disable = action.DisableKey
+action_of (change.ScheduleDeletion days) = action.ScheduleKeyDeletion
+action_of change.CancelDeletion = action.CancelKeyDeletion
+action_of (change.RotateEvery period) = action.EnableKeyRotation
+action_of change.RotateNoMore = action.DisableKeyRotation
+action_of change.RotateNow = action.RotateKeyOnDemand
+
+-- what the request says to conditions, beside the key
+abbrev pub said_of : KeyChange → Particulars → Particulars
+said_of change.Enable of_key = of_key
+said_of change.Disable of_key = of_key
+said_of (change.ScheduleDeletion days) of_key = record of_key { window = Some days }
+said_of change.CancelDeletion of_key = of_key
+said_of (change.RotateEvery period) of_key = record of_key { period = Some period }
+said_of change.RotateNoMore of_key = of_key
+said_of change.RotateNow of_key = of_key
+
+-- ---- what has nothing to do
+
+abbrev pub is_enabled : Stored → Bool
+is_enabled stored.Enabled = true
+is_enabled stored.Disabled = false
+is_enabled (stored.Pending date days) = false
+
+abbrev pub is_disabled : Stored → Bool
+is_disabled stored.Enabled = false
+is_disabled stored.Disabled = true
+is_disabled (stored.Pending date days) = false
+
+-- automatic rotation is on, with this period
+abbrev pub is_period : ℕ → Option ℕ → Bool
+is_period period None = false
+is_period period (Some days) = days == period
+
+abbrev pub is_off : Option ℕ → Bool
+is_off None = true
+is_off (Some days) = false
+
+-- ---- what each does
+
+-- this is done, or there is nothing to do
+abbrev pub does_unless : Bool → ℕ → What → Effect
+does_unless done moment what = if done then takes nothing_used else appends (record { time = moment; what = what })
+
+abbrev pub effect_at : ℕ → KeyRow → KeyChange → Effect
+effect_at moment row change.Enable = does_unless (is_enabled row.stored) moment (what.Enable row.key)
+effect_at moment row change.Disable = does_unless (is_disabled row.stored) moment (what.Disable row.key)
+effect_at moment row (change.ScheduleDeletion days) = does_unless false moment (what.Schedule row.key (days_after moment days) days)
+effect_at moment row change.CancelDeletion = does_unless false moment (what.Cancel row.key)
+effect_at moment row (change.RotateEvery period) = does_unless (is_period period row.period) moment (what.RotationOn row.key period)
+effect_at moment row change.RotateNoMore = does_unless (is_off row.period) moment (what.RotationOff row.key)
+effect_at moment row change.RotateNow = does_unless false moment (what.RotateNow row.key)
+
+abbrev pub reply_of : View → KeyRow → KeyChange → Reply
+reply_of view row change.Enable = reply.Done
+reply_of view row change.Disable = reply.Done
+reply_of view row (change.ScheduleDeletion days) = reply.DeletionScheduled (arn_of view.facts row.key) (days_after view.moment days) days
+reply_of view row change.CancelDeletion = reply.DeletionCancelled (arn_of view.facts row.key)
+reply_of view row (change.RotateEvery period) = reply.Done
+reply_of view row change.RotateNoMore = reply.Done
+reply_of view row change.RotateNow = reply.Rotated row.key
+
+-- EnableKey, DisableKey, ScheduleKeyDeletion, CancelKeyDeletion, EnableKeyRotation, DisableKeyRotation, RotateKeyOnDemand
+abbrev pub changes_key : View → List ℕ → KeyChange → Parts KeyRow ⊤
+changes_key view reference change = record {
+  found = only_key_of view reference;
+  questions = λ row. on_key (action_of change) row (said_of change (of_key view row.key)) ∷ [];
+  tokens = [];
+  uses = λ row. record { action = action_of change; key = row } ∷ [];
+  own = λ row. Ok tt;
+  effect = λ row ready. effect_at view.moment row change;
+  dry_run = false;
+  reply = λ row ready. reply_of view row change;
+}
+
+-- UpdateKeyDescription
+abbrev pub updates_description : View → List ℕ → List ℕ → Parts KeyRow ⊤
+updates_description view reference text = record {
+  found = only_key_of view reference;
+  questions = λ row. on_key action.UpdateKeyDescription row (of_key view row.key) ∷ [];
+  tokens = [];
+  uses = λ row. record { action = action.UpdateKeyDescription; key = row } ∷ [];
+  own = λ row. Ok tt;
+  effect = λ row ready. appends (record { time = view.moment; what = what.Description row.key text });
+  dry_run = false;
+  reply = λ row ready. reply.Done;
+}
+
+-- the next automatic rotation, and its period
+abbrev pub rotation_of : KeyRow → Option AutomaticRotation
+rotation_of row = option_map (λ period. record { next = row.next; period = period }) row.period
+
+-- GetKeyRotationStatus
+abbrev pub gets_rotation_status : View → List ℕ → Parts KeyRow ⊤
+gets_rotation_status view reference = record {
+  found = only_key_of view reference;
+  questions = λ row. on_key action.GetKeyRotationStatus row (of_key view row.key) ∷ [];
+  tokens = [];
+  uses = λ row. record { action = action.GetKeyRotationStatus; key = row } ∷ [];
+  own = λ row. Ok tt;
+  effect = λ row ready. takes nothing_used;
+  dry_run = false;
+  reply = λ row ready. reply.RotationStatus row.key (rotation_of row);
+}

@@ -1,0 +1,83 @@
+-- The operations on keys (AWS KMS API Reference, CreateKey, DescribeKey): what each says of the steps.
+use Rattle.std.specs.Prelude.{ℕ, List, [], ◌∷◌, codes, Bool, false, if◌then◌else◌, Option, Some, None, Ok, ⊤}
+use Rattle.std.specs.Str.{bytes_eq}
+use Rattle.kms_names.specs.declared.actions.Action.TheVariants as action
+use Rattle.kms_json.specs.Objects.{symmetric_default}
+use Rattle.kms_json.specs.declared.asks.keys.CreateKey.{CreateKey}
+use Rattle.kms_json.specs.declared.refusals.Refusal.{Refusal}
+use Rattle.kms_json.specs.declared.refusals.Refusal.TheVariants as refusal
+use Rattle.kms_json.specs.declared.refusals.Unsupported.{Unsupported}
+use Rattle.kms_json.specs.declared.refusals.Unsupported.TheVariants as field
+use Rattle.kms_json.specs.declared.replies.KeyMetadata.{KeyMetadata}
+use Rattle.kms_json.specs.declared.states.KeyState.{KeyState}
+use Rattle.kms_json.specs.declared.states.KeyState.TheVariants as state
+use Rattle.kms_json.specs.declared.replies.Reply.TheVariants as reply
+use Rattle.authority.specs.KeyPolicy.{default_text}
+use Rattle.account_steps.specs.declared.facts.RealmFacts.{RealmFacts}
+use Rattle.account_rows.specs.declared.entries.What.TheVariants as what
+use Rattle.key_states.specs.declared.rows.KeyRow.{KeyRow}
+use Rattle.account_steps.specs.Ids.{key_id_at}
+use Rattle.account_steps.specs.Places.{nothing_used}
+use Rattle.account_steps.specs.Steps.{unless, or_else, unsupported, key_of}
+use Rattle.account_steps.specs.Authority.{on_key, on_other, of_new_key, of_named}
+use Rattle.account_steps.specs.View.{View}
+use Rattle.account_steps.specs.declared.checks.Named.{Named}
+use Rattle.account_steps.specs.Parts.{Parts, takes, appends, told_state}
+use Rattle.account_keys.specs.Policies.{policy_refused}
+
+-- a key as replies describe it
+abbrev pub description_of : RealmFacts → List ℕ → ℕ → List ℕ → KeyState → KeyMetadata
+description_of facts key made description state = record { account = facts.account; region = facts.region; key = key; created = made; description = description; state = state }
+
+-- a text that is given is this one
+abbrev pub unsupported_unless : List ℕ → Option (List ℕ) → Unsupported → Option Refusal
+unsupported_unless wanted None name = None
+unsupported_unless wanted (Some given) name = if bytes_eq given wanted then None else Some (refusal.UnsupportedOperation name)
+
+-- what isn't served: only symmetric keys for encryption, made here and in one region, without tags
+abbrev pub unserved_key : CreateKey → Option Refusal
+unserved_key x =
+    or_else (unsupported_unless (codes "ENCRYPT_DECRYPT") x.key_usage field.KeyUsage)
+    (or_else (unsupported_unless symmetric_default x.customer_master_key_spec field.CustomerMasterKeySpec)
+    (or_else (unsupported_unless symmetric_default x.key_spec field.KeySpec)
+    (or_else (unsupported_unless (codes "AWS_KMS") x.origin field.Origin)
+    (or_else (unsupported x.custom_key_store_id field.CustomKeyStoreId)
+    (or_else (unsupported x.tags field.Tags)
+    (or_else (unsupported x.multi_region field.MultiRegion)
+    (unsupported x.xks_key_id field.XksKeyId)))))))
+
+-- the policy of the key: what is given, or the default policy
+abbrev pub policy_or_default : List ℕ → Option (List ℕ) → List ℕ
+policy_or_default account None = default_text account
+policy_or_default account (Some text) = text
+
+-- a policy that is given is one, and doesn't lock the caller out
+abbrev pub refused_if_given : View → Option (List ℕ) → Bool → Option Refusal
+refused_if_given view None bypass = None
+refused_if_given view (Some text) bypass = policy_refused view (key_id_at view.facts view.place) text bypass
+
+-- CreateKey: a key whose id is that of the next place
+abbrev pub creates_key : View → CreateKey → Parts ⊤ ⊤
+creates_key view x = record {
+  found = Ok tt;
+  questions = λ found. on_other action.CreateKey (codes "*") (record of_new_key { bypass = Some x.bypass_lockout_check }) ∷ [];
+  tokens = [];
+  uses = λ found. [];
+  own = λ found. unless (unserved_key x) (unless (refused_if_given view x.policy x.bypass_lockout_check) (Ok tt));
+  effect = λ found ready. appends (record { time = view.moment; what = what.CreateKey (key_id_at view.facts view.place) x.description (policy_or_default view.facts.account x.policy) });
+  dry_run = false;
+  reply = λ found ready. reply.Metadata (description_of view.facts (key_id_at view.facts view.place) view.moment x.description state.Enabled);
+}
+
+-- DescribeKey
+abbrev pub describes_key : View → List ℕ → List (List ℕ) → Parts Named ⊤
+describes_key view reference tokens = record {
+  found = key_of view reference;
+  questions = λ named. on_key action.DescribeKey named.row (of_named view named.row.key named.alias) ∷ [];
+  tokens = tokens;
+  uses = λ named. record { action = action.DescribeKey; key = named.row } ∷ [];
+  own = λ named. Ok tt;
+  effect = λ named ready. takes nothing_used;
+  dry_run = false;
+  reply = λ named ready. reply.Metadata (description_of view.facts named.row.key named.row.made named.row.description (told_state named.row.stored));
+}

@@ -1,0 +1,5 @@
+pub mod Keys
+pub mod Policies
+pub mod KeyChanges
+pub mod Aliases
+pub mod Grants

@@ -1,0 +1,331 @@
+// The operations on the state, the rotation and the description of a key.
+ghost use Rattle.std.specs.Prelude.{◌≡◌, ◌<◌, ◌≤◌, IfOk};
+ghost use Rattle.account_keys.specs.KeyChanges.{action_of, said_of, effect_at, reply_of, rotation_of, changes_key, updates_description, gets_rotation_status};
+ghost use Rattle.account_steps.specs.Settling.{effect_with};
+
+use account_rows::{Entry, Lent, What, days_after};
+use account_steps::{Changes, Made, Operation, Reads, Stop, Uses, View, of_key, only_key_of};
+use authority::Particulars;
+use draw_lines::DrawLine;
+use key_states::{KeyRow, Stored};
+use kms_json::{AutomaticRotation, Reply};
+use kms_names::{Action, NoMemory, Text};
+use std::alloc::Global;
+
+/// What is done to the state or the rotation of a key.
+#[derive(Clone, Copy)]
+pub enum KeyChange {
+    /// EnableKey.
+    Enable,
+    /// DisableKey.
+    Disable,
+    /// ScheduleKeyDeletion, with a waiting period of 7 to 30 days.
+    ScheduleDeletion { days: u32 },
+    /// CancelKeyDeletion.
+    CancelDeletion,
+    /// EnableKeyRotation, with a period of 90 to 2,560 days.
+    RotateEvery { period: u32 },
+    /// DisableKeyRotation.
+    RotateNoMore,
+    /// RotateKeyOnDemand.
+    RotateNow,
+}
+
+impl KeyChange {
+    // What it is called where it is authorized.
+    fn action(self) -> Action
+        ensures { result ≡ action_of self }
+    {
+        match self {
+            KeyChange::Enable => Action::EnableKey,
+            KeyChange::Disable => Action::DisableKey,
+            KeyChange::ScheduleDeletion { .. } => Action::ScheduleKeyDeletion,
+            KeyChange::CancelDeletion => Action::CancelKeyDeletion,
+            KeyChange::RotateEvery { .. } => Action::EnableKeyRotation,
+            KeyChange::RotateNoMore => Action::DisableKeyRotation,
+            KeyChange::RotateNow => Action::RotateKeyOnDemand,
+        }
+    }
+
+    // What it says to conditions, beside the key.
+    fn said<'a>(self, of_key: Particulars<'a>) -> Particulars<'a>
+        ensures { result ≡ said_of self of_key.entry }
+    {
+        match self {
+            KeyChange::ScheduleDeletion { days } => Particulars {
+                window: Some(days),
+                ..of_key
+            },
+            KeyChange::RotateEvery { period } => Particulars {
+                period: Some(period),
+                ..of_key
+            },
+            KeyChange::Enable
+            | KeyChange::Disable
+            | KeyChange::CancelDeletion
+            | KeyChange::RotateNoMore
+            | KeyChange::RotateNow => of_key,
+        }
+    }
+}
+
+// What is appended, where there is something to do.
+fn entry_of(row: &KeyRow, moment: u64, change: KeyChange) -> Option<Entry>
+    requires { moment < 253402300800 }
+    ensures { effect_with result ≡ effect_at moment row.now change }
+{
+    let key = row.key;
+    let what = match change {
+        KeyChange::Enable if row.stored == Stored::Enabled => return None,
+        KeyChange::Enable => What::Enable { key },
+        KeyChange::Disable if row.stored == Stored::Disabled => return None,
+        KeyChange::Disable => What::Disable { key },
+        KeyChange::ScheduleDeletion { days } => What::Schedule {
+            key,
+            date: days_after(moment, days),
+            days,
+        },
+        KeyChange::CancelDeletion => What::Cancel { key },
+        KeyChange::RotateEvery { period } if row.period == Some(period) => return None,
+        KeyChange::RotateEvery { period } => What::RotationOn { key, period },
+        KeyChange::RotateNoMore if row.period.is_none() => return None,
+        KeyChange::RotateNoMore => What::RotationOff { key },
+        KeyChange::RotateNow => What::RotateNow { key },
+    };
+    Some(Entry { time: moment, what })
+}
+
+/// One of the operations on a key's state or rotation.
+#[derive(Drop)]
+pub struct ChangingKey<'a> {
+    /// What its steps go by.
+    pub view: &'a View<'a>,
+    /// The reference to the key.
+    pub key_id: &'a Text,
+    /// What is done to the key.
+    pub change: KeyChange,
+}
+
+impl<'a> ChangingKey<'a> {
+    ghost use Rattle.std.specs.Prelude.{◌≡◌, IfOk};
+    ghost use Rattle.account_keys.specs.KeyChanges.{reply_of};
+
+    // The reply.
+    fn reply(&self, alloc: Global, row: &KeyRow) -> Result<Reply, NoMemory>
+        ensures { IfOk result (λ reply. reply ≡ reply_of self.now.view.now row.now self.now.change) }
+    {
+        let arn = self.view.arn(alloc, &row.key)?;
+        Ok(match self.change {
+            KeyChange::ScheduleDeletion { days } => Reply::DeletionScheduled {
+                arn,
+                deletion_date: days_after(self.view.moment(), days),
+                days: u64::from(days),
+            },
+            KeyChange::CancelDeletion => Reply::DeletionCancelled { arn },
+            KeyChange::RotateNow => Reply::Rotated { key: row.key },
+            KeyChange::Enable
+            | KeyChange::Disable
+            | KeyChange::RotateEvery { .. }
+            | KeyChange::RotateNoMore => Reply::Done,
+        })
+    }
+}
+
+impl<'a> Operation for ChangingKey<'a> {
+    type Found = Lent<'a>;
+
+    type Ready = ();
+
+    ghost seen = { λ op. op.view.now };
+
+    ghost parts = { λ op. changes_key op.view.now op.key_id.now op.change };
+
+    fn view(&self) -> &View<'_> {
+        self.view
+    }
+
+    fn find(&self, alloc: Global) -> Result<Lent<'a>, Stop> {
+        only_key_of(alloc, self.view, self.key_id)
+    }
+
+    fn authorize(&self, alloc: Global, found: &Lent<'a>) -> Result<(), Stop> {
+        let action = self.change.action();
+        let said = self.change.said(of_key(self.view, &found.row().key));
+        self.view.authorize_on(alloc, action, found, &said)
+    }
+
+    fn tokens(&self) -> &[Text] {
+        &[]
+    }
+
+    fn fit(&self, alloc: Global, found: &Lent<'a>) -> Result<(), Stop> {
+        self.view.fit(alloc, self.change.action(), found)
+    }
+
+    fn own(&self, _alloc: Global, _found: &Lent<'a>) -> Result<(), Stop> {
+        Ok(())
+    }
+
+    fn dry_run(&self) -> bool {
+        false
+    }
+}
+
+impl<'a> Changes for ChangingKey<'a> {
+    fn make(&self, alloc: Global, found: Lent<'a>, _ready: ()) -> Result<Made, NoMemory> {
+        let row = found.row();
+        Ok(Made {
+            reply: self.reply(alloc, row)?,
+            entry: entry_of(row, self.view.moment(), self.change),
+        })
+    }
+}
+
+/// UpdateKeyDescription.
+#[derive(Drop)]
+pub struct UpdatingDescription<'a> {
+    /// What its steps go by.
+    pub view: &'a View<'a>,
+    /// The reference to the key.
+    pub key_id: &'a Text,
+    /// The key's new description.
+    pub description: &'a Text,
+}
+
+impl<'a> Operation for UpdatingDescription<'a> {
+    type Found = Lent<'a>;
+
+    type Ready = ();
+
+    ghost seen = { λ op. op.view.now };
+
+    ghost parts = { λ op. updates_description op.view.now op.key_id.now op.description.now };
+
+    fn view(&self) -> &View<'_> {
+        self.view
+    }
+
+    fn find(&self, alloc: Global) -> Result<Lent<'a>, Stop> {
+        only_key_of(alloc, self.view, self.key_id)
+    }
+
+    fn authorize(&self, alloc: Global, found: &Lent<'a>) -> Result<(), Stop> {
+        let said = of_key(self.view, &found.row().key);
+        self.view
+            .authorize_on(alloc, Action::UpdateKeyDescription, found, &said)
+    }
+
+    fn tokens(&self) -> &[Text] {
+        &[]
+    }
+
+    fn fit(&self, alloc: Global, found: &Lent<'a>) -> Result<(), Stop> {
+        self.view.fit(alloc, Action::UpdateKeyDescription, found)
+    }
+
+    fn own(&self, _alloc: Global, _found: &Lent<'a>) -> Result<(), Stop> {
+        Ok(())
+    }
+
+    fn dry_run(&self) -> bool {
+        false
+    }
+}
+
+impl<'a> Changes for UpdatingDescription<'a> {
+    fn make(&self, _alloc: Global, found: Lent<'a>, _ready: ()) -> Result<Made, NoMemory> {
+        let text = self.description.copy()?;
+        Ok(Made {
+            reply: Reply::Done,
+            entry: Some(Entry {
+                time: self.view.moment(),
+                what: What::Description {
+                    key: found.row().key,
+                    text,
+                },
+            }),
+        })
+    }
+}
+
+// The next automatic rotation, and its period.
+fn rotation_of(row: &KeyRow) -> Option<AutomaticRotation>
+    ensures { result ≡ rotation_of row.now }
+{
+    match row.period {
+        Some(period) => Some(AutomaticRotation {
+            next: row.next,
+            period,
+        }),
+        None => None,
+    }
+}
+
+/// GetKeyRotationStatus.
+#[derive(Drop)]
+pub struct GettingRotationStatus<'a> {
+    /// What its steps go by.
+    pub view: &'a View<'a>,
+    /// The reference to the key.
+    pub key_id: &'a Text,
+}
+
+impl<'a> Operation for GettingRotationStatus<'a> {
+    type Found = Lent<'a>;
+
+    type Ready = ();
+
+    ghost seen = { λ op. op.view.now };
+
+    ghost parts = { λ op. gets_rotation_status op.view.now op.key_id.now };
+
+    fn view(&self) -> &View<'_> {
+        self.view
+    }
+
+    fn find(&self, alloc: Global) -> Result<Lent<'a>, Stop> {
+        only_key_of(alloc, self.view, self.key_id)
+    }
+
+    fn authorize(&self, alloc: Global, found: &Lent<'a>) -> Result<(), Stop> {
+        let said = of_key(self.view, &found.row().key);
+        self.view
+            .authorize_on(alloc, Action::GetKeyRotationStatus, found, &said)
+    }
+
+    fn tokens(&self) -> &[Text] {
+        &[]
+    }
+
+    fn fit(&self, alloc: Global, found: &Lent<'a>) -> Result<(), Stop> {
+        self.view.fit(alloc, Action::GetKeyRotationStatus, found)
+    }
+
+    fn own(&self, _alloc: Global, _found: &Lent<'a>) -> Result<(), Stop> {
+        Ok(())
+    }
+
+    fn dry_run(&self) -> bool {
+        false
+    }
+}
+
+impl<'a> Reads for GettingRotationStatus<'a> {
+    fn uses(&self) -> Uses {
+        Uses::NOTHING
+    }
+
+    fn serve(
+        &self,
+        _alloc: Global,
+        found: Lent<'a>,
+        _ready: (),
+        _line: &mut DrawLine,
+    ) -> Result<Reply, NoMemory> {
+        let row = found.row();
+        Ok(Reply::RotationStatus {
+            key: row.key,
+            rotation: rotation_of(row),
+        })
+    }
+}

@@ -1,0 +1,247 @@
+// The operations on keys: CreateKey and DescribeKey.
+ghost use Rattle.std.specs.Prelude.{◌≡◌, IfOk, codes};
+ghost use Rattle.kms_json.specs.declared.replies.Reply.TheVariants as Reply;
+ghost use Rattle.account_steps.specs.Steps.{Passes};
+ghost use Rattle.account_keys.specs.Keys.{description_of, creates_key, describes_key, unsupported_unless, unserved_key, policy_or_default, refused_if_given};
+
+use crate::policies::accept;
+use account_rows::{Entry, What};
+use account_steps::{
+    Changes, Made, Named, Operation, Reads, Stop, Uses, View, key_id, key_of, of_named, of_new_key,
+    refuse, told_state, unsupported,
+};
+use authority::{Particulars, default_policy_text};
+use draw_lines::DrawLine;
+use kms_json::{CreateKey, KeyMetadata, KeyState, Refusal, Reply, SYMMETRIC_DEFAULT, Unsupported};
+use kms_names::{AccountNumber, Action, KeyId, NoMemory, Text, TextList};
+use std::alloc::Global;
+
+// A key as replies describe it.
+fn metadata(
+    view: &View<'_>,
+    key: KeyId,
+    created: u64,
+    description: &Text,
+    state: KeyState,
+) -> Result<KeyMetadata, NoMemory>
+    ensures { IfOk result (λ metadata. metadata ≡ description_of view.now.facts key created description.now state) }
+{
+    let facts = view.facts();
+    Ok(KeyMetadata {
+        account: facts.account,
+        region: facts.region.copy()?,
+        key,
+        created,
+        description: description.copy()?,
+        state,
+    })
+}
+
+// The refusal of a text that isn't the one that is served.
+fn unsupported_unless(wanted: &str, given: &Option<Text>, field: Unsupported) -> Option<Refusal>
+    ensures { result ≡ unsupported_unless wanted.now given.now field }
+{
+    match given {
+        Some(given) if given.as_str() != wanted => Some(Refusal::UnsupportedOperation(field)),
+        _ => None,
+    }
+}
+
+// Stops at what isn't served.
+fn serve_only(x: &CreateKey) -> Result<(), Stop>
+    ensures { Passes (unserved_key x.now) result }
+{
+    refuse(unsupported_unless("ENCRYPT_DECRYPT", &x.key_usage, Unsupported::KeyUsage))?;
+    refuse(unsupported_unless(
+        SYMMETRIC_DEFAULT,
+        &x.customer_master_key_spec,
+        Unsupported::CustomerMasterKeySpec,
+    ))?;
+    refuse(unsupported_unless(SYMMETRIC_DEFAULT, &x.key_spec, Unsupported::KeySpec))?;
+    refuse(unsupported_unless("AWS_KMS", &x.origin, Unsupported::Origin))?;
+    refuse(unsupported(x.custom_key_store_id, Unsupported::CustomKeyStoreId))?;
+    refuse(unsupported(x.tags, Unsupported::Tags))?;
+    refuse(unsupported(x.multi_region, Unsupported::MultiRegion))?;
+    refuse(unsupported(x.xks_key_id, Unsupported::XksKeyId))
+}
+
+// Stops at the refusal of a policy that is given.
+fn accept_if_given(
+    alloc: Global,
+    view: &View<'_>,
+    policy: &Option<Text>,
+    bypass: bool,
+) -> Result<(), Stop>
+    ensures { Passes (refused_if_given view.now policy.now bypass) result }
+{
+    match policy {
+        Some(text) => {
+            let key = key_id(view.facts(), view.place());
+            accept(alloc, view, &key, text, bypass)
+        }
+        None => Ok(()),
+    }
+}
+
+// The policy of a key: what is given, or the default policy.
+fn policy_or_default(
+    alloc: Global,
+    account: &AccountNumber,
+    policy: &Option<Text>,
+) -> Result<Text, NoMemory>
+    ensures { IfOk result (λ text. text ≡ policy_or_default account.now policy.now) }
+{
+    match policy {
+        Some(text) => text.copy(),
+        None => default_policy_text(alloc, account),
+    }
+}
+
+/// CreateKey.
+#[derive(Drop)]
+pub struct CreatingKey<'a> {
+    /// What its steps go by.
+    pub view: &'a View<'a>,
+    /// What it asks.
+    pub x: &'a CreateKey,
+}
+
+impl<'a> Operation for CreatingKey<'a> {
+    type Found = ();
+
+    type Ready = ();
+
+    ghost seen = { λ op. op.view.now };
+
+    ghost parts = { λ op. creates_key op.view.now op.x.now };
+
+    fn view(&self) -> &View<'_> {
+        self.view
+    }
+
+    fn find(&self, _alloc: Global) -> Result<(), Stop> {
+        Ok(())
+    }
+
+    fn authorize(&self, alloc: Global, _found: &()) -> Result<(), Stop> {
+        let said = Particulars {
+            bypass: Some(self.x.bypass_lockout_check),
+            ..of_new_key()
+        };
+        self.view.authorize(alloc, Action::CreateKey, "*", &said)
+    }
+
+    fn tokens(&self) -> &[Text] {
+        &[]
+    }
+
+    fn fit(&self, _alloc: Global, _found: &()) -> Result<(), Stop> {
+        Ok(())
+    }
+
+    fn own(&self, alloc: Global, _found: &()) -> Result<(), Stop> {
+        serve_only(self.x)?;
+        accept_if_given(
+            alloc,
+            self.view,
+            &self.x.policy,
+            self.x.bypass_lockout_check,
+        )
+    }
+
+    fn dry_run(&self) -> bool {
+        false
+    }
+}
+
+impl<'a> Changes for CreatingKey<'a> {
+    fn make(&self, alloc: Global, _found: (), _ready: ()) -> Result<Made, NoMemory> {
+        let time = self.view.moment();
+        let facts = self.view.facts();
+        let key = key_id(facts, self.view.place());
+        let metadata = metadata(self.view, key, time, &self.x.description, KeyState::Enabled)?;
+        let description = self.x.description.copy()?;
+        let policy = policy_or_default(alloc, &facts.account, &self.x.policy)?;
+        Ok(Made {
+            reply: Reply::Metadata(metadata),
+            entry: Some(Entry {
+                time,
+                what: What::CreateKey {
+                    key,
+                    description,
+                    policy,
+                },
+            }),
+        })
+    }
+}
+
+/// DescribeKey.
+#[derive(Drop)]
+pub struct DescribingKey<'a> {
+    /// What its steps go by.
+    pub view: &'a View<'a>,
+    /// The reference to the key.
+    pub key_id: &'a Text,
+    /// The tokens of grants.
+    pub grant_tokens: &'a TextList,
+}
+
+impl<'a> Operation for DescribingKey<'a> {
+    type Found = Named<'a>;
+
+    type Ready = ();
+
+    ghost seen = { λ op. op.view.now };
+
+    ghost parts = { λ op. describes_key op.view.now op.key_id.now op.grant_tokens.now };
+
+    fn view(&self) -> &View<'_> {
+        self.view
+    }
+
+    fn find(&self, alloc: Global) -> Result<Named<'a>, Stop> {
+        key_of(alloc, self.view, self.key_id)
+    }
+
+    fn authorize(&self, alloc: Global, found: &Named<'a>) -> Result<(), Stop> {
+        let said = of_named(self.view, &found.row.row().key, &found.alias);
+        self.view
+            .authorize_on(alloc, Action::DescribeKey, &found.row, &said)
+    }
+
+    fn tokens(&self) -> &[Text] {
+        self.grant_tokens.as_slice()
+    }
+
+    fn fit(&self, alloc: Global, found: &Named<'a>) -> Result<(), Stop> {
+        self.view.fit(alloc, Action::DescribeKey, &found.row)
+    }
+
+    fn own(&self, _alloc: Global, _found: &Named<'a>) -> Result<(), Stop> {
+        Ok(())
+    }
+
+    fn dry_run(&self) -> bool {
+        false
+    }
+}
+
+impl<'a> Reads for DescribingKey<'a> {
+    fn uses(&self) -> Uses {
+        Uses::NOTHING
+    }
+
+    fn serve(
+        &self,
+        _alloc: Global,
+        found: Named<'a>,
+        _ready: (),
+        _line: &mut DrawLine,
+    ) -> Result<Reply, NoMemory> {
+        let row = found.row.row();
+        let state = told_state(row.stored);
+        let metadata = metadata(self.view, row.key, row.made, &row.description, state)?;
+        Ok(Reply::Metadata(metadata))
+    }
+}

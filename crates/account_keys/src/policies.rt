@@ -1,0 +1,250 @@
+// The operations on the policies of keys: PutKeyPolicy and GetKeyPolicy.
+ghost use Rattle.std.specs.Prelude.{◌≡◌, IfOk, IfErr, None, Some};
+ghost use Rattle.account_steps.specs.Authority.{of_key};
+ghost use Rattle.authority.specs.KeyPolicy.{fault_in, policy_in};
+ghost use Rattle.kms_json.specs.declared.refusals.Refusal.TheVariants as refusal;
+ghost use Rattle.account_steps.specs.declared.stops.Stop.TheVariants as stop;
+ghost use Rattle.account_steps.specs.Steps.{Passes};
+ghost use Rattle.account_keys.specs.Policies.{StopsAt, IsStopAt, may_put_again, locked_out, policy_refused, puts_policy, gets_policy};
+
+use account_rows::{Entry, Lent, What};
+use account_steps::{Changes, Made, Operation, Reads, Stop, Uses, View, of_key, only_key_of};
+use authority::{KeyPolicy, Particulars};
+use draw_lines::DrawLine;
+use kms_json::{PolicyFlaw, Refusal, Reply};
+use kms_names::{Action, KeyId, NoMemory, Text};
+use policy_doc::PolicyFault;
+use std::alloc::Global;
+
+// The stop at a flaw.
+fn malformed(flaw: PolicyFlaw) -> Stop
+    ensures { result ≡ stop.Refused (refusal.MalformedPolicy flaw) }
+{
+    Stop::Refused(Refusal::MalformedPolicy(flaw))
+}
+
+// The stop at a fault of a document.
+fn stop_at(fault: PolicyFault) -> Stop
+    ensures { StopsAt fault result }
+{
+    match fault {
+        PolicyFault::TooLong => malformed(PolicyFlaw::TooLong),
+        PolicyFault::NotJson => malformed(PolicyFlaw::NotJson),
+        PolicyFault::BadShape(path) => malformed(PolicyFlaw::BadShape(path)),
+        PolicyFault::Unsupported(path) => malformed(PolicyFlaw::Unsupported(path)),
+        PolicyFault::NoMemory => Stop::NoMemory,
+    }
+}
+
+// The policy that a text is.
+fn read(alloc: Global, text: &Text) -> Result<KeyPolicy, Stop>
+    ensures ok { IfOk result (λ p. (fault_in text.now ≡ None) × (p ≡ policy_in text.now)) }
+    ensures fault { IfErr result (IsStopAt (fault_in text.now)) }
+{
+    match KeyPolicy::read(alloc, text) {
+        Ok(policy) => Ok(policy),
+        Err(fault) => Err(stop_at(fault)),
+    }
+}
+
+// A request with a policy of a key, and whether it passes over the lockout check.
+fn of_policy<'a>(view: &View<'a>, key: &'a KeyId, bypass: bool) -> Particulars<'a>
+    ensures { result ≡ record (of_key view.now key.now) { bypass = Some bypass } }
+{
+    Particulars {
+        bypass: Some(bypass),
+        ..of_key(view, key)
+    }
+}
+
+// Whether with this policy in place the caller may put the key's policy again.
+fn may_put_again(
+    alloc: Global,
+    view: &View<'_>,
+    policy: &KeyPolicy,
+    key: &KeyId,
+) -> Result<bool, NoMemory>
+    ensures { IfOk result (λ b. b ≡ may_put_again view.now policy.now key.now) }
+{
+    let arn = view.arn(alloc, key)?;
+    let said = of_policy(view, key, false);
+    view.may_on_key(
+        alloc,
+        policy,
+        Action::PutKeyPolicy,
+        key,
+        arn.as_str(),
+        &said,
+    )
+}
+
+// Stops where the caller is locked out by a policy, unless this is passed over.
+fn keep_in(
+    alloc: Global,
+    view: &View<'_>,
+    policy: &KeyPolicy,
+    key: &KeyId,
+    bypass: bool,
+) -> Result<(), Stop>
+    ensures { Passes (locked_out view.now policy.now key.now bypass) result }
+{
+    if bypass {
+        return Ok(());
+    }
+    if may_put_again(alloc, view, policy, key)? {
+        return Ok(());
+    }
+    Err(malformed(PolicyFlaw::Lockout))
+}
+
+/// Stops at what is wrong with a new policy of a key: its first fault, and then, unless this is passed over, that it
+/// locks the caller out.
+pub fn accept(
+    alloc: Global,
+    view: &View<'_>,
+    key: &KeyId,
+    text: &Text,
+    bypass: bool,
+) -> Result<(), Stop>
+    ensures { Passes (policy_refused view.now key.now text.now bypass) result }
+{
+    match read(alloc, text) {
+        Ok(policy) => keep_in(alloc, view, &policy, key, bypass),
+        Err(stop) => Err(stop),
+    }
+}
+
+/// PutKeyPolicy.
+#[derive(Drop)]
+pub struct PuttingPolicy<'a> {
+    /// What its steps go by.
+    pub view: &'a View<'a>,
+    /// The reference to the key.
+    pub key_id: &'a Text,
+    /// The key's new policy.
+    pub policy: &'a Text,
+    /// Whether the caller may lock itself out.
+    pub bypass: bool,
+}
+
+impl<'a> Operation for PuttingPolicy<'a> {
+    type Found = Lent<'a>;
+
+    type Ready = ();
+
+    ghost seen = { λ op. op.view.now };
+
+    ghost parts = { λ op. puts_policy op.view.now op.key_id.now op.policy.now op.bypass };
+
+    fn view(&self) -> &View<'_> {
+        self.view
+    }
+
+    fn find(&self, alloc: Global) -> Result<Lent<'a>, Stop> {
+        only_key_of(alloc, self.view, self.key_id)
+    }
+
+    fn authorize(&self, alloc: Global, found: &Lent<'a>) -> Result<(), Stop> {
+        let said = of_policy(self.view, &found.row().key, self.bypass);
+        self.view
+            .authorize_on(alloc, Action::PutKeyPolicy, found, &said)
+    }
+
+    fn tokens(&self) -> &[Text] {
+        &[]
+    }
+
+    fn fit(&self, alloc: Global, found: &Lent<'a>) -> Result<(), Stop> {
+        self.view.fit(alloc, Action::PutKeyPolicy, found)
+    }
+
+    fn own(&self, alloc: Global, found: &Lent<'a>) -> Result<(), Stop> {
+        accept(alloc, self.view, &found.row().key, self.policy, self.bypass)
+    }
+
+    fn dry_run(&self) -> bool {
+        false
+    }
+}
+
+impl<'a> Changes for PuttingPolicy<'a> {
+    fn make(&self, _alloc: Global, found: Lent<'a>, _ready: ()) -> Result<Made, NoMemory> {
+        let text = self.policy.copy()?;
+        Ok(Made {
+            reply: Reply::Done,
+            entry: Some(Entry {
+                time: self.view.moment(),
+                what: What::Policy {
+                    key: found.row().key,
+                    text,
+                },
+            }),
+        })
+    }
+}
+
+/// GetKeyPolicy.
+#[derive(Drop)]
+pub struct GettingPolicy<'a> {
+    /// What its steps go by.
+    pub view: &'a View<'a>,
+    /// The reference to the key.
+    pub key_id: &'a Text,
+}
+
+impl<'a> Operation for GettingPolicy<'a> {
+    type Found = Lent<'a>;
+
+    type Ready = ();
+
+    ghost seen = { λ op. op.view.now };
+
+    ghost parts = { λ op. gets_policy op.view.now op.key_id.now };
+
+    fn view(&self) -> &View<'_> {
+        self.view
+    }
+
+    fn find(&self, alloc: Global) -> Result<Lent<'a>, Stop> {
+        only_key_of(alloc, self.view, self.key_id)
+    }
+
+    fn authorize(&self, alloc: Global, found: &Lent<'a>) -> Result<(), Stop> {
+        let said = of_key(self.view, &found.row().key);
+        self.view
+            .authorize_on(alloc, Action::GetKeyPolicy, found, &said)
+    }
+
+    fn tokens(&self) -> &[Text] {
+        &[]
+    }
+
+    fn fit(&self, alloc: Global, found: &Lent<'a>) -> Result<(), Stop> {
+        self.view.fit(alloc, Action::GetKeyPolicy, found)
+    }
+
+    fn own(&self, _alloc: Global, _found: &Lent<'a>) -> Result<(), Stop> {
+        Ok(())
+    }
+
+    fn dry_run(&self) -> bool {
+        false
+    }
+}
+
+impl<'a> Reads for GettingPolicy<'a> {
+    fn uses(&self) -> Uses {
+        Uses::NOTHING
+    }
+
+    fn serve(
+        &self,
+        _alloc: Global,
+        found: Lent<'a>,
+        _ready: (),
+        _line: &mut DrawLine,
+    ) -> Result<Reply, NoMemory> {
+        let policy = found.row().policy.copy()?;
+        Ok(Reply::KeyPolicy { policy })
+    }
+}

@@ -1,0 +1,292 @@
+-- The laws of sealing.
+use Rattle.std.proofs.Common.{◌≡◌, ℕ, ◌-◌, ◌<◌, ◌≤◌, ◌^◌, max, List, [], ◌∷◌, ◌++◌, length, take, drop, get_or, codes, Bool, true, false, nat_le, le-leb, Option, Some, None, Result, Ok, Err, refl, sym, ap, ◌∙◌, subst, if◌then◌else◌, append_assoc, arith, length-append, length-take}
+use Rattle.std.specs.Prelude.{ok_or}
+use Rattle.std.specs.Int.{w16, w32, to_be_bytes}
+use Rattle.std.specs.List.Sorted.{IsNonDecreasingBy}
+use Rattle.std.proofs.lemmas.List.Sorted.{IsNonDecreasingBy-push}
+use Rattle.std.proofs.lemmas.List.{take_at, drop_at, get_or_push}
+use Rattle.draw_lines.specs.Iv.{iv_at}
+use Rattle.draw_lines.proofs.IvFacts.{count_told, pass_told}
+use Rattle.mac_sha.specs.Hmac.{hmac_sha256}
+use Rattle.mac_sha.proofs.HmacFacts.{hmac_length}
+use Rattle.blob_format.specs.Blob.{blob_head, blob_text}
+use Rattle.blob_format.proofs.BlobFacts.{told}
+use Rattle.enc_context.specs.declared.pairs.Pair.{Pair}
+use Rattle.gcm_seal.proofs.SealFacts.{opens_sealed}
+use Rattle.crypto_ops.specs.Material.{material_of}
+use Rattle.crypto_ops.specs.Sealed.{additional_data, sealed, opened}
+use Rattle.crypto_ops.specs.Laws.{CanSeal}
+use Rattle.crypto_ops.proofs.OpeningFacts.{sealed_form, opened_blob}
+use Rattle.kms_names.specs.declared.actions.Action.TheVariants as action
+use Rattle.authority.specs.Setting.{callers_policies}
+use Rattle.authority.specs.Allowed.{AreIdentityPolicies}
+use Rattle.kms_json.specs.declared.asks.Ask.{Ask}
+use Rattle.kms_json.specs.declared.asks.AskBody.{AskBody}
+use Rattle.kms_json.specs.declared.asks.AskBody.TheVariants as ask
+use Rattle.kms_json.specs.declared.asks.Reading.TheVariants as reading
+use Rattle.kms_json.specs.declared.asks.cryptography.Decrypt.{Decrypt}
+use Rattle.kms_json.specs.declared.replies.Reply.TheVariants as reply
+use Rattle.kms_json.specs.declared.refusals.Refusal.{Refusal}
+use Rattle.kms_json.specs.declared.refusals.Refusal.TheVariants as refusal
+use Rattle.kms_json.specs.declared.refusals.Unsupported.TheVariants.{Recipient}
+use Rattle.account_steps.specs.declared.facts.RealmFacts.{RealmFacts}
+use Rattle.account_rows.specs.declared.entries.Entry.{Entry}
+use Rattle.key_states.specs.declared.rows.KeyRow.{KeyRow}
+use Rattle.key_states.specs.declared.states.State.TheVariants as state
+use Rattle.key_states.specs.declared.states.Stored.{Stored}
+use Rattle.key_states.specs.declared.states.Stored.TheVariants as at
+use Rattle.key_states.specs.Permissions.{refusal_of, need_of}
+use Rattle.key_states.specs.States.{state_of}
+use Rattle.account_steps.specs.Ids.{key_id_at, be32, be48}
+use Rattle.account_steps.specs.Places.{IsUpTo, nothing_used}
+use Rattle.account_steps.specs.declared.places.Places.{Places}
+use Rattle.blob_format.specs.Names.{BlobName, name_in, named_in}
+use Rattle.account_rows.specs.History.{replay, latest_of, key_with, IsRowOf}
+use Rattle.account_steps.specs.Source.{Source}
+use Rattle.account_steps.specs.View.{View, view_of, unless_gone, key_held}
+use Rattle.account_steps.specs.Steps.{unless, and_then, or_else, unfit, unsupported, key_if_given, other_key, alias_of, blob_name, source_in, source_of, newest_version, opens, seals, arn_of}
+use Rattle.account_steps.specs.Authority.{on_key, denied, MayAsk}
+use Rattle.account_steps.specs.declared.checks.Named.{Named}
+use Rattle.account_steps.specs.Parts.{Outcome, takes, outcome, dead_token, decided_by, only_asked, refused_state, unfit_one, told_state}
+use Rattle.account_crypto.specs.Crypto.{decrypts}
+use Rattle.account_steps.specs.Authority.{of_context}
+use Rattle.account_core.specs.Decide.{lacking, body_outcome, decide, IsNext, appended, kept, IsLawful, empty, longer}
+use Rattle.account_laws.specs.Laws.{reply_to, PassGoesOn, no_request, one_more, wants_memory, iv_in, exception_of, unless_excepted, SealedIsDecryptedAgain, OnePassRepeatsNoIv, PassesShareNoIv, TimesNeverFall, HouseIsKeptOnce, KeysDiffer, GrantsDiffer}
+use Rattle.blob_format.proofs.BlobNames.{named_blob}
+use Rattle.account_core.proofs.GoingOn.{decide_goes_on}
+use Rattle.account_rows.specs.Changes.{HasVersions, is_gone, is_state_gone}
+use Rattle.account_rows.proofs.RowFacts.{found_key, found_all, latest-push}
+use Rattle.account_rows.proofs.VersionFacts.{versions_grow}
+use Rattle.account_rows.proofs.HouseFacts.{kept_once}
+use Rattle.account_core.proofs.Fitting.{HasLaws, laws_of, comes_next, lawful_front, id_ends, grant_ends}
+use Rattle.account_steps.proofs.Asking.{one_passes}
+use Rattle.account_laws.proofs.LawSealings.{IsText, is_sealed, there_of}
+use Rattle.account_steps.proofs.Passing.{goes_through, stops_at_state}
+
+-- ---- the initialization vectors of a pass
+
+goes_up : (facts : RealmFacts) (from to : Places) → PassGoesOn facts from to → IsUpTo from to to
+goes_up facts from to (no_request places) = record { number = refl; words_from = omega arith; words_to = omega arith; ivs_from = omega arith; ivs_to = omega arith }
+goes_up facts from to (one_more {to = before} history x on) =
+    let first = goes_up facts from before on in
+    let last = decide_goes_on facts history x before in
+    record { number = last.number ∙ first.number; words_from = omega arith; words_to = omega arith; ivs_from = omega arith; ivs_to = omega arith }
+goes_up facts from to (wants_memory {to = before} history x left on within) =
+    let first = goes_up facts from before on in
+    record { number = within.number ∙ first.number; words_from = omega arith; words_to = omega arith; ivs_from = omega arith; ivs_to = omega arith }
+
+iv_size : (boot number count : ℕ) → length (iv_at boot number count) ≡ 12
+unfolding iv_at
+iv_size boot number count = refl
+
+iv_told : (key : List ℕ) (version : ℕ) (iv text tag : List ℕ) → length key ≡ 16 → length iv ≡ 12 → iv_in (blob_text key version iv text tag) ≡ iv
+unfolding blob_text
+iv_told key version iv text tag key_is iv_is =
+    let head : List ℕ = 1 ∷ key ++ to_be_bytes w32 version in
+    let size : length head ≡ 21 = omega (arith, length-append (1 ∷ key) (to_be_bytes w32 version)) in
+    let spelled : blob_text key version iv text tag ≡ head ++ (iv ++ (text ++ tag)) =
+    append_assoc (head ++ iv) text tag ∙ append_assoc head iv (text ++ tag) in
+    ap (λ (bytes : List ℕ). take 12 (drop 21 bytes)) spelled ∙ ap (take 12) (drop_at head (iv ++ (text ++ tag)) 21 size) ∙ take_at iv (text ++ tag) 12 iv_is
+
+sealed_iv : (facts : RealmFacts) (row : KeyRow) (context : List Pair) (text : List ℕ) (places : Places) → length row.key ≡ 16
+    → iv_in (seals facts row context text places) ≡ iv_at facts.boot places.number places.ivs
+unfolding seals sealed
+sealed_iv facts row context text places is = iv_told row.key (newest_version row) _ _ _ is (iv_size facts.boot places.number places.ivs)
+
+key_size : (facts : RealmFacts) (history : List Entry) (row : KeyRow) → IsLawful facts history → key_with (replay history).keys row.key ≡ Some row → length row.key ≡ 16
+key_size facts history row lawful there =
+    found_all (λ (r : KeyRow). length r.key ≡ 16) (replay history).keys row.key row there (laws_of facts history lawful).sizes
+
+pub no_iv_again : OnePassRepeatsNoIv
+no_iv_again facts history later x y places later_places one other lawful lawful_later first second on same =
+    let a = is_sealed facts history x places one first in
+    let b = is_sealed facts later y later_places other second in
+    let up = goes_up facts _ later_places on in
+    let iv = ap iv_in a.blob ∙ sealed_iv facts a.row one.context one.plaintext places (key_size facts history a.row lawful a.there) in
+    let iv' = ap iv_in b.blob ∙ sealed_iv facts b.row other.context other.plaintext later_places (key_size facts later b.row lawful_later b.there) in
+    let count : places.ivs ≡ later_places.ivs = count_told facts.boot facts.boot places.number later_places.number places.ivs later_places.ivs a.few b.few (sym iv ∙ same ∙ iv') in
+    omega (arith, up.ivs_from, a.ivs, count)
+
+pub no_iv_shared : PassesShareNoIv
+no_iv_shared facts history later x y places others one other lawful lawful_later first second fits fits_too apart same =
+    let a = is_sealed facts history x places one first in
+    let b = is_sealed facts later y others other second in
+    let iv = ap iv_in a.blob ∙ sealed_iv facts a.row one.context one.plaintext places (key_size facts history a.row lawful a.there) in
+    let iv' = ap iv_in b.blob ∙ sealed_iv facts b.row other.context other.plaintext others (key_size facts later b.row lawful_later b.there) in
+    apart (pass_told facts.boot facts.boot places.number others.number places.ivs others.ivs fits fits_too (sym iv ∙ same ∙ iv'))
+
+-- ---- what was sealed is decrypted again
+
+-- the row of a key that sealed
+sealing_versions : (facts : RealmFacts) (history : List Entry) (row : KeyRow) → IsLawful facts history → key_with (replay history).keys row.key ≡ Some row → HasVersions row
+sealing_versions facts history row lawful there =
+    let laws = laws_of facts history lawful in
+    let is = found_all (IsRowOf (length history)) (replay history).keys row.key row there laws.rows.each in
+    record { some = is.some; few = omega (arith, is.counted, laws.few) }
+
+-- a blob says its key, and opens to its text
+record Opens (facts : RealmFacts) (row : KeyRow) (context : List Pair) (text blob : List ℕ) : Type 0 where
+  named : named_in blob ≡ Some (record { key = row.key; version = newest_version row })
+  key : (name_in blob).key ≡ row.key
+  opens_to : opened facts.root blob context ≡ Some text
+
+sealed_opens : (facts : RealmFacts) (row : KeyRow) (context : List Pair) (text : List ℕ) (places : Places) → length row.key ≡ 16 → HasVersions row → IsText text
+    → Opens facts row context text (seals facts row context text places)
+unfolding seals
+sealed_opens facts row context text places id_is versions size =
+    let iv : List ℕ = iv_at facts.boot places.number places.ivs in
+    let version : ℕ = newest_version row in
+    let key : List ℕ = material_of facts.root row.key version in
+    let can : CanSeal row.key version iv text = record {
+      id_size = id_is;
+      version_from_one = versions.some;
+      version_fits = omega (arith, versions.few);
+      iv_size = iv_size facts.boot places.number places.ivs;
+      text_given = size.0;
+      text_fits = size.1;
+    } in
+    let form = sealed_form facts.root row.key version iv context text can in
+    record {
+      named = named_blob _ row.key version iv _ _ form;
+      key = (told _ row.key version iv _ _ form).key_at;
+      opens_to = opened_blob facts.root _ row.key version iv _ _ context form ∙ opens_sealed key iv (additional_data (blob_head row.key version) context) text;
+    }
+
+module _ (view : View) (row : KeyRow) (version : ℕ) (there : key_held view row.key ≡ Some row) where
+  abbrev source : Option Named → List ℕ → Source
+  source named blob = record { row = row; alias = alias_of named; version = version; bytes = blob }
+
+  source_is : (reference : Option (List ℕ)) (given : Option Named) (blob : List ℕ) → key_if_given view reference ≡ Ok given → other_key given row.key ≡ None
+      → named_in blob ≡ Some (record { key = row.key; version = version }) → source_of view action.Decrypt reference blob ≡ Ok (source given blob)
+  source_is reference given blob is same named =
+      let compared : Option Named → BlobName → Result Source Refusal = λ o name. unless (other_key o name.key) (source_in view action.Decrypt (alias_of o) blob name) in
+      ap (λ (r : Result (Option Named) Refusal). and_then r (λ o. and_then (blob_name blob) (compared o))) is
+      ∙ ap (λ (o : Option BlobName). and_then (ok_or o refusal.InvalidCiphertext) (compared given)) named
+      ∙ ap (λ (o : Option Refusal). unless o (source_in view action.Decrypt (alias_of given) blob (record { key = row.key; version = version }))) same
+      ∙ ap (λ (o : Option KeyRow). and_then (ok_or o (refusal.AccessDenied view.caller action.Decrypt (arn_of view.facts row.key))) (λ r. Ok (record { row = r; alias = alias_of given; version = version; bytes = blob }))) there
+
+  -- the state of the key, as Decrypt goes by it
+  by_state : (stored : Stored) → row.stored ≡ stored → is_gone view.moment row ≡ false
+      → unfit_one view (record { action = action.Decrypt; key = row }) ≡ exception_of (arn_of view.facts row.key) stored
+  unfolding unfit_one
+  by_state at.Enabled is live = ap (λ (s : Stored). refused_state view row (refusal_of (need_of action.Decrypt) (state_of s view.moment))) is
+  by_state at.Disabled is live = ap (λ (s : Stored). refused_state view row (refusal_of (need_of action.Decrypt) (state_of s view.moment))) is
+  by_state (at.Pending date days) is live =
+      let not_yet : nat_le date view.moment ≡ false = pending_live date (ap (λ (s : Stored). is_state_gone (state_of s view.moment)) (sym is) ∙ live) in
+      ap (λ (s : Stored). refused_state view row (refusal_of (need_of action.Decrypt) (state_of s view.moment))) is
+      ∙ ap (λ (b : Bool). refused_state view row (refusal_of (need_of action.Decrypt) (if b then state.Gone else state.PendingDeletion))) not_yet
+      ∙ ap (λ (s : Stored). Some (refusal.InvalidState (arn_of view.facts row.key) (told_state s))) is
+    where
+      pending_live : (date : ℕ) → is_state_gone (if nat_le date view.moment then state.Gone else state.PendingDeletion) ≡ false → nat_le date view.moment ≡ false
+      pending_live date e = by_test (nat_le date view.moment) e
+        where
+          by_test : (b : Bool) → is_state_gone (if b then state.Gone else state.PendingDeletion) ≡ false → b ≡ false
+          by_test true e = cc
+          by_test false e = refl
+
+  decrypted_is : (d : Decrypt) (given : Option Named) (plaintext : List ℕ) (e : Option Refusal) → key_if_given view d.key_id ≡ Ok given → other_key given row.key ≡ None → named_in d.blob ≡ Some (record { key = row.key; version = version })
+      → version ≤ newest_version row → opened view.facts.root d.blob d.context ≡ Some plaintext → denied view ((decrypts view d).questions (source given d.blob)) ≡ None → dead_token view d.grant_tokens ≡ None
+      → unfit_one view (record { action = action.Decrypt; key = row }) ≡ e → unfit d.algorithm ≡ None → d.recipient ≡ false → d.dry_run ≡ false
+      → (decided_by (outcome view (decrypts view d)) view.places).reply ≡ unless_excepted e (reply.Decrypted plaintext (arn_of view.facts row.key))
+  decrypted_is d given plaintext None is right named old opens_to allowed live state fit no_recipient no_dry_run =
+      let own : (decrypts view d).own (source given d.blob) ≡ Ok plaintext =
+      ap (λ (o : Option Refusal). unless o (unless (unsupported d.recipient Recipient) (opens view.facts (source given d.blob) d.context))) fit
+      ∙ ap (λ (b : Bool). unless (unsupported b Recipient) (opens view.facts (source given d.blob) d.context)) no_recipient
+      ∙ ap (λ (b : Bool). if b then ok_or (opened view.facts.root d.blob d.context) refusal.InvalidCiphertext else Err refusal.InvalidCiphertext) (le-leb version (newest_version row) old)
+      ∙ ap (λ (o : Option (List ℕ)). ok_or o refusal.InvalidCiphertext) opens_to in
+      ap (λ (wanted : Result Outcome Refusal). (decided_by wanted view.places).reply)
+      (goes_through view (decrypts view d) (source given d.blob) plaintext (source_is d.key_id given d.blob is right named) allowed live (ap (λ (o : Option Refusal). or_else o None) state) own refl (ap only_asked no_dry_run))
+  decrypted_is d given plaintext (Some why) is right named old opens_to allowed live state fit no_recipient no_dry_run =
+      ap (λ (wanted : Result Outcome Refusal). (decided_by wanted view.places).reply)
+      (stops_at_state view (decrypts view d) (source given d.blob) why (source_is d.key_id given d.blob is right named) allowed live (ap (λ (o : Option Refusal). or_else o None) state))
+
+decrypt_reply : (facts : RealmFacts) (history : List Entry) (y : Ask) (places : Places) (d : Decrypt) → lacking (length history) y.after ≡ None → y.body ≡ ask.Read (reading.Decrypt d)
+    → reply_to facts history y places ≡ (decided_by (outcome (view_of facts history y places) (decrypts (view_of facts history y places) d)) places).reply
+unfolding decide
+decrypt_reply facts history y places d enough body =
+    ap (λ (first : Option Refusal). (decided_by (unless first (body_outcome facts history y places y.body)) places).reply) enough
+    ∙ ap (λ (b : AskBody). (decided_by (body_outcome facts history y places b) places).reply) body
+
+-- who may decrypt under the key is allowed it
+may_open : (view : View) (d : Decrypt) (row : KeyRow) (alias : Option (List ℕ)) (context : List Pair) → AreIdentityPolicies (callers_policies view.facts.identities view.caller) → d.context ≡ context
+    → MayAsk view (on_key action.Decrypt row (of_context view row.key alias context)) → denied view (on_key action.Decrypt row (of_context view row.key alias d.context) ∷ []) ≡ None
+may_open view d row alias context kinds same may =
+    ap (λ (pairs : List Pair). denied view (on_key action.Decrypt row (of_context view row.key alias pairs) ∷ [])) same
+    ∙ ap (λ (o : Option Refusal). or_else o None) ((one_passes view kinds (on_key action.Decrypt row (of_context view row.key alias context))).1 may)
+
+live_of : (moment : ℕ) (o : Option KeyRow) (row : KeyRow) → unless_gone moment o ≡ Some row → is_gone moment row ≡ false
+live_of moment (Some found) row e = by_test (is_gone moment found) refl e
+  where
+    by_test : (b : Bool) → is_gone moment found ≡ b → (if b then None else Some found) ≡ Some row → is_gone moment row ≡ false
+    by_test true is e = cc
+    by_test false is e = let same : found ≡ row = cc in ap (is_gone moment) (sym same) ∙ is
+live_of moment None row e = cc
+
+pub decrypted_again : SealedIsDecryptedAgain
+decrypted_again facts history more x y places other_places s lawful proper sealed kinds asks =
+    let d : Decrypt = asks.fields in
+    let view : View = view_of facts (history ++ more) y other_places in
+    let laws = laws_of facts (history ++ more) lawful in
+    let is = is_sealed facts history x places s sealed in
+    let later : KeyRow = asks.held in
+    let before = lawful_front facts history more lawful in
+    let versions = sealing_versions facts history is.row before is.there in
+    let size = key_size facts history is.row before is.there in
+    let made = sealed_opens facts is.row s.context s.plaintext places size versions (is.size proper) in
+    let blob_is : d.blob ≡ seals facts is.row s.context s.plaintext places = asks.same_blob ∙ is.blob in
+    let name_is : (name_in s.blob).key ≡ is.row.key = ap (λ (b : List ℕ). (name_in b).key) is.blob ∙ made.key in
+    let found : key_with view.keys (name_in s.blob).key ≡ Some later = there_of view.moment (key_with view.keys (name_in s.blob).key) later asks.is_held in
+    let named_key : later.key ≡ (name_in s.blob).key = found_key view.keys (name_in s.blob).key later found in
+    let id : later.key ≡ is.row.key = named_key ∙ name_is in
+    let held : key_held view later.key ≡ Some later = ap (key_held view) named_key ∙ asks.is_held in
+    let grows : newest_version is.row ≤ newest_version later =
+    versions_grow history more is.row.key is.row later laws.made is.there (ap (key_with view.keys) (sym name_is) ∙ found) id in
+    let named : named_in d.blob ≡ Some (record { key = later.key; version = newest_version is.row }) =
+    ap named_in blob_is ∙ made.named ∙ ap (λ (key : List ℕ). Some (record { key = key; version = newest_version is.row })) (sym id) in
+    let state = by_state view later (newest_version is.row) held later.stored refl (live_of view.moment (key_with view.keys (name_in s.blob).key) later asks.is_held) in
+    let answer = decrypted_is view later (newest_version is.row) held d asks.named s.plaintext (exception_of (arn_of facts later.key) later.stored)
+    asks.is_named (ap (other_key asks.named) named_key ∙ asks.right_key) named grows
+    (ap (λ (b : List ℕ). opened facts.root b d.context) blob_is ∙ ap (opened facts.root (seals facts is.row s.context s.plaintext places)) asks.same_context ∙ made.opens_to)
+    (may_open view d later (alias_of asks.named) s.context kinds asks.same_context asks.may) asks.live_tokens state asks.fit asks.no_recipient asks.no_dry_run in
+    decrypt_reply facts (history ++ more) y other_places d asks.there asks.body
+    ∙ answer
+    ∙ ap (λ (arn : List ℕ). unless_excepted (exception_of arn later.stored) (reply.Decrypted s.plaintext arn)) (ap (arn_of facts) id ∙ sym is.arn)
+
+-- ---- times
+
+record IsInOrder (history : List Entry) : Type 0 where
+  falls_never : IsNonDecreasingBy (λ (e : Entry). e.time) history
+  last : (d : Entry) → 0 < length history → (get_or history (length history - 1) d).time ≡ latest_of history
+
+in_order : (facts : RealmFacts) (history : List Entry) → IsLawful facts history → IsInOrder history
+in_order facts history empty = record { falls_never = λ i j d up within. absurd (omega arith); last = λ d some. absurd (omega arith) }
+in_order facts history (longer {history = before} entry lawful next) =
+    let so_far = in_order facts before lawful in
+    let later = (comes_next facts before entry (laws_of facts before lawful).latest next).later in
+    record {
+      falls_never = IsNonDecreasingBy-push (λ (e : Entry). e.time) before entry so_far.falls_never (λ d some. subst (λ (n : ℕ). n ≤ entry.time) (sym (so_far.last d some)) later);
+      last = λ d some.
+          let at : length (before ++ entry ∷ []) - 1 ≡ length before = omega (arith, length-append before (entry ∷ [])) in
+          ap (λ (n : ℕ). (get_or (before ++ entry ∷ []) n d).time) at
+          ∙ ap (λ (e : Entry). e.time) (get_or_push before entry d (length before) refl) ∙ sym (latest-push before entry);
+    }
+
+pub times_never_fall : TimesNeverFall
+times_never_fall facts history lawful = (in_order facts history lawful).falls_never
+
+-- ---- ids
+
+place_told : (p q : ℕ) → p < 2 ^ 48 → q < 2 ^ 48 → be48 p ≡ be48 q → p ≡ q
+unfolding iv_at
+place_told p q p_fits q_fits same =
+    let iv : iv_at 0 0 p ≡ iv_at 0 0 q = ap (λ (bytes : List ℕ). to_be_bytes w32 0 ++ to_be_bytes w16 0 ++ bytes) same in
+    count_told 0 0 0 0 p q p_fits q_fits iv
+
+pub keys_differ : KeysDiffer
+keys_differ facts p q p_fits q_fits same = place_told p q p_fits q_fits (sym (id_ends facts p) ∙ ap (drop 10) same ∙ id_ends facts q)
+
+pub grants_differ : GrantsDiffer
+grants_differ facts p q p_fits q_fits same = place_told p q p_fits q_fits (sym (grant_ends facts p) ∙ ap (drop 26) same ∙ grant_ends facts q)
+
+pub house_kept_once : HouseIsKeptOnce
+house_kept_once facts history clock entry lawful is = kept_once history clock entry (laws_of facts history lawful).days is

@@ -1,0 +1,304 @@
+-- What a served sealing says: its key, its blob, its initialization vector and where it leaves the pass.
+use Rattle.std.proofs.Common.{◌≡◌, ℕ, ◌+◌, ◌-◌, ◌<◌, ◌≤◌, ◌^◌, ◌&&◌, List, length, Bool, true, false, Option, Some, None, Result, Ok, Err, refl, sym, ap, ◌∙◌, subst, if◌then◌else◌, nat_le, nat_lt, leb-true, arith, length-take, length-drop}
+use Rattle.std.specs.Prelude.{slice_range, ok_or, option_and_then}
+use Rattle.std.proofs.lemmas.Bool.Decides.{nat_tests}
+use Rattle.draw_lines.proofs.DrawFacts.{draw_length}
+use Rattle.enc_context.specs.declared.pairs.Pair.{Pair}
+use Rattle.crypto_ops.specs.Sealed.{opened}
+use Rattle.kms_names.specs.declared.faults.NameFault.{NameFault}
+use Rattle.kms_names.specs.declared.faults.NameFault.TheVariants as fault
+use Rattle.kms_names.specs.declared.references.KeyRef.{KeyRef}
+use Rattle.kms_names.specs.declared.references.KeyRef.TheVariants.{Key, Alias, Elsewhere}
+use Rattle.kms_names.specs.declared.actions.Action.{Action}
+use Rattle.kms_names.specs.declared.actions.Action.TheVariants as action
+use Rattle.kms_json.specs.declared.asks.Ask.{Ask}
+use Rattle.kms_json.specs.declared.asks.AskBody.TheVariants as ask
+use Rattle.kms_json.specs.declared.asks.Reading.{Reading}
+use Rattle.kms_json.specs.declared.asks.Reading.TheVariants as reading
+use Rattle.kms_json.specs.declared.asks.cryptography.ReEncrypt.{ReEncrypt}
+use Rattle.kms_json.specs.declared.replies.Reply.{Reply}
+use Rattle.kms_json.specs.declared.replies.Reply.TheVariants as reply
+use Rattle.kms_json.specs.declared.refusals.Refusal.{Refusal}
+use Rattle.kms_json.specs.declared.refusals.Refusal.TheVariants as refusal
+use Rattle.kms_json.specs.declared.refusals.Missing.TheVariants as missing
+use Rattle.kms_json.specs.Asks.{IsSized, IsSizedReading}
+use Rattle.kms_json.proofs.Sizes.{asked_sized}
+use Rattle.account_steps.specs.declared.facts.RealmFacts.{RealmFacts}
+use Rattle.account_rows.specs.declared.entries.Entry.{Entry}
+use Rattle.key_states.specs.declared.rows.KeyRow.{KeyRow}
+use Rattle.account_crypto.specs.declared.re_encrypt.Turning.{Turning}
+use Rattle.account_steps.specs.declared.places.Uses.{Uses}
+use Rattle.account_steps.specs.declared.places.Places.{Places}
+use Rattle.blob_format.specs.Names.{BlobName, name_in, named_in, has_form}
+use Rattle.account_rows.specs.History.{replay, key_with}
+use Rattle.account_steps.specs.Source.{Source}
+use Rattle.alias_map.specs.declared.rows.AliasRow.{AliasRow}
+use Rattle.alias_map.specs.Aliases.{row_named}
+use Rattle.account_steps.specs.declared.checks.Named.{Named}
+use Rattle.account_steps.specs.View.{View, view_of, unless_gone, key_held, aliased}
+use Rattle.account_rows.specs.Changes.{is_gone}
+use Rattle.account_steps.specs.Steps.{unless, or_else, and_then, unfit, named_by_id, named_by, named_by_alias, key_of_alias, alias_of, key_referred, reference_of, key_of, key_if_given, blob_name, other_key, held_key, source_in, source_of, newest_version, opens, seals, draws, arn_of}
+use Rattle.account_steps.specs.Parts.{Outcome, takes, limited, spent, no_more_draws, no_more_ivs, after}
+use Rattle.account_crypto.specs.Crypto.{one_iv, words_and_iv, encrypts, re_encrypts, generates_data_key, generates_sealed_data_key}
+use Rattle.account_core.specs.Decide.{decide, IsProper}
+use Rattle.account_laws.specs.Laws.{Sealing, HasSealed, encrypted, re_encrypted, data_key, sealed_data_key}
+use Rattle.account_steps.proofs.Openings.{size_of_opened}
+use Rattle.account_rows.proofs.RowFacts.{found_key}
+use Rattle.account_steps.proofs.Passing.{found_of, next_of, ok_of, ok_same, passed}
+use Rattle.account_laws.proofs.Serving.{Serves, serves_of}
+
+-- ---- the keys
+
+-- a key that counts as there is there, and isn't gone
+pub there_of : (moment : ℕ) (o : Option KeyRow) (row : KeyRow) → unless_gone moment o ≡ Some row → o ≡ Some row
+there_of moment (Some found) row e = by_test (is_gone moment found) e
+  where
+    by_test : (b : Bool) → (if b then None else Some found) ≡ Some row → Some found ≡ Some row
+    by_test true e = cc
+    by_test false e = e
+there_of moment None row e = cc
+
+held_there : (view : View) (id : List ℕ) (row : KeyRow) → key_held view id ≡ Some row → key_with view.keys row.key ≡ Some row
+held_there view id row e =
+    let found = there_of view.moment (key_with view.keys id) row e in
+    subst (λ (key : List ℕ). key_with view.keys key ≡ Some row) (sym (found_key view.keys id row found)) found
+
+aliased_there : (view : View) (o : Option AliasRow) (row : KeyRow) → option_and_then (λ (a : AliasRow). key_held view a.key) o ≡ Some row → key_with view.keys row.key ≡ Some row
+aliased_there view (Some a) row e = held_there view a.key row e
+aliased_there view None row e = cc
+
+abbrev IsThere : View → Named → Type 0
+IsThere view named = key_with view.keys named.row.key ≡ Some named.row
+
+-- the key that a text refers to is there
+referred : (view : View) (reference : Result KeyRef NameFault) (named : Named) → key_referred view named_by_id (named_by_alias view) reference ≡ Ok named → IsThere view named
+referred view (Ok (Key id)) named e =
+    let row = found_of (ok_or (key_held view id) (refusal.NotFound missing.Key)) (λ (r : KeyRow). Ok (named_by_id r)) named e in
+    subst (IsThere view) (ok_same (named_by_id row.value) named row.came) (held_there view id row.value (ok_of (key_held view id) (refusal.NotFound missing.Key) row.value row.is))
+referred view (Ok (Alias name)) named e =
+    let row = found_of (key_of_alias view name) (λ (r : KeyRow). Ok (named_by name r)) named e in
+    subst (IsThere view) (ok_same (named_by name row.value) named row.came)
+    (aliased_there view (row_named view.aliases name) row.value (ok_of (aliased view name) (refusal.NotFound missing.Alias) row.value row.is))
+referred view (Ok Elsewhere) named e = cc
+referred view (Err fault.BadArn) named e = cc
+referred view (Err fault.BadAlias) named e = cc
+referred view (Err fault.BadId) named e = cc
+referred view (Err fault.NoMemory) named e = cc
+
+key_there : (view : View) (reference : List ℕ) (named : Named) → key_of view reference ≡ Ok named → IsThere view named
+unfolding key_of
+key_there view reference named e = referred view (reference_of view.facts reference) named e
+
+-- ---- an initialization vector that is left
+
+below_of : (b : Bool) (why : Refusal) → (if b then Some why else None) ≡ None → b ≡ false
+below_of true why e = cc
+below_of false why e = refl
+
+second_of : (first second : Option Refusal) → or_else first second ≡ None → second ≡ None
+second_of (Some why) second e = cc
+second_of None second e = e
+
+few_of : (places : Places) (uses : Uses) → uses.ivs ≡ 1 → spent places uses ≡ None → places.ivs < 2 ^ 48
+few_of places uses one e =
+    let ivs : no_more_ivs places uses.ivs ≡ None = second_of (no_more_draws places uses.words) (no_more_ivs places uses.ivs) e in
+    let first : no_more_ivs places 1 ≡ None = subst (λ (n : ℕ). no_more_ivs places n ≡ None) one ivs in
+    let below : nat_lt (2 ^ 48) (places.ivs + 1) ≡ false = below_of (nat_lt (2 ^ 48) (places.ivs + 1)) _ first in
+    grind (arith, nat_tests, below)
+
+-- ---- the sizes of plaintexts
+
+-- the text has a size that can be sealed
+abbrev pub IsText : List ℕ → Type 0
+IsText text = (1 ≤ length text) × (length text ≤ 4096)
+
+form_of : (b : Bool) (name found : BlobName) → (if b then Some name else None) ≡ Some found → b ≡ true
+form_of true name found e = refl
+form_of false name found e = cc
+
+first_two : (a b c d : Bool) → (a && b && c && d) ≡ true → (a ≡ true) × (b ≡ true)
+first_two true true c d e = (refl, refl)
+first_two true false c d e = cc
+first_two false b c d e = cc
+
+-- a blob has 49 bytes beside its text
+opened_size : (root bytes : List ℕ) (pairs : List Pair) (name : BlobName) (text : List ℕ) → named_in bytes ≡ Some name → opened root bytes pairs ≡ Some text
+    → IsText text
+unfolding opened named_in
+opened_size root bytes pairs name text named e =
+    let form = first_two (nat_le 50 (length bytes)) (nat_le (length bytes) 4145) _ _ (form_of (has_form bytes) (name_in bytes) name named) in
+    let from : 50 ≤ length bytes = leb-true 50 (length bytes) form.0 in
+    let to : length bytes ≤ 4145 = leb-true (length bytes) 4145 form.1 in
+    let size : length text ≡ length (slice_range bytes 33 (length bytes - 16)) = size_of_opened _ _ _ (slice_range bytes 33 (length bytes - 16)) _ text e in
+    (omega (arith, size, length-take {A = ℕ}, length-drop {A = ℕ}), omega (arith, size, length-take {A = ℕ}, length-drop {A = ℕ}))
+
+-- a sealed text that was looked up has the form of a blob, and its bytes are those that were given
+record IsSourceOf (blob : List ℕ) (source : Source) : Type 0 where
+  name : BlobName
+  named : named_in blob ≡ Some name
+  bytes : source.bytes ≡ blob
+
+source_named : (view : View) (op : Action) (reference : Option (List ℕ)) (blob : List ℕ) (source : Source)
+    → source_of view op reference blob ≡ Ok source → IsSourceOf blob source
+source_named view op reference blob source e =
+    let compared : Option Named → BlobName → Result Source Refusal = λ named name. unless (other_key named name.key) (source_in view op (alias_of named) blob name) in
+    let given = found_of (key_if_given view reference) (λ (named : Option Named). and_then (blob_name blob) (compared named)) source e in
+    let name = found_of (blob_name blob) (compared given.value) source given.came in
+    let same = next_of (other_key given.value name.value.key) (source_in view op (alias_of given.value) blob name.value) source name.came in
+    let held = found_of (held_key view op name.value.key) (λ (row : KeyRow). Ok (record { row = row; alias = alias_of given.value; version = name.value.version; bytes = blob })) source same in
+    record {
+      name = name.value;
+      named = ok_of (named_in blob) refusal.InvalidCiphertext name.value name.is;
+      bytes = sym (ap (λ (s : Source). s.bytes) (ok_same (record { row = held.value; alias = alias_of given.value; version = name.value.version; bytes = blob }) source held.came));
+    }
+
+draws_size : (facts : RealmFacts) (size : ℕ) (places : Places) → length (draws facts size places) ≡ size
+unfolding draws
+draws_size facts size places = draw_length _ places.words size
+
+sized_draw : (facts : RealmFacts) (size : ℕ) (places : Places) (text : List ℕ) → text ≡ draws facts size places → (1 ≤ size) × (size ≤ 1024) → IsText text
+sized_draw facts size places text is sized =
+    let size_is : length text ≡ size = ap length is ∙ draws_size facts size places in
+    (omega (arith, sized.0), omega (arith, sized.1))
+
+-- ---- what was sealed, under which key, with which initialization vector
+
+pub record IsSealed (facts : RealmFacts) (history : List Entry) (x : Ask) (places : Places) (s : Sealing) : Type 0 where
+  pub row : KeyRow
+  pub there : key_with (replay history).keys row.key ≡ Some row
+  pub blob : s.blob ≡ seals facts row s.context s.plaintext places
+  pub arn : s.arn ≡ arn_of facts row.key
+  pub few : places.ivs < 2 ^ 48
+  pub number : (decide facts history x places).places.number ≡ places.number
+  pub ivs : (decide facts history x places).places.ivs ≡ places.ivs + 1
+  pub size : IsProper facts x → IsText s.plaintext
+
+opened_is : (b : Bool) (o : Option (List ℕ)) (text plaintext : List ℕ) → (if b then ok_or o refusal.InvalidCiphertext else Err refusal.InvalidCiphertext) ≡ Ok text
+    → o ≡ Some plaintext → plaintext ≡ text
+opened_is true (Some found) text plaintext e is = cc
+opened_is true None text plaintext e is = cc
+opened_is false o text plaintext e is = cc
+
+module _ (facts : RealmFacts) (history : List Entry) (x : Ask) (places : Places) where
+  abbrev view : View
+  view = view_of facts history x places
+
+  -- where a request that is served, and takes one initialization vector, leaves the pass
+  record LeavesOne (uses : Uses) : Type 0 where
+    few : places.ivs < 2 ^ 48
+    number : (decide facts history x places).places.number ≡ places.number
+    ivs : (decide facts history x places).places.ivs ≡ places.ivs + 1
+
+  leaves_one : (body : Reading) (r : Reply) (uses : Uses) (served : Serves facts history x places body r) → uses.ivs ≡ 1 → limited view (takes uses) ≡ None
+      → takes uses ≡ served.out.effect → LeavesOne uses
+  leaves_one body r uses served one left effect =
+      let at : (decide facts history x places).places ≡ after places (takes uses) = served.places_are ∙ sym (ap (after places) effect) in
+      record {
+        few = few_of places uses one left;
+        number = ap (λ (p : Places). p.number) at;
+        ivs = ap (λ (p : Places). p.ivs) at ∙ ap (λ (n : ℕ). places.ivs + n) one;
+      }
+
+  sized : (body : Reading) → x.body ≡ ask.Read body → IsProper facts x → IsSizedReading body
+  sized body is proper = subst IsSized is (asked_sized proper.target proper.text x.body proper.body)
+
+  -- the turning's keys, and what it opens to
+  record HasTurned (r : ReEncrypt) (turning : Turning) : Type 0 where
+    there : IsThere view turning.to
+    source : IsSourceOf r.blob turning.source
+
+  turning_is : (r : ReEncrypt) (turning : Turning) → (re_encrypts view r).found ≡ Ok turning → HasTurned r turning
+  turning_is r turning e =
+      let made : Source → Named → Result Turning Refusal = λ source to. Ok (record { source = source; to = to }) in
+      let source = found_of (source_of view action.ReEncryptFrom r.source_key_id r.blob) (λ (s : Source). and_then (key_of view r.key_id) (made s)) turning e in
+      let to = found_of (key_of view r.key_id) (made source.value) turning source.came in
+      let same : ◌≡◌ {A = Turning} (record { source = source.value; to = to.value }) turning = ok_same (record { source = source.value; to = to.value }) turning to.came in
+      subst (HasTurned r) same (record {
+        there = key_there view r.key_id to.value to.is;
+        source = source_named view action.ReEncryptFrom r.source_key_id r.blob source.value source.is;
+      })
+
+  turned : (r : ReEncrypt) (turning : Turning) (text plaintext : List ℕ) → HasTurned r turning → (re_encrypts view r).own turning ≡ Ok text
+      → opened facts.root r.blob r.source_context ≡ Some plaintext → plaintext ≡ text
+  turned r turning text plaintext turns own opens_to =
+      let second = next_of (unfit r.source_algorithm) (unless (unfit r.algorithm) (opens facts turning.source r.source_context)) text own in
+      let third = next_of (unfit r.algorithm) (opens facts turning.source r.source_context) text second in
+      opened_is (nat_le turning.source.version (newest_version turning.source.row)) (opened facts.root turning.source.bytes r.source_context) text plaintext third
+      (ap (λ (bytes : List ℕ). opened facts.root bytes r.source_context) turns.source.bytes ∙ opens_to)
+
+-- ---- a request that was answered with a sealed text
+
+pub is_sealed : (facts : RealmFacts) (history : List Entry) (x : Ask) (places : Places) (s : Sealing) → HasSealed facts history x places s → IsSealed facts history x places s
+is_sealed facts history x places s (encrypted e blob arn body replied) =
+    let seen = view_of facts history x places in
+    let served = serves_of facts history x places (reading.Encrypt e) (reply.Encrypted blob arn) body (λ why same. cc) replied in
+    let p = passed seen (encrypts seen e) served.out served.is in
+    let came : reply.Encrypted (seals facts p.found.row e.context e.plaintext places) (arn_of facts p.found.row.key) ≡ reply.Encrypted blob arn =
+    ap (λ (o : Outcome). o.reply) p.outcome_is ∙ served.reply_is in
+    let one = leaves_one facts history x places (reading.Encrypt e) (reply.Encrypted blob arn) one_iv served refl p.left (ap (λ (o : Outcome). o.effect) p.outcome_is) in
+    record {
+      row = p.found.row;
+      there = key_there seen e.key_id p.found p.found_is;
+      blob = cc;
+      arn = cc;
+      few = one.few;
+      number = one.number;
+      ivs = one.ivs;
+      size = λ proper. sized facts history x places (reading.Encrypt e) body proper;
+    }
+is_sealed facts history x places s (re_encrypted r blob plaintext arn source_arn body opens_to replied) =
+    let seen = view_of facts history x places in
+    let served = serves_of facts history x places (reading.ReEncrypt r) (reply.ReEncrypted blob arn source_arn) body (λ why same. cc) replied in
+    let p = passed seen (re_encrypts seen r) served.out served.is in
+    let came : reply.ReEncrypted (seals facts p.found.to.row r.context p.ready places) (arn_of facts p.found.to.row.key) (arn_of facts p.found.source.row.key) ≡ reply.ReEncrypted blob arn source_arn =
+    ap (λ (o : Outcome). o.reply) p.outcome_is ∙ served.reply_is in
+    let one = leaves_one facts history x places (reading.ReEncrypt r) (reply.ReEncrypted blob arn source_arn) one_iv served refl p.left (ap (λ (o : Outcome). o.effect) p.outcome_is) in
+    let turns = turning_is facts history x places r p.found p.found_is in
+    let same = turned facts history x places r p.found p.ready plaintext turns p.own_is opens_to in
+    let blob_is : blob ≡ seals facts p.found.to.row r.context p.ready places = cc in
+    record {
+      row = p.found.to.row;
+      there = turns.there;
+      blob = blob_is ∙ ap (λ (t : List ℕ). seals facts p.found.to.row r.context t places) (sym same);
+      arn = cc;
+      few = one.few;
+      number = one.number;
+      ivs = one.ivs;
+      size = λ proper. opened_size facts.root r.blob r.source_context turns.source.name plaintext turns.source.named opens_to;
+    }
+is_sealed facts history x places s (data_key key recipient blob plaintext arn body replied) =
+    let seen = view_of facts history x places in
+    let served = serves_of facts history x places (reading.GenerateDataKey key recipient) (reply.DataKey blob plaintext arn) body (λ why same. cc) replied in
+    let p = passed seen (generates_data_key seen key recipient) served.out served.is in
+    let came : reply.DataKey (seals facts p.found.row key.context (draws facts key.size places) places) (draws facts key.size places) (arn_of facts p.found.row.key) ≡ reply.DataKey blob plaintext arn =
+    ap (λ (o : Outcome). o.reply) p.outcome_is ∙ served.reply_is in
+    let one = leaves_one facts history x places (reading.GenerateDataKey key recipient) (reply.DataKey blob plaintext arn) (words_and_iv key.size) served refl p.left (ap (λ (o : Outcome). o.effect) p.outcome_is) in
+    let blob_is : blob ≡ seals facts p.found.row key.context (draws facts key.size places) places = cc in
+    let drawn : plaintext ≡ draws facts key.size places = cc in
+    record {
+      row = p.found.row;
+      there = key_there seen key.key_id p.found p.found_is;
+      blob = blob_is ∙ ap (λ (t : List ℕ). seals facts p.found.row key.context t places) (sym drawn);
+      arn = cc;
+      few = one.few;
+      number = one.number;
+      ivs = one.ivs;
+      size = λ proper. sized_draw facts key.size places plaintext drawn (sized facts history x places (reading.GenerateDataKey key recipient) body proper);
+    }
+is_sealed facts history x places s (sealed_data_key key blob arn body replied) =
+    let seen = view_of facts history x places in
+    let served = serves_of facts history x places (reading.GenerateDataKeyWithoutPlaintext key) (reply.SealedDataKey blob arn) body (λ why same. cc) replied in
+    let p = passed seen (generates_sealed_data_key seen key) served.out served.is in
+    let came : reply.SealedDataKey (seals facts p.found.row key.context (draws facts key.size places) places) (arn_of facts p.found.row.key) ≡ reply.SealedDataKey blob arn =
+    ap (λ (o : Outcome). o.reply) p.outcome_is ∙ served.reply_is in
+    let one = leaves_one facts history x places (reading.GenerateDataKeyWithoutPlaintext key) (reply.SealedDataKey blob arn) (words_and_iv key.size) served refl p.left (ap (λ (o : Outcome). o.effect) p.outcome_is) in
+    record {
+      row = p.found.row;
+      there = key_there seen key.key_id p.found p.found_is;
+      blob = cc;
+      arn = cc;
+      few = one.few;
+      number = one.number;
+      ivs = one.ivs;
+      size = λ proper. sized_draw facts key.size places (draws facts key.size places) refl (sized facts history x places (reading.GenerateDataKeyWithoutPlaintext key) body proper);
+    }

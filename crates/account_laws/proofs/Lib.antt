@@ -1,0 +1,5 @@
+mod Allowing
+mod Serving
+mod Retiring
+mod LawSealings
+pub mod LawFacts

@@ -1,0 +1,188 @@
+-- Laws of what the account seals.
+use Rattle.std.specs.Prelude.{◌≡◌, ◌≢◌, ◌^◌, ℕ, ◌<◌, List, [], ◌++◌, length, slice_range, Bool, false, Option, Some, None, Ok, All, ◌↔◌, ◌∷◌, IsTrue}
+use Rattle.std.specs.List.Sorted.{IsNonDecreasingBy}
+use Rattle.enc_context.specs.declared.pairs.Pair.{Pair}
+use Rattle.crypto_ops.specs.Sealed.{opened}
+use Rattle.kms_names.specs.declared.actions.Action.TheVariants as action
+use Rattle.kms_names.specs.declared.actions.Action.{Action}
+use Rattle.authority.specs.Setting.{callers_policies}
+use Rattle.authority.specs.Allowed.{AreIdentityPolicies}
+use Rattle.kms_json.specs.declared.refusals.Refusal.{Refusal}
+use Rattle.kms_json.specs.declared.refusals.Refusal.TheVariants as refusal
+use Rattle.kms_json.specs.declared.asks.Ask.{Ask}
+use Rattle.kms_json.specs.declared.asks.AskBody.TheVariants as ask
+use Rattle.kms_json.specs.declared.asks.Reading.TheVariants as reading
+use Rattle.kms_json.specs.declared.asks.cryptography.Encrypt.{Encrypt}
+use Rattle.kms_json.specs.declared.asks.cryptography.Decrypt.{Decrypt}
+use Rattle.kms_json.specs.declared.asks.cryptography.ReEncrypt.{ReEncrypt}
+use Rattle.kms_json.specs.declared.asks.cryptography.DataKey.{DataKey}
+use Rattle.kms_json.specs.declared.replies.Reply.{Reply}
+use Rattle.kms_json.specs.declared.replies.Reply.TheVariants as reply
+use Rattle.kms_json.specs.declared.replies.Reply.TheVariants.{Refused}
+use Rattle.kms_json.specs.declared.states.KeyState.TheVariants as told
+use Rattle.key_states.specs.declared.states.Stored.{Stored}
+use Rattle.key_states.specs.declared.states.Stored.TheVariants as stored
+use Rattle.account_steps.specs.declared.facts.RealmFacts.{RealmFacts}
+use Rattle.account_rows.specs.declared.entries.Entry.{Entry}
+use Rattle.key_states.specs.declared.rows.KeyRow.{KeyRow}
+use Rattle.account_steps.specs.Ids.{key_id_at, grant_id_at}
+use Rattle.account_steps.specs.Places.{IsUpTo}
+use Rattle.account_steps.specs.declared.places.Places.{Places}
+use Rattle.blob_format.specs.Names.{name_in}
+use Rattle.account_rows.specs.declared.entries.What.TheVariants as what
+use Rattle.grant_table.specs.Grants.{grant_with}
+use Rattle.account_rows.specs.History.{replay, housekeeping_of}
+use Rattle.account_steps.specs.View.{View, view_of, key_held}
+use Rattle.account_steps.specs.Steps.{unfit, draws, key_if_given, other_key, alias_of}
+use Rattle.account_steps.specs.declared.checks.Named.{Named}
+use Rattle.authority.specs.Setting.{Particulars}
+use Rattle.account_steps.specs.Authority.{Question, on_key, action_of, resource_of, denied, setting_of, granted, IsGranted, MayAsk}
+use Rattle.account_steps.specs.Authority.{of_context}
+use Rattle.account_steps.specs.Parts.{dead_token}
+use Rattle.account_core.specs.Decide.{lacking, decide, IsProper, IsLawful}
+
+-- a blob, the text that is sealed in it, the context that it is sealed under, and the ARN of the key
+pub record Sealing : Type 0 where
+  pub blob : List ℕ
+  pub plaintext : List ℕ
+  pub context : List Pair
+  pub arn : List ℕ
+
+abbrev pub reply_to : RealmFacts → List Entry → Ask → Places → Reply
+reply_to facts history x places = (decide facts history x places).reply
+
+-- the reply to the request holds this sealed text: that of an Encrypt is what it gives, that of a ReEncrypt what its blob opens
+-- to, and that of a data key what is drawn for it, whether the reply shows it or not
+pub data HasSealed (facts : RealmFacts) (history : List Entry) (x : Ask) (places : Places) : Sealing → Type 0 where
+  encrypted : (e : Encrypt) (blob arn : List ℕ) → x.body ≡ ask.Read (reading.Encrypt e) → reply_to facts history x places ≡ reply.Encrypted blob arn
+      → HasSealed facts history x places (record { blob = blob; plaintext = e.plaintext; context = e.context; arn = arn })
+  re_encrypted : (r : ReEncrypt) (blob plaintext arn source_arn : List ℕ) → x.body ≡ ask.Read (reading.ReEncrypt r)
+      → opened facts.root r.blob r.source_context ≡ Some plaintext → reply_to facts history x places ≡ reply.ReEncrypted blob arn source_arn
+      → HasSealed facts history x places (record { blob = blob; plaintext = plaintext; context = r.context; arn = arn })
+  data_key : (key : DataKey) (recipient : Bool) (blob plaintext arn : List ℕ) → x.body ≡ ask.Read (reading.GenerateDataKey key recipient)
+      → reply_to facts history x places ≡ reply.DataKey blob plaintext arn
+      → HasSealed facts history x places (record { blob = blob; plaintext = plaintext; context = key.context; arn = arn })
+  sealed_data_key : (key : DataKey) (blob arn : List ℕ) → x.body ≡ ask.Read (reading.GenerateDataKeyWithoutPlaintext key)
+      → reply_to facts history x places ≡ reply.SealedDataKey blob arn
+      → HasSealed facts history x places (record { blob = blob; plaintext = draws facts key.size places; context = key.context; arn = arn })
+
+-- the request asks, at a history, what this blob opens to under this context. The blob's key is there, and not gone; the caller
+-- may decrypt under it; any key that the request names, by its id, its ARN or an alias, is the blob's, its grant tokens are those of live grants,
+-- any algorithm is that of symmetric keys, it has no Recipient and no DryRun, and waits for no more entries
+pub record AsksToOpen (facts : RealmFacts) (history : List Entry) (y : Ask) (places : Places) (blob : List ℕ) (context : List Pair) : Type 0 where
+  pub fields : Decrypt
+  pub body : y.body ≡ ask.Read (reading.Decrypt fields)
+  pub same_blob : fields.blob ≡ blob
+  pub same_context : fields.context ≡ context
+  pub named : Option Named
+  pub is_named : key_if_given (view_of facts history y places) fields.key_id ≡ Ok named
+  pub right_key : other_key named (name_in blob).key ≡ None
+  pub held : KeyRow
+  pub is_held : key_held (view_of facts history y places) (name_in blob).key ≡ Some held
+  pub may : MayAsk (view_of facts history y places) (on_key action.Decrypt held (of_context (view_of facts history y places) held.key (alias_of named) context))
+  pub live_tokens : dead_token (view_of facts history y places) fields.grant_tokens ≡ None
+  pub fit : unfit fields.algorithm ≡ None
+  pub no_recipient : fields.recipient ≡ false
+  pub no_dry_run : fields.dry_run ≡ false
+  pub there : lacking (length history) y.after ≡ None
+
+-- the exception of a key that isn't enabled
+abbrev pub exception_of : List ℕ → Stored → Option Refusal
+exception_of arn stored.Enabled = None
+exception_of arn stored.Disabled = Some (refusal.Disabled arn)
+exception_of arn (stored.Pending date days) = Some (refusal.InvalidState arn (told.PendingDeletion date))
+
+abbrev pub unless_excepted : Option Refusal → Reply → Reply
+unless_excepted None reply = reply
+unless_excepted (Some why) reply = Refused why
+
+-- the text that a request sealed is what Decrypt answers for its blob, with the ARN of the same key, at that history and at
+-- every lawful one that goes on from it, whatever rotations stand between, to whoever may decrypt and by whatever pass, where
+-- the key is enabled; where it is disabled, or its deletion is scheduled, the answer is the exception of that state
+abbrev pub SealedIsDecryptedAgain : Type 0
+SealedIsDecryptedAgain =
+    (facts : RealmFacts) (history more : List Entry) (x y : Ask) (places other_places : Places) (sealing : Sealing)
+    → IsLawful facts (history ++ more) → IsProper facts x → HasSealed facts history x places sealing
+    → AreIdentityPolicies (callers_policies facts.identities y.caller) → (asks : AsksToOpen facts (history ++ more) y other_places sealing.blob sealing.context)
+    → reply_to facts (history ++ more) y other_places ≡ unless_excepted (exception_of sealing.arn asks.held.stored) (reply.Decrypted sealing.plaintext sealing.arn)
+
+-- where a pass's requests, each at some history, leave its places: where their decisions say, or for want of memory at most there
+pub data PassGoesOn (facts : RealmFacts) : Places → Places → Type 0 where
+  no_request : (places : Places) → PassGoesOn facts places places
+  one_more : {from to : Places} (history : List Entry) (x : Ask) → PassGoesOn facts from to → PassGoesOn facts from (decide facts history x to).places
+  wants_memory : {from to : Places} (history : List Entry) (x : Ask) (left : Places) → PassGoesOn facts from to → IsUpTo to left (decide facts history x to).places → PassGoesOn facts from left
+
+-- the initialization vector that a blob says
+abbrev pub iv_in : List ℕ → List ℕ
+iv_in blob = slice_range blob 21 33
+
+-- the blobs of two requests of one pass, of which the second comes after the first, have different initialization vectors
+abbrev pub OnePassRepeatsNoIv : Type 0
+OnePassRepeatsNoIv =
+    (facts : RealmFacts) (history later : List Entry) (x y : Ask) (places later_places : Places) (one other : Sealing)
+    → IsLawful facts history → IsLawful facts later
+    → HasSealed facts history x places one → HasSealed facts later y later_places other
+    → PassGoesOn facts (decide facts history x places).places later_places
+    → iv_in one.blob ≢ iv_in other.blob
+
+-- the blobs of requests of passes of different numbers, which are below 2^16, have different initialization vectors
+abbrev pub PassesShareNoIv : Type 0
+PassesShareNoIv =
+    (facts : RealmFacts) (history later : List Entry) (x y : Ask) (places others : Places) (one other : Sealing)
+    → IsLawful facts history → IsLawful facts later
+    → HasSealed facts history x places one → HasSealed facts later y others other
+    → places.number < 2 ^ 16 → others.number < 2 ^ 16 → places.number ≢ others.number
+    → iv_in one.blob ≢ iv_in other.blob
+
+-- along a lawful history times never fall
+abbrev pub TimesNeverFall : Type 0
+TimesNeverFall = (facts : RealmFacts) (history : List Entry) → IsLawful facts history → IsNonDecreasingBy (λ entry. entry.time) history
+
+-- keys that entries at different places make have different ids
+abbrev pub KeysDiffer : Type 0
+KeysDiffer = (facts : RealmFacts) (p q : ℕ) → p < 2 ^ 48 → q < 2 ^ 48 → key_id_at facts p ≡ key_id_at facts q → p ≡ q
+
+-- and grants too
+abbrev pub GrantsDiffer : Type 0
+GrantsDiffer = (facts : RealmFacts) (p q : ℕ) → p < 2 ^ 48 → q < 2 ^ 48 → grant_id_at facts p ≡ grant_id_at facts q → p ≡ q
+
+-- housekeeping that was kept at a clock's answer has nothing more to do at it
+abbrev pub HouseIsKeptOnce : Type 0
+HouseIsKeptOnce =
+    (facts : RealmFacts) (history : List Entry) (clock : ℕ) (entry : Entry) → IsLawful facts history → housekeeping_of history clock ≡ Some entry
+    → housekeeping_of (history ++ entry ∷ []) clock ≡ None
+
+-- a grant that an entry of a lawful history drops stays away: at that history, and at every lawful one that begins with it, no grant has its id
+abbrev pub DroppedGrantsStayAway : Type 0
+DroppedGrantsStayAway =
+    (facts : RealmFacts) (history more : List Entry) (entry : Entry) (grant : List ℕ) → IsLawful facts ((history ++ entry ∷ []) ++ more) → entry.what ≡ what.GrantDrop grant
+    → grant_with (replay ((history ++ entry ∷ []) ++ more)).grants grant ≡ None
+
+-- ---- authority
+
+-- the step of authority passes exactly where every question is allowed: no Deny statement of the key's policy or of the caller's own policies hits,
+-- and a statement of the key's policy allows the caller directly, or allows the root of the account while a statement of the caller's own policies
+-- allows it, or a live grant of the key allows it; a question about no key goes by the caller's own policies alone; a grant is retired by the root, its
+-- retiring principal, and its grantee where RetireGrant is among its operations
+abbrev pub PassesWhereStatementsAllow : Type 0
+PassesWhereStatementsAllow =
+    (view : View) (questions : List Question) → AreIdentityPolicies (setting_of view).policies → (denied view questions ≡ None) ↔ All (MayAsk view) questions
+
+-- the first question that isn't allowed, and those before it
+pub record IsFirstDenied (view : View) (questions : List Question) (q : Question) : Type 0 where
+  pub before : List Question
+  pub behind : List Question
+  pub are : questions ≡ before ++ q ∷ behind
+  pub allowed : All (MayAsk view) before
+  pub denied : ¬ (MayAsk view q)
+
+-- and its refusal names the caller, the first action that isn't allowed, and its resource
+abbrev pub NamesTheFirstDenied : Type 0
+NamesTheFirstDenied =
+    (view : View) (questions : List Question) (why : Refusal) → AreIdentityPolicies (setting_of view).policies → denied view questions ≡ Some why
+    → (q : Question) × IsFirstDenied view questions q × (why ≡ refusal.AccessDenied view.caller (action_of q) (resource_of view q))
+
+-- and a grant allows what some grant of the key, with the caller as its grantee, permits: the operation is among its own and its constraint holds of the
+-- encryption context, or for CreateGrant the new grant has no further operation and a constraint as strict
+abbrev pub GrantsPermit : Type 0
+GrantsPermit = (view : View) (action : Action) (key : List ℕ) (said : Particulars) → IsTrue (granted view action key said) ↔ IsGranted view action key said

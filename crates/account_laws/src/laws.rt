@@ -1,0 +1,82 @@
+//! Laws of what the account answers. Each stands as the contract of a function that does nothing.
+
+ghost use Rattle.account_laws.specs.Laws.{SealedIsDecryptedAgain, OnePassRepeatsNoIv, PassesShareNoIv, TimesNeverFall, HouseIsKeptOnce, KeysDiffer, GrantsDiffer, PassesWhereStatementsAllow, NamesTheFirstDenied, GrantsPermit, DroppedGrantsStayAway};
+ghost use Rattle.account_steps.specs.View.{View};
+ghost use Rattle.account_lists.specs.Lists.{PartsOfListsMakeTheWhole};
+
+/// What Encrypt, ReEncrypt or a data key call answered as sealed under a context, Decrypt opens to the
+/// text that was sealed, at that history and at every lawful one that goes on from it, where the key is
+/// there and enabled, whatever rotations stand between: under an equal context, for any pass and any
+/// caller whom statements allow it, where the key is left out or is the blob's, the algorithm is left out
+/// or that of symmetric keys, and the request has no Recipient and no DryRun, and waits for no entry that
+/// isn't there. The reply names the key that sealed the text. Where the key is disabled, or its deletion
+/// is scheduled, the reply is the exception of that state.
+pub fn sealed_is_decrypted_again()
+    ensures { SealedIsDecryptedAgain }
+{}
+
+/// The blobs that one pass seals have initialization vectors of their own: a blob's differs from those
+/// of all that the pass seals later, at whatever lawful histories, keys and contexts.
+pub fn one_pass_repeats_no_iv()
+    ensures { OnePassRepeatsNoIv }
+{}
+
+/// The blobs that passes of different numbers seal, each below 2^16, have initialization vectors of their own.
+pub fn passes_share_no_iv()
+    ensures { PassesShareNoIv }
+{}
+
+/// Along a lawful history times never fall, whatever the clock answers.
+pub fn times_never_fall()
+    ensures { TimesNeverFall }
+{}
+
+/// After housekeeping at a clock's answer there is nothing more to do at it.
+pub fn house_is_kept_once()
+    ensures { HouseIsKeptOnce }
+{}
+
+/// Keys that are made at different places of a history have different ids. A place is below 2^48.
+pub fn keys_differ()
+    ensures { KeysDiffer }
+{}
+
+/// Grants that are made at different places of a history have different ids. A place is below 2^48.
+pub fn grants_differ()
+    ensures { GrantsDiffer }
+{}
+
+/// Authority passes exactly where for each thing that the request asks no Deny statement of the key's
+/// policy or of the caller's own policies hits, and a statement of the key's policy allows the caller
+/// directly, or allows the root of the account while a statement of the caller's own policies allows it,
+/// or a grant of the key permits it; what is about no key goes by the caller's own policies alone. The
+/// root is allowed everything that no key's policy is asked about. A grant is retired by the root, by its
+/// retiring principal, and by its grantee where RetireGrant is among its operations.
+pub fn authority_passes_where_statements_allow()
+    ensures { PassesWhereStatementsAllow }
+{}
+
+/// A denial names the caller and the first thing that the request asks and isn't allowed: the action and
+/// its resource.
+pub fn denial_names_the_first_denied()
+    ensures { NamesTheFirstDenied }
+{}
+
+/// A grant of the key permits what the law of authority says where the caller is its grantee, the
+/// operation is among its own, and its constraint holds of the encryption context. DescribeKey asks no
+/// constraint; CreateGrant asks that the new grant has no further operation, and a constraint as strict.
+pub fn grants_permit()
+    ensures { GrantsPermit }
+{}
+
+/// A grant that was retired or revoked stays away: at every lawful history that goes on from its
+/// entry no grant has its id.
+pub fn dropped_grants_stay_away()
+    ensures { DroppedGrantsStayAway }
+{}
+
+/// The parts of a list, each behind the marker of the one before it, are the list's rows in order of
+/// making, each once.
+pub fn parts_make_the_whole()
+    ensures { (view : View) → PartsOfListsMakeTheWhole view }
+{}

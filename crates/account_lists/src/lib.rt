@@ -1,0 +1,10 @@
+//! The operations that list: what each says of the steps of a decision, and the parts in which a list is shown.
+//!
+//! Each is an `Operation` of `account_steps`, whose `Parts` are a function of plain values.
+#![tactic(auto)]
+
+mod listings;
+mod lists;
+mod pages;
+
+pub use lists::{AccountList, KeyList, ListingAccount, ListingKey};

@@ -1,5 +1,0 @@
-use Rattle.kms_session.proofs.OneCut.{one_cut_lem}
-use Rattle.kms_session.proofs.laws.one_cut.Goals as goal
-
-pub returns : goal.returns
-returns c = λ stream closes other items others rest last h k e. one_cut_lem h k e

@@ -1,5 +1,0 @@
-use Rattle.kms_session.proofs.LawfulRuns.{no_iv_again}
-use Rattle.kms_session.proofs.laws.one_session_repeats_no_iv.Goals as goal
-
-pub returns : goal.returns
-returns c = no_iv_again

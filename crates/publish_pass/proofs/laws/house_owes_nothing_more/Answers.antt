@@ -1,5 +1,0 @@
-use Rattle.publish_pass.proofs.Rests.{rests}
-use Rattle.publish_pass.proofs.laws.house_owes_nothing_more.Goals as goal
-
-pub returns : goal.returns
-returns c = rests c.house_is_kept_once.ensures

@@ -1,0 +1,4 @@
+mod OneCut
+mod OneEnd
+mod LawfulRuns
+mod GrowingRuns

@@ -1,0 +1,174 @@
+-- No two ends hold of one session.
+use Rattle.std.proofs.Common.{◌≡◌, ◌+◌, ◌<◌, ◌⊎◌, inl, inr, ℕ, List, [], ◌∷◌, ◌++◌, length, Bool, true, false, Some, zero, suc, refl, sym, ap, subst, ◌∙◌, length-append, arith}
+use Rattle.std.proofs.Common.{ap₂}
+use Rattle.httparse.specs.Grammar.{NeverHasRequest}
+use Rattle.http_front.specs.declared.judge.HttpFault.{HttpFault}
+use Rattle.http_front.specs.Message.{Message, IsOpen, IsRefused, IsCrowded}
+use Rattle.http_front.specs.Laws.{HasMessage}
+use Rattle.http_front.proofs.Bytes.{same_front}
+use Rattle.http_front.proofs.Answering.{same_message, one_answer_lem, empty_awaited, empty_decided}
+use Rattle.kms_io.specs.Wire.{with_more}
+use Rattle.kms_session.specs.declared.trust.Trust.{Trust}
+use Rattle.kms_session.specs.Run.{Item, whole, fault, Cuts, nothing, message, no_message, closes_at}
+use Rattle.kms_session.specs.Session.{Outside, EndsBetween, EndsClosed, EndsInside}
+use Rattle.session_laws.specs.Laws.{TellsTaken, OneEnd}
+use Rattle.session_laws.proofs.OneCut.{one_cut_open, not_both}
+
+-- bytes that are open and go on all the same
+abbrev IsUndecided : List ℕ → Type 0
+IsUndecided rest = NeverHasRequest rest ⊎ IsCrowded rest
+
+-- what stands in a cut before an item of it: a message, or at the end of a cut that closes a fault
+abbrev GoesOnFrom : Bool → List ℕ → Type 0
+GoesOnFrom closes rest = HasMessage rest ⊎ ((closes ≡ true) × ((why : HttpFault) × IsRefused rest why))
+
+stuck : (closes : Bool) (rest : List ℕ) → IsOpen rest → GoesOnFrom closes rest → IsUndecided rest
+stuck closes rest o (inl h) = absurd ((one_answer_lem rest).not_message_and_open h o)
+stuck closes rest o (inr h) = (one_answer_lem rest).open_and_refused h.1.0 o h.1.1
+
+stuck_open : (rest : List ℕ) → IsOpen rest → GoesOnFrom false rest → ⊥
+stuck_open rest o (inl h) = (one_answer_lem rest).not_message_and_open h o
+stuck_open rest o (inr h) = let bad : false ≡ true = h.0 in cc
+
+-- no bytes are open
+nothing_open : IsOpen []
+nothing_open = (1, empty_awaited)
+
+record Before (stream : List ℕ) (closes : Bool) (n : ℕ) : Type 0 where
+  items : List Item
+  rest : List ℕ
+  cuts : Cuts stream false items rest
+  number : length items ≡ n
+  next : GoesOnFrom closes rest
+
+goes_anyhow : (closes : Bool) (rest : List ℕ) → GoesOnFrom false rest → GoesOnFrom closes rest
+goes_anyhow closes rest (inl h) = inl h
+goes_anyhow closes rest (inr h) = let bad : false ≡ true = h.0 in cc
+
+before_anyhow : {stream : List ℕ} {n : ℕ} (closes : Bool) → Before stream false n → Before stream closes n
+before_anyhow closes b = record { items = b.items; rest = b.rest; cuts = b.cuts; number = b.number; next = goes_anyhow closes b.rest b.next }
+
+compared : (a b : ℕ) → (a < b) ⊎ ((a ≡ b) ⊎ (b < a))
+compared zero zero = inr (inl refl)
+compared zero (suc b) = inl (omega arith)
+compared (suc a) zero = inr (inr (omega arith))
+compared (suc a) (suc b) = elim (compared a b) as (λ _. (suc a < suc b) ⊎ ((suc a ≡ suc b) ⊎ (suc b < suc a))) [
+  | inl l ↦ inl (omega (arith, l))
+  | inr h ↦ elim h as (λ _. (suc a < suc b) ⊎ ((suc a ≡ suc b) ⊎ (suc b < suc a))) [ inl e ↦ inr (inl (ap suc e)) | inr g ↦ inr (inr (omega (arith, g))) ]
+]
+
+split : (a b : ℕ) → b < a + 1 → (b ≡ a) ⊎ (b < a)
+split a b h = elim (compared b a) as (λ _. (b ≡ a) ⊎ (b < a)) [
+  | inl l ↦ inr l
+  | inr k ↦ elim k as (λ _. (b ≡ a) ⊎ (b < a)) [ inl e ↦ inl e | inr g ↦ absurd (omega (arith, h, g)) ]
+]
+
+before_open : {stream rest : List ℕ} {items : List Item} → Cuts stream false items rest → (n : ℕ) → n < length items → Before stream false n
+before_open nothing n h = absurd (omega (arith, h))
+before_open {stream = stream} (message {items} {rest} {text} {more} {m} cuts e is cl) n h =
+    let near : n < length items + 1 = subst (λ (k : ℕ). n < k) (length-append items (whole m ∷ [])) h in
+    elim (split (length items) n near) as (λ _. Before stream false n) [
+      | inl same ↦ record { items = items; rest = rest; cuts = cuts; number = sym same; next = inl (m, text, more, is, e) }
+      | inr less ↦ before_open cuts n less
+    ]
+
+before : {stream rest : List ℕ} {closes : Bool} {items : List Item} → Cuts stream closes items rest → (n : ℕ) → n < length items → Before stream closes n
+before nothing n h = absurd (omega (arith, h))
+before {stream = stream} {closes = closes} (message {items} {rest} {text} {more} {m} cuts e is cl) n h =
+    let near : n < length items + 1 = subst (λ (k : ℕ). n < k) (length-append items (whole m ∷ [])) h in
+    elim (split (length items) n near) as (λ _. Before stream closes n) [
+      | inl same ↦ record { items = items; rest = rest; cuts = cuts; number = sym same; next = inl (m, text, more, is, e) }
+      | inr less ↦ before_anyhow closes (before_open cuts n less)
+    ]
+before {stream = stream} (no_message {items} {rest} why cuts refused) n h =
+    let near : n < length items + 1 = subst (λ (k : ℕ). n < k) (length-append items (fault why ∷ [])) h in
+    elim (split (length items) n near) as (λ _. Before stream true n) [
+      | inl same ↦ record { items = items; rest = rest; cuts = cuts; number = sym same; next = inr (refl, (why, refused)) }
+      | inr less ↦ before_anyhow true (before_open cuts n less)
+    ]
+
+-- two cuts into as many items close alike
+one_close : {stream rest last : List ℕ} {closes other : Bool} {items others : List Item} → Cuts stream closes items rest → Cuts stream other others last → length items ≡ length others → closes ≡ other
+one_close nothing nothing h = refl
+one_close nothing (message {items} c s is cl) h = absurd (omega (arith, simp length-append at h))
+one_close nothing (no_message {items} why c n) h = absurd (omega (arith, simp length-append at h))
+one_close (message {items} c s is cl) nothing h = absurd (omega (arith, simp length-append at h))
+one_close (no_message {items} why c n) nothing h = absurd (omega (arith, simp length-append at h))
+one_close (message {items} {rest} {text} {more} {m} c s is cl) (message {items = items'} {rest = rest'} {text = text'} {more = more'} {m = m'} c' s' is' cl') h =
+    let same : length items ≡ length items' = omega (arith, simp length-append at h) in
+    let both = one_cut_open c c' same in
+    let messages : m ≡ m' = (same_message m m' text text' more more' is is' (sym s ∙ both.1 ∙ s')).0 in
+    cl ∙ ap₂ (λ (n : ℕ) (m : Message). closes_at n (whole m)) same messages ∙ sym cl'
+one_close (message {items} {more = more} c s is cl) (no_message {items = items'} why' c' n') h =
+    let both = one_cut_open c c' (omega (arith, simp length-append at h)) in
+    absurd (not_both more is s (sym both.1) n')
+one_close (no_message {items} why c n) (message {items = items'} {more = more'} c' s' is' cl') h =
+    let both = one_cut_open c c' (omega (arith, simp length-append at h)) in
+    absurd (not_both more' is' s' both.1 n)
+one_close (no_message {items} why c n) (no_message {items = items'} why' c' n') h = refl
+
+-- where a cut is open no other goes on from there without closing
+no_longer_cut : {stream rest last : List ℕ} {items others : List Item} → Cuts stream false items rest → Cuts stream false others last → IsOpen last → length others < length items → ⊥
+no_longer_cut {last = last} {others = others} c d o h =
+    let b = before_open c (length others) h in
+    let same = one_cut_open b.cuts d b.number in
+    stuck_open last o (subst (GoesOnFrom false) same.1 b.next)
+
+-- a cut that closes and one that is open are of one stream only where the open rest may be refused too
+closed_or_open : {stream rest last : List ℕ} {items others : List Item} → Cuts stream true items rest → Cuts stream false others last → IsOpen last → IsUndecided last
+closed_or_open {last = last} {items = items} {others = others} c d o =
+    elim (compared (length others) (length items)) as (λ _. IsUndecided last) [
+      | inl less ↦
+          let b = before c (length others) less in
+          let same = one_cut_open b.cuts d b.number in
+          stuck true last o (subst (GoesOnFrom true) same.1 b.next)
+      | inr k ↦ elim k as (λ _. IsUndecided last) [
+        | inl same ↦ let bad : true ≡ false = one_close c d (sym same) in cc
+        | inr more ↦ let b = before_open d (length items) more in let bad : true ≡ false = one_close c b.cuts (sym b.number) in cc
+      ]
+    ]
+
+-- two open cuts leave the same rest
+one_rest : {stream rest last : List ℕ} {items others : List Item} → Cuts stream false items rest → Cuts stream false others last → IsOpen rest → IsOpen last → rest ≡ last
+one_rest {rest = rest} {last = last} {items = items} {others = others} c d s t =
+    elim (compared (length items) (length others)) as (λ _. rest ≡ last) [
+      | inl less ↦ absurd (no_longer_cut d c s less)
+      | inr k ↦ elim k as (λ _. rest ≡ last) [
+        | inl same ↦ (one_cut_open c d same).1
+        | inr more ↦ absurd (no_longer_cut c d t more)
+      ]
+    ]
+
+-- the bytes that came are those that are told
+one_input : (old new : Outside) (a b : List ℕ) → TellsTaken old new → new.wire.taken ≡ with_more old.wire.taken a → new.wire.taken ≡ with_more old.wire.taken b → a ≡ b
+one_input old new a b told h k =
+    let first : Some told.after ≡ with_more (Some told.before) a = sym told.tells_after ∙ h ∙ ap (λ all. with_more all a) told.tells_before in
+    let second : Some told.after ≡ with_more (Some told.before) b = sym told.tells_after ∙ k ∙ ap (λ all. with_more all b) told.tells_before in
+    let joined : Some (told.before ++ a) ≡ Some (told.before ++ b) = sym first ∙ second in
+    let same : told.before ++ a ≡ told.before ++ b = cc in
+    same_front told.before a b same
+
+module _ (trust : Trust) (old new : Outside) (told : TellsTaken old new) where
+  ended_and_closed : EndsBetween trust old new → EndsClosed trust old new → ⊥
+  ended_and_closed e k =
+      let same = one_input old new e.serves.input k.serves.input told e.serves.taken k.serves.taken in
+      empty_decided (closed_or_open k.serves.cuts (subst (λ (input : List ℕ). Cuts input false e.serves.items []) same e.serves.cuts) nothing_open)
+
+  ended_and_cut_off : EndsBetween trust old new → EndsInside trust old new → ⊥
+  ended_and_cut_off e k =
+      let same = one_input old new e.serves.input k.serves.input told e.serves.taken k.serves.taken in
+      let rests : [] ≡ k.rest = one_rest (subst (λ (input : List ℕ). Cuts input false e.serves.items []) same e.serves.cuts) k.serves.cuts nothing_open k.awaits in
+      let size : 0 ≡ length k.rest = ap length rests in
+      omega (arith, k.some, size)
+
+  cut_off_and_closed_lem : (e : EndsInside trust old new) → EndsClosed trust old new → NeverHasRequest e.rest ⊎ IsCrowded e.rest
+  cut_off_and_closed_lem e k =
+      let same = one_input old new e.serves.input k.serves.input told e.serves.taken k.serves.taken in
+      closed_or_open k.serves.cuts (subst (λ (input : List ℕ). Cuts input false e.serves.items e.rest) same e.serves.cuts) e.awaits
+
+pub one_end_lem : OneEnd
+one_end_lem trust old new told = record {
+  not_ended_and_closed = ended_and_closed trust old new told;
+  not_ended_and_cut_off = ended_and_cut_off trust old new told;
+  cut_off_and_closed = cut_off_and_closed_lem trust old new told;
+}

@@ -1,0 +1,5 @@
+use Rattle.session_laws.proofs.LawfulRuns.{keeps_lawful}
+use Rattle.session_laws.proofs.laws.runs_keep_lawful.Goals as goal
+
+pub returns : goal.returns
+returns c = keeps_lawful

@@ -1,0 +1,35 @@
+// What follows from the definitions alone.
+ghost use Rattle.session_laws.specs.Laws.{OneCut, OneEnd, RunsKeepLawful, TurnsGoOn, RunsGoOn, OneSessionRepeatsNoIv};
+
+/// A stream is cut into messages in one way: two cuts into as many items have the same items and the
+/// same rest.
+pub fn one_cut()
+    ensures { OneCut }
+{}
+
+/// Of the ends Ended, Closed and CutOff no two can hold of one session whose link tells the bytes
+/// taken. So each of them comes exactly by its cause wherever no read or write failed and memory did
+/// not lack.
+pub fn one_end()
+    ensures { OneEnd }
+{}
+
+/// A run of turns keeps the facts and a lawful history lawful. So the laws of lawful histories hold of
+/// whatever history a session leaves.
+pub fn runs_keep_lawful()
+    ensures { RunsKeepLawful }
+{}
+
+/// A turn and a run of turns only add to what the pass has seen. So the numbers of entries that the replies
+/// of a session name never fall, and what stood in the history when a reply was given stands in it at every
+/// later one.
+pub fn histories_only_grow()
+    ensures turns { TurnsGoOn }
+    ensures runs { RunsGoOn }
+{}
+
+/// The texts that one session seals have initialization vectors of their own, whatever turns, also those
+/// that want memory, stand between two of them.
+pub fn one_session_repeats_no_iv()
+    ensures { OneSessionRepeatsNoIv }
+{}

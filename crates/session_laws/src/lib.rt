@@ -1,0 +1,8 @@
+//! Laws of sessions: what follows from their definitions alone, each the contract of a function that does nothing.
+#![tactic(auto)]
+
+mod laws;
+
+pub use laws::{
+    histories_only_grow, one_cut, one_end, one_session_repeats_no_iv, runs_keep_lawful,
+};
