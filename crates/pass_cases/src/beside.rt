@@ -1,9 +1,9 @@
 // A read beside a change that is held at the desk.
 ghost use Rattle.std.specs.Prelude.{◌≡◌};
 
-use crate::requests::{Failure, Host, LOOK, MAKE, answer};
+use crate::requests::{Failure, Host, LOOK, MAKE, front};
 use kms_io::{Gate, NoGate, Point};
-use publish_pass::{Answered, Pass, Realm};
+use publish_pass::{Pass, Realm};
 use std::rt;
 use std::sync::Wait;
 use std::sync::atomic::{AtomicU64, Ordering};
@@ -44,13 +44,13 @@ fn look_beside<R: Realm, W: Wait>(
     host: &Host<'_, W, R>,
     pass: &mut Pass<R>,
     word: &AtomicU64,
-) -> Result<Answered, Failure>
+) -> Result<u64, Failure>
     requires { host.now.facts.now ≡ R.facts }
 {
     await_change(host.rt, word, 0);
-    let answered = answer(host, pass, &LOOK, &NoGate);
+    let front = front(host, pass, &LOOK, &NoGate);
     word.store(GO_ON, Ordering::SeqCst);
-    answered
+    front
 }
 
 // Makes a key, held at the desk. Where it doesn't come there, the other isn't kept waiting.
@@ -58,11 +58,11 @@ fn make_held<R: Realm, W: Wait>(
     host: &Host<'_, W, R>,
     pass: &mut Pass<R>,
     word: &AtomicU64,
-) -> Result<Answered, Failure>
+) -> Result<u64, Failure>
     requires { host.now.facts.now ≡ R.facts }
 {
     let hold = Hold { rt: host.rt, word };
-    let made = answer(host, pass, &MAKE, &hold);
+    let made = front(host, pass, &MAKE, &hold);
     if word.load(Ordering::SeqCst) == 0 {
         word.store(AT_DESK, Ordering::SeqCst);
     }
@@ -77,14 +77,14 @@ pub fn beside<R: Realm + Send + Sync, W: rt::Runtime + Threads + Wait + Sync>(
 ) -> Result<(), Failure>
     requires { host.now.facts.now ≡ R.facts }
 {
-    let before = answer(host, one, &MAKE, &NoGate)?.front;
+    let before = front(host, one, &MAKE, &NoGate)?;
     let word = AtomicU64::new(0);
     let (made, looked) = join(
         host.rt,
         || make_held(host, one, &word),
         || look_beside(host, two, &word),
     );
-    let (made, looked) = (made?.front, looked?.front);
+    let (made, looked) = (made?, looked?);
     println!(host.rt;
         "2 beside: at {before} entries a change is held, a read is answered at {looked}, and the change at {made}"
     )?;

@@ -2,10 +2,10 @@
 ghost use Rattle.std.specs.Prelude.{◌≡◌};
 
 use crate::beside::await_change;
-use crate::requests::{Caller, Failure, Host, MAKE, Request, answer};
+use crate::requests::{Caller, Failure, Host, MAKE, Request, front};
 use kms_io::NoGate;
 use kms_names::NoMemory;
-use publish_pass::{Answered, Pass, Realm};
+use publish_pass::{Pass, Realm};
 use std::alloc::Global;
 use std::rt;
 use std::sync::Wait;
@@ -63,13 +63,13 @@ fn read_long<R: Realm, W: Wait>(
     pass: &mut Pass<R>,
     request: &Request<'_>,
     word: &AtomicU64,
-) -> Result<Answered, Failure>
+) -> Result<u64, Failure>
     requires { host.now.facts.now ≡ R.facts }
 {
     word.store(READS, Ordering::SeqCst);
-    let answered = answer(host, pass, request, &NoGate);
+    let front = front(host, pass, request, &NoGate);
     word.store(HAS_READ, Ordering::SeqCst);
-    answered
+    front
 }
 
 // Makes two keys once the read has begun, and answers whether it had not ended when the first of them was published.
@@ -81,9 +81,9 @@ fn make_two<R: Realm, W: Wait>(
     requires { host.now.facts.now ≡ R.facts }
 {
     await_change(host.rt, word, 0);
-    answer(host, pass, &MAKE, &NoGate)?;
+    front(host, pass, &MAKE, &NoGate)?;
     let reads = word.load(Ordering::SeqCst) == READS;
-    answer(host, pass, &MAKE, &NoGate)?;
+    front(host, pass, &MAKE, &NoGate)?;
     Ok(reads)
 }
 
@@ -104,7 +104,7 @@ fn is_shown<R: Realm + Send + Sync, W: rt::Runtime + Threads + Wait + Sync>(
         || read_long(host, two, request, &word),
         || make_two(host, one, &word),
     );
-    Ok(reads? && read?.front == before)
+    Ok(reads? && read? == before)
 }
 
 /// A pass makes two keys while another reads.
@@ -122,7 +122,7 @@ pub fn inside<R: Realm + Send + Sync, W: rt::Runtime + Threads + Wait + Sync>(
         body: &policy,
         after: None,
     };
-    answer(host, one, &put, &NoGate)?;
+    front(host, one, &put, &NoGate)?;
     let sealing = sealing(host.alloc)?;
     let seal = Request {
         operation: "Encrypt",

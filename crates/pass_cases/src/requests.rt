@@ -80,17 +80,17 @@ fn ask(alloc: Global, facts: &RealmFacts, request: &Request<'_>) -> Result<Ask, 
 }
 
 /// Why a scene can't be shown.
-#[derive(Drop)]
+#[derive(Clone, Copy)]
 pub enum Failure {
     /// Memory lacked, or a line could not be written.
-    Host(io::Error),
+    Host(io::ErrorKind),
     /// A request asks nothing, or a reply has not its form.
     Unlike,
 }
 
 impl From<NoMemory> for Failure {
     fn from(_e: NoMemory) -> Failure {
-        Failure::Host(io::Error::from(io::ErrorKind::OutOfMemory))
+        Failure::Host(io::ErrorKind::OutOfMemory)
     }
 }
 
@@ -102,7 +102,7 @@ impl From<AllocError> for Failure {
 
 impl From<io::Error> for Failure {
     fn from(e: io::Error) -> Failure {
-        Failure::Host(e)
+        Failure::Host(e.kind())
     }
 }
 
@@ -187,4 +187,17 @@ pub fn answer<R: Realm, W: Wait, G: Gate>(
     let ask = ask(host.alloc, host.facts, request)?;
     let answered = answer_owned(host, pass, ask, gate)?;
     Ok(answered)
+}
+
+/// The number of entries at which it answers.
+pub fn front<R: Realm, W: Wait, G: Gate>(
+    host: &Host<'_, W, R>,
+    pass: &mut Pass<R>,
+    request: &Request<'_>,
+    gate: &G,
+) -> Result<u64, Failure>
+    requires { host.now.facts.now ≡ R.facts }
+{
+    let answered = answer(host, pass, request, gate)?;
+    Ok(answered.front)
 }

@@ -15,23 +15,23 @@ use std::thread::Threads;
 use std::{io, rt};
 
 /// Why a scene can't be shown.
-#[derive(Drop)]
+#[derive(Clone, Copy)]
 pub enum Failure {
     /// Memory lacked, or a line could not be written.
-    Host(io::Error),
+    Host(io::ErrorKind),
     /// A worker waited for too long, or a reply has not its form.
     Unlike,
 }
 
 impl From<NoMemory> for Failure {
     fn from(_e: NoMemory) -> Failure {
-        Failure::Host(io::Error::from(io::ErrorKind::OutOfMemory))
+        Failure::Host(io::ErrorKind::OutOfMemory)
     }
 }
 
 impl From<io::Error> for Failure {
     fn from(e: io::Error) -> Failure {
-        Failure::Host(e)
+        Failure::Host(e.kind())
     }
 }
 
