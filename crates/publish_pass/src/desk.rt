@@ -134,8 +134,8 @@ impl<R: Realm> Desk<R> {
         }
     }
 
-    // Publishes the next account, whose last entry the pass makes, once there is room for the entry's place. Where it answers want of memory nothing is
-    // published; that doesn't come, since the desk alone makes the history longer.
+    // Publishes the next account, whose last entry the pass makes. Where there is no room for the entry's place it answers want of
+    // memory, and nothing is published. So too where the log is longer or full; that doesn't come, since the desk alone makes it longer.
     fn publish<W: Wait>(
         &mut self,
         rt: &W,
