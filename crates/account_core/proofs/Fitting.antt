@@ -14,22 +14,23 @@ use Rattle.key_states.specs.declared.rows.KeyRow.{KeyRow}
 use Rattle.account_rows.specs.declared.entries.Entry.{Entry}
 use Rattle.account_rows.specs.declared.entries.What.{What}
 use Rattle.account_rows.specs.declared.entries.What.TheVariants as what
-use Rattle.account_rows.specs.Changes.{wants_house, keys_after}
-use Rattle.account_rows.specs.History.{replay, latest_of, moment_of, most_entries, most_bytes, has_room, housekeeping_of, key_with, place_in, place_in_grant, IsMadeHere, IsFitting, IsRowOf, IsGrantOf, AreRows}
+use Rattle.account_rows.specs.Changes.{wants_house}
+use Rattle.account_rows.specs.History.{replay, latest_of, moment_of, most_entries, most_bytes, has_room, housekeeping_of, place_in, place_in_grant, IsMadeHere, IsFitting, IsGrantOf, AreRows}
 use Rattle.account_rows.specs.Sizes.{size_of, bytes_in}
-use Rattle.account_rows.proofs.RowFacts.{rows_after, no_rows, replay-push, latest-push, length-push, IsNew, Follows, all_after}
+use Rattle.account_rows.proofs.RowFacts.{rows_after, no_rows, replay-push, latest-push, length-push, IsNew, all_after}
 use Rattle.account_rows.proofs.GrantFacts.{grants_rise, grants-push}
 use Rattle.grant_table.specs.declared.rows.GrantRow.{GrantRow}
 use Rattle.account_rows.proofs.VersionFacts.{AreMadeFrom, made_push}
-use Rattle.account_rows.proofs.HouseFacts.{GivesDays, RowsHaveDays, days_after_entry, kept_once}
+use Rattle.account_rows.proofs.HouseFacts.{GivesDays, RowsHaveDays, days_after_entry}
 use Rattle.account_steps.specs.declared.facts.RealmFacts.{RealmFacts}
 use Rattle.account_steps.specs.Ids.{key_id_at, grant_id_at, be32, be48}
 use Rattle.account_steps.specs.Places.{no_places}
 use Rattle.account_steps.specs.Steps.{or_else}
-use Rattle.account_steps.specs.View.{View, view_of}
-use Rattle.account_steps.specs.Parts.{overfull, full, entries_full, bytes_full}
+use Rattle.account_steps.specs.View.{view_of}
+use Rattle.account_steps.specs.Parts.{full, entries_full, bytes_full}
 use Rattle.account_core.specs.Decide.{IsNext, appended, kept, IsLawful, empty, longer}
-use Rattle.account_core.proofs.EntryFacts.{IsMadeAt, HoldsDropped, IsEntryAt, next_entry}
+use Rattle.account_steps.proofs.Done.{IsMadeAt, HoldsDropped}
+use Rattle.account_core.proofs.EntryFacts.{next_entry}
 
 -- ---- the place that an id ends with
 
@@ -141,18 +142,18 @@ comes_next facts history entry latest (appended x proper is) =
     let limits = both_none (full (view_of facts history x no_places) entry.what) _ at.left in
     let rest = both_none (entries_full (length history)) _ limits.1 in
     let few : length history < 1000000 = few_of (length history) rest.0 in
-    let time : entry.time ≡ max x.moment (latest_of history) = at.of.time in
+    let time : entry.time ≡ max x.moment (latest_of history) = at.time in
     let moment : x.moment < 253402300800 = proper.moment in
     record {
       fits = record {
         bound = omega (arith, time, moment, latest);
-        made = made_here facts (length history) entry.what (omega (arith, few)) at.of.made;
+        made = made_here facts (length history) entry.what (omega (arith, few)) at.done.made;
         few = few;
         fits = fits_of (bytes_in history) (size_of entry.what) rest.1;
       };
-      made = at.of.made;
-      gives = at.of.gives;
-      holds = at.of.holds;
+      made = at.done.made;
+      gives = at.done.gives;
+      holds = at.done.holds;
       later = omega (arith, time);
     }
 comes_next facts history entry latest (kept clock bound is) =

@@ -1,5 +1,5 @@
 -- Places only go on, and a request that changes the account does not depend on them.
-use Rattle.std.proofs.Common.{◌≡◌, List, length, true, Result, Ok, Err, OnErr, refl, sym, ap, ◌∙◌, arith}
+use Rattle.std.proofs.Common.{◌≡◌, ℕ, List, length, true, Option, Result, Ok, Err, OnErr, refl, sym, ap, ◌∙◌, subst, arith}
 use Rattle.draw_lines.specs.Line.{Line}
 use Rattle.kms_json.specs.Asks.{changes_account}
 use Rattle.kms_json.specs.declared.asks.Ask.{Ask}
@@ -8,53 +8,65 @@ use Rattle.kms_json.specs.declared.asks.AskBody.TheVariants as ask
 use Rattle.kms_json.specs.declared.refusals.Refusal.{Refusal}
 use Rattle.account_steps.specs.declared.facts.RealmFacts.{RealmFacts}
 use Rattle.account_rows.specs.declared.entries.Entry.{Entry}
-use Rattle.account_steps.specs.Places.{IsUpTo, IsWithin, places_of, line_at}
+use Rattle.account_rows.specs.declared.entries.What.{What}
+use Rattle.account_steps.specs.Places.{IsUpTo, IsWithin, places_of, line_at, no_places}
 use Rattle.account_steps.specs.declared.places.Places.{Places}
+use Rattle.account_steps.specs.declared.places.Uses.{Uses}
 use Rattle.account_steps.specs.Steps.{unless}
-use Rattle.account_steps.specs.Parts.{Outcome, Effect, takes, appends, after, decided_by}
-use Rattle.account_core.specs.Decide.{lacking, body_outcome, decide}
+use Rattle.account_steps.specs.View.{view_of}
+use Rattle.account_steps.specs.Parts.{Outcome, decided_read, decided_change}
+use Rattle.account_core.specs.Operations.{change_outcome, read_outcome}
+use Rattle.account_core.specs.Decide.{lacking, decide_body, decide}
 
 abbrev GoesOn : Places → Places → Type 0
 GoesOn old new = IsUpTo old new new
 
-after_goes_on : (places : Places) (effect : Effect) → GoesOn places (after places effect)
-after_goes_on places (takes uses) = record { number = refl; words_from = omega arith; words_to = omega arith; ivs_from = omega arith; ivs_to = omega arith }
-after_goes_on places (appends entry) = record { number = refl; words_from = omega arith; words_to = omega arith; ivs_from = omega arith; ivs_to = omega arith }
+stays : (places : Places) → GoesOn places places
+stays places = record { number = refl; words_from = omega arith; words_to = omega arith; ivs_from = omega arith; ivs_to = omega arith }
 
-pub outcome_goes_on : (outcome : Result Outcome Refusal) (places : Places) → IsUpTo places (decided_by outcome places).places (decided_by outcome places).places
-outcome_goes_on (Ok outcome) places = after_goes_on places outcome.effect
-outcome_goes_on (Err why) places = record { number = refl; words_from = omega arith; words_to = omega arith; ivs_from = omega arith; ivs_to = omega arith }
+read_goes_on : (outcome : Result (Outcome Uses) Refusal) (places : Places) → GoesOn places (decided_read outcome places).places
+read_goes_on (Ok outcome) places = record { number = refl; words_from = omega arith; words_to = omega arith; ivs_from = omega arith; ivs_to = omega arith }
+read_goes_on (Err why) places = stays places
+
+pub change_stays : (moment : ℕ) (outcome : Result (Outcome (Option What)) Refusal) (places : Places) → (decided_change moment outcome places).places ≡ places
+change_stays moment (Ok outcome) places = refl
+change_stays moment (Err why) places = refl
+
+body_goes_on : (facts : RealmFacts) (history : List Entry) (x : Ask) (body : AskBody) (places : Places) → GoesOn places (decide_body facts history x body places).places
+body_goes_on facts history x (ask.Read body) places = read_goes_on (unless (lacking (length history) x.after) (read_outcome (view_of facts history x places) body)) places
+body_goes_on facts history x (ask.Change body) places =
+    subst (GoesOn places) (sym (change_stays _ (unless (lacking (length history) x.after) (change_outcome (view_of facts history x no_places) body)) places)) (stays places)
 
 pub decide_goes_on : (facts : RealmFacts) (history : List Entry) (x : Ask) (places : Places) → IsUpTo places (decide facts history x places).places (decide facts history x places).places
 unfolding decide
-decide_goes_on facts history x places = outcome_goes_on (unless (lacking (length history) x.after) (body_outcome facts history x places x.body)) places
+decide_goes_on facts history x places = body_goes_on facts history x x.body places
 
 -- ---- what changes the account does not depend on places
 
-reply_same : (outcome : Result Outcome Refusal) (p q : Places) → (decided_by outcome p).reply ≡ (decided_by outcome q).reply
-reply_same (Ok outcome) p q = refl
-reply_same (Err why) p q = refl
+reply_same : (moment : ℕ) (outcome : Result (Outcome (Option What)) Refusal) (p q : Places) → (decided_change moment outcome p).reply ≡ (decided_change moment outcome q).reply
+reply_same moment (Ok outcome) p q = refl
+reply_same moment (Err why) p q = refl
 
-entry_same : (outcome : Result Outcome Refusal) (p q : Places) → (decided_by outcome p).entry ≡ (decided_by outcome q).entry
-entry_same (Ok outcome) p q = refl
-entry_same (Err why) p q = refl
+entry_same : (moment : ℕ) (outcome : Result (Outcome (Option What)) Refusal) (p q : Places) → (decided_change moment outcome p).entry ≡ (decided_change moment outcome q).entry
+entry_same moment (Ok outcome) p q = refl
+entry_same moment (Err why) p q = refl
 
 module _ (facts : RealmFacts) (history : List Entry) (x : Ask) (p q : Places) where
-  same_outcome : (body : AskBody) → changes_account body ≡ true → body_outcome facts history x p body ≡ body_outcome facts history x q body
-  same_outcome (ask.Change body) e = refl
-  same_outcome (ask.Read body) e = cc
+  body_reply : (body : AskBody) → changes_account body ≡ true → (decide_body facts history x body p).reply ≡ (decide_body facts history x body q).reply
+  body_reply (ask.Change body) e = reply_same _ (unless (lacking (length history) x.after) (change_outcome (view_of facts history x no_places) body)) p q
+  body_reply (ask.Read body) e = cc
 
   pub same_reply : changes_account x.body ≡ true → (decide facts history x p).reply ≡ (decide facts history x q).reply
   unfolding decide
-  same_reply changing =
-      ap (λ (outcome : Result Outcome Refusal). (decided_by (unless (lacking (length history) x.after) outcome) p).reply) (same_outcome x.body changing)
-      ∙ reply_same (unless (lacking (length history) x.after) (body_outcome facts history x q x.body)) p q
+  same_reply changing = body_reply x.body changing
+
+  body_entry : (body : AskBody) → changes_account body ≡ true → (decide_body facts history x body p).entry ≡ (decide_body facts history x body q).entry
+  body_entry (ask.Change body) e = entry_same _ (unless (lacking (length history) x.after) (change_outcome (view_of facts history x no_places) body)) p q
+  body_entry (ask.Read body) e = cc
 
   pub same_entry : changes_account x.body ≡ true → (decide facts history x p).entry ≡ (decide facts history x q).entry
   unfolding decide
-  same_entry changing =
-      ap (λ (outcome : Result Outcome Refusal). (decided_by (unless (lacking (length history) x.after) outcome) p).entry) (same_outcome x.body changing)
-      ∙ entry_same (unless (lacking (length history) x.after) (body_outcome facts history x q x.body)) p q
+  same_entry changing = body_entry x.body changing
 
 -- ---- where a line stands
 

@@ -1,8 +1,10 @@
 -- What the account of one thread answers.
-use Rattle.std.specs.Prelude.{◌≡◌, ◌==◌, ◌<◌, ℕ, List, [], ◌∷◌, ◌++◌, length, nat_lt, if◌then◌else◌, Option, Some, None, Result, Ok}
+use Rattle.std.specs.Prelude.{◌≡◌, ◌==◌, ◌<◌, ℕ, List, [], ◌∷◌, ◌++◌, length, nat_lt, if◌then◌else◌, Option, Some, None, Ok}
 use Rattle.kms_json.specs.declared.asks.Ask.{Ask}
 use Rattle.kms_json.specs.declared.asks.AskBody.{AskBody}
 use Rattle.kms_json.specs.declared.asks.AskBody.TheVariants as ask
+use Rattle.kms_json.specs.declared.asks.Changing.{Changing}
+use Rattle.kms_json.specs.declared.asks.Reading.{Reading}
 use Rattle.kms_json.specs.declared.replies.Reply.{Reply}
 use Rattle.kms_json.specs.declared.refusals.Refusal.{Refusal}
 use Rattle.kms_json.specs.declared.refusals.Refusal.TheVariants.{DependencyTimeout}
@@ -19,7 +21,7 @@ use Rattle.account_steps.specs.declared.places.Places.{Places}
 use Rattle.account_rows.specs.History.{housekeeping_of}
 use Rattle.account_steps.specs.Steps.{unless}
 use Rattle.account_steps.specs.View.{view_of}
-use Rattle.account_steps.specs.Parts.{Outcome, Decided, decided_by}
+use Rattle.account_steps.specs.Parts.{Decided, decided_read, decided_change}
 use Rattle.account_core.specs.Operations.{change_outcome, read_outcome}
 
 -- the history has fewer entries than the request asks for
@@ -27,14 +29,21 @@ abbrev pub lacking : ℕ → Option ℕ → Option Refusal
 lacking entries None = None
 lacking entries (Some wanted) = if nat_lt entries wanted then Some (DependencyTimeout entries wanted) else None
 
--- the steps of an operation; one that changes the account goes by no places of the pass
-abbrev pub body_outcome : RealmFacts → List Entry → Ask → Places → AskBody → Result Outcome Refusal
-body_outcome facts history x places (ask.Change body) = change_outcome (view_of facts history x no_places) body
-body_outcome facts history x places (ask.Read body) = read_outcome (view_of facts history x places) body
+-- the wait for entries, and then the steps of the operation; one that changes the account goes by no places of the pass
+abbrev pub decide_change : RealmFacts → List Entry → Ask → Changing → Places → Decided
+decide_change facts history x body places =
+    decided_change (view_of facts history x no_places).moment (unless (lacking (length history) x.after) (change_outcome (view_of facts history x no_places) body)) places
 
--- what the account answers to a request at this history, for a pass at these places: the wait for entries comes first
+abbrev pub decide_read : RealmFacts → List Entry → Ask → Reading → Places → Decided
+decide_read facts history x body places = decided_read (unless (lacking (length history) x.after) (read_outcome (view_of facts history x places) body)) places
+
+abbrev pub decide_body : RealmFacts → List Entry → Ask → AskBody → Places → Decided
+decide_body facts history x (ask.Change body) places = decide_change facts history x body places
+decide_body facts history x (ask.Read body) places = decide_read facts history x body places
+
+-- what the account answers to a request at this history, for a pass at these places
 unfoldable pub decide : RealmFacts → List Entry → Ask → Places → Decided
-decide facts history x places = decided_by (unless (lacking (length history) x.after) (body_outcome facts history x places x.body)) places
+decide facts history x places = decide_body facts history x x.body places
 
 -- the same in the form in which a changing request is answered, which takes no places
 abbrev pub decision_by : Reply → Option Entry → Decision

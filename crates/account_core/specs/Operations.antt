@@ -1,12 +1,14 @@
 -- The operations, one line each.
-use Rattle.std.specs.Prelude.{Result}
+use Rattle.std.specs.Prelude.{Option, Result}
 use Rattle.kms_json.specs.declared.asks.Changing.{Changing}
 use Rattle.kms_json.specs.declared.asks.Changing.TheVariants as changing
 use Rattle.kms_json.specs.declared.asks.Reading.{Reading}
 use Rattle.kms_json.specs.declared.asks.Reading.TheVariants as reading
 use Rattle.kms_json.specs.declared.refusals.Refusal.{Refusal}
+use Rattle.account_rows.specs.declared.entries.What.{What}
+use Rattle.account_steps.specs.declared.places.Uses.{Uses}
 use Rattle.account_steps.specs.View.{View}
-use Rattle.account_steps.specs.Parts.{Outcome, outcome}
+use Rattle.account_steps.specs.Parts.{Outcome, reads, changes}
 use Rattle.account_keys.specs.Keys.{creates_key, describes_key}
 use Rattle.account_keys.specs.Policies.{puts_policy, gets_policy}
 use Rattle.account_keys.specs.declared.key_changes.KeyChange.TheVariants as change
@@ -20,38 +22,38 @@ use Rattle.account_lists.specs.Lists.{lists_in, lists_on}
 use Rattle.account_crypto.specs.Crypto.{encrypts, decrypts, re_encrypts, generates_data_key, generates_sealed_data_key, generates_random}
 
 -- those that change the account
-abbrev pub change_outcome : View → Changing → Result Outcome Refusal
-change_outcome view (changing.CreateKey x) = outcome view (creates_key view x)
-change_outcome view (changing.PutKeyPolicy key_id text bypass) = outcome view (puts_policy view key_id text bypass)
-change_outcome view (changing.UpdateKeyDescription key_id text) = outcome view (updates_description view key_id text)
-change_outcome view (changing.EnableKey key_id) = outcome view (changes_key view key_id change.Enable)
-change_outcome view (changing.DisableKey key_id) = outcome view (changes_key view key_id change.Disable)
-change_outcome view (changing.ScheduleKeyDeletion key_id days) = outcome view (changes_key view key_id (change.ScheduleDeletion days))
-change_outcome view (changing.CancelKeyDeletion key_id) = outcome view (changes_key view key_id change.CancelDeletion)
-change_outcome view (changing.EnableKeyRotation key_id period) = outcome view (changes_key view key_id (change.RotateEvery period))
-change_outcome view (changing.DisableKeyRotation key_id) = outcome view (changes_key view key_id change.RotateNoMore)
-change_outcome view (changing.RotateKeyOnDemand key_id) = outcome view (changes_key view key_id change.RotateNow)
-change_outcome view (changing.CreateAlias name key_id) = outcome view (changes_alias view name (alias.Create key_id))
-change_outcome view (changing.UpdateAlias name key_id) = outcome view (changes_alias view name (alias.Update key_id))
-change_outcome view (changing.DeleteAlias name) = outcome view (changes_alias view name alias.Delete)
-change_outcome view (changing.CreateGrant x) = outcome view (creates_grant view x)
-change_outcome view (changing.RetireGrant grant dry_run) = outcome view (retires_grant view grant dry_run)
-change_outcome view (changing.RevokeGrant key_id grant_id dry_run) = outcome view (revokes_grant view key_id grant_id dry_run)
+abbrev pub change_outcome : View → Changing → Result (Outcome (Option What)) Refusal
+change_outcome view (changing.CreateKey x) = changes view (creates_key view x)
+change_outcome view (changing.PutKeyPolicy key_id text bypass) = changes view (puts_policy view key_id text bypass)
+change_outcome view (changing.UpdateKeyDescription key_id text) = changes view (updates_description view key_id text)
+change_outcome view (changing.EnableKey key_id) = changes view (changes_key view key_id change.Enable)
+change_outcome view (changing.DisableKey key_id) = changes view (changes_key view key_id change.Disable)
+change_outcome view (changing.ScheduleKeyDeletion key_id days) = changes view (changes_key view key_id (change.ScheduleDeletion days))
+change_outcome view (changing.CancelKeyDeletion key_id) = changes view (changes_key view key_id change.CancelDeletion)
+change_outcome view (changing.EnableKeyRotation key_id period) = changes view (changes_key view key_id (change.RotateEvery period))
+change_outcome view (changing.DisableKeyRotation key_id) = changes view (changes_key view key_id change.RotateNoMore)
+change_outcome view (changing.RotateKeyOnDemand key_id) = changes view (changes_key view key_id change.RotateNow)
+change_outcome view (changing.CreateAlias name key_id) = changes view (changes_alias view name (alias.Create key_id))
+change_outcome view (changing.UpdateAlias name key_id) = changes view (changes_alias view name (alias.Update key_id))
+change_outcome view (changing.DeleteAlias name) = changes view (changes_alias view name alias.Delete)
+change_outcome view (changing.CreateGrant x) = changes view (creates_grant view x)
+change_outcome view (changing.RetireGrant grant dry_run) = changes view (retires_grant view grant dry_run)
+change_outcome view (changing.RevokeGrant key_id grant_id dry_run) = changes view (revokes_grant view key_id grant_id dry_run)
 
 -- those that don't
-abbrev pub read_outcome : View → Reading → Result Outcome Refusal
-read_outcome view (reading.DescribeKey key_id tokens) = outcome view (describes_key view key_id tokens)
-read_outcome view (reading.ListKeys page) = outcome view (lists_in view all.Keys page)
-read_outcome view (reading.ListAliases key_id page) = outcome view (lists_in view (all.Aliases key_id) page)
-read_outcome view (reading.ListRetirableGrants retiring page) = outcome view (lists_in view (all.RetirableGrants retiring) page)
-read_outcome view (reading.ListKeyPolicies key_id page) = outcome view (lists_on view key_id of.Policies page)
-read_outcome view (reading.ListKeyRotations key_id page) = outcome view (lists_on view key_id of.Rotations page)
-read_outcome view (reading.ListGrants x) = outcome view (lists_on view x.key_id (of.Grants x.grant_id x.grantee) x.page)
-read_outcome view (reading.GetKeyPolicy key_id) = outcome view (gets_policy view key_id)
-read_outcome view (reading.GetKeyRotationStatus key_id) = outcome view (gets_rotation_status view key_id)
-read_outcome view (reading.Encrypt x) = outcome view (encrypts view x)
-read_outcome view (reading.Decrypt x) = outcome view (decrypts view x)
-read_outcome view (reading.ReEncrypt x) = outcome view (re_encrypts view x)
-read_outcome view (reading.GenerateDataKey x recipient) = outcome view (generates_data_key view x recipient)
-read_outcome view (reading.GenerateDataKeyWithoutPlaintext x) = outcome view (generates_sealed_data_key view x)
-read_outcome view (reading.GenerateRandom size custom_key_store recipient) = outcome view (generates_random view size custom_key_store recipient)
+abbrev pub read_outcome : View → Reading → Result (Outcome Uses) Refusal
+read_outcome view (reading.DescribeKey key_id tokens) = reads view (describes_key view key_id tokens)
+read_outcome view (reading.ListKeys page) = reads view (lists_in view all.Keys page)
+read_outcome view (reading.ListAliases key_id page) = reads view (lists_in view (all.Aliases key_id) page)
+read_outcome view (reading.ListRetirableGrants retiring page) = reads view (lists_in view (all.RetirableGrants retiring) page)
+read_outcome view (reading.ListKeyPolicies key_id page) = reads view (lists_on view key_id of.Policies page)
+read_outcome view (reading.ListKeyRotations key_id page) = reads view (lists_on view key_id of.Rotations page)
+read_outcome view (reading.ListGrants x) = reads view (lists_on view x.key_id (of.Grants x.grant_id x.grantee) x.page)
+read_outcome view (reading.GetKeyPolicy key_id) = reads view (gets_policy view key_id)
+read_outcome view (reading.GetKeyRotationStatus key_id) = reads view (gets_rotation_status view key_id)
+read_outcome view (reading.Encrypt x) = reads view (encrypts view x)
+read_outcome view (reading.Decrypt x) = reads view (decrypts view x)
+read_outcome view (reading.ReEncrypt x) = reads view (re_encrypts view x)
+read_outcome view (reading.GenerateDataKey x recipient) = reads view (generates_data_key view x recipient)
+read_outcome view (reading.GenerateDataKeyWithoutPlaintext x) = reads view (generates_sealed_data_key view x)
+read_outcome view (reading.GenerateRandom size custom_key_store recipient) = reads view (generates_random view size custom_key_store recipient)

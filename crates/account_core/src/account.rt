@@ -15,10 +15,16 @@ use std::marker::Model;
 
 /// The account of one thread. Contracts see its facts and the list of its entries; the rows that it
 /// keeps beside them are the list's replay.
-#[derive(Drop)]
 pub struct Account {
     realm: Realm,
     rows: Rows,
+}
+
+// Each crate that lets an account go calls this one drop, and doesn't take it apart itself.
+impl Drop for Account {
+    fn drop(self) {
+        let Account { realm: _, rows: _ } = self;
+    }
 }
 
 impl Model for Account {
@@ -118,8 +124,9 @@ impl Account {
             unreachable!()
         };
         let view = self.view(alloc, ask, Places::NONE)?;
+        let moment = view.moment();
         match change_body(alloc, &view, body) {
-            Ok(made) => Ok(decision_from(made)),
+            Ok(made) => Ok(decision_from(moment, made)),
             Err(Stop::Refused(refusal)) => Ok(Decision::Refused(Reply::Refused(refusal))),
             Err(Stop::NoMemory) => Err(NoMemory),
         }

@@ -1,5 +1,6 @@
 // Decisions.
 ghost use Rattle.std.specs.Prelude.{◌≡◌};
+ghost use Rattle.account_steps.specs.Parts.{entry_of};
 ghost use Rattle.account_core.specs.Decide.{lacking, decision_by};
 
 use account_rows::Entry;
@@ -27,13 +28,13 @@ pub fn lacking_entries(entries: u64, after: Option<u64>) -> Option<Refusal>
     }
 }
 
-/// The decision that these make.
-pub fn decision_from(made: Made) -> Decision
-    ensures { result ≡ decision_by made.reply made.entry }
+/// The decision that these make at a moment.
+pub fn decision_from(time: u64, made: Made) -> Decision
+    ensures { result ≡ decision_by made.reply (entry_of time made.what) }
 {
-    let Made { reply, entry } = made;
-    match entry {
-        Some(entry) => Decision::Change(entry, reply),
+    let Made { reply, what } = made;
+    match what {
+        Some(what) => Decision::Change(Entry { time, what }, reply),
         None if reply.status() == 200 => Decision::Served(reply),
         None => Decision::Refused(reply),
     }

@@ -7,7 +7,7 @@ ghost use Rattle.account_lists.specs.Lists.{lists_in, lists_on};
 ghost use Rattle.kms_json.specs.Asks.{IsSizedReading, IsSizedChanging};
 ghost use Rattle.account_keys.specs.KeyChanges.{changes_key};
 ghost use Rattle.account_steps.specs.Places.{places_of, IsLineOf};
-ghost use Rattle.account_steps.specs.Parts.{decided_by, outcome};
+ghost use Rattle.account_steps.specs.Parts.{decided_read, reads, changes};
 ghost use Rattle.account_steps.specs.Settling.{Settles, Makes};
 ghost use Rattle.account_core.specs.Operations.{change_outcome, read_outcome};
 
@@ -29,7 +29,7 @@ use std::alloc::Global;
 
 // What a request that changes a key's state or rotation comes to.
 fn change_key(alloc: Global, view: &View<'_>, key_id: &Text, how: KeyChange) -> Result<Made, Stop>
-    ensures { Makes (outcome view.now (changes_key view.now key_id.now how)) result }
+    ensures { Makes (changes view.now (changes_key view.now key_id.now how)) result }
 {
     let changing = ChangingKey {
         view,
@@ -58,7 +58,7 @@ fn change_alias(
     change: AliasChange<'_>,
 ) -> Result<Made, Stop>
     requires { is_alias_text alias.now ≡ true }
-    ensures { Makes (outcome view.now (changes_alias view.now alias.now change.entry)) result }
+    ensures { Makes (changes view.now (changes_alias view.now alias.now change.entry)) result }
 {
     let name = alias_name(alloc, alias)?;
     let changing = ChangingAlias {
@@ -71,7 +71,7 @@ fn change_alias(
 
 // What a request for a grant comes to.
 fn create_grant(alloc: Global, view: &View<'_>, x: &CreateGrant) -> Result<Made, Stop>
-    ensures { Makes (outcome view.now (creates_grant view.now x.now)) result }
+    ensures { Makes (changes view.now (creates_grant view.now x.now)) result }
 {
     let creating = creating_grant(view, x)?;
     apply(alloc, &creating)
@@ -87,7 +87,7 @@ fn list(
 ) -> Result<Reply, Stop>
     requires line { IsLineOf view.now.facts line.old }
     requires places { view.now.places ≡ places_of line.old }
-    ensures { Settles (decided_by (outcome view.now (lists_in view.now what.entry page.now)) (places_of line.old)) line.old result line.new }
+    ensures { Settles (decided_read (reads view.now (lists_in view.now what.entry page.now)) (places_of line.old)) line.old result line.new }
 {
     read(alloc, &ListingAccount { view, what, page }, line)
 }
@@ -103,7 +103,7 @@ fn list_of_key(
 ) -> Result<Reply, Stop>
     requires line { IsLineOf view.now.facts line.old }
     requires places { view.now.places ≡ places_of line.old }
-    ensures { Settles (decided_by (outcome view.now (lists_on view.now key_id.now what.entry page.now)) (places_of line.old)) line.old result line.new }
+    ensures { Settles (decided_read (reads view.now (lists_on view.now key_id.now what.entry page.now)) (places_of line.old)) line.old result line.new }
 {
     let listing = ListingKey {
         view,
@@ -209,7 +209,7 @@ pub fn read_body(
     requires sized { IsSizedReading body.now }
     requires line { IsLineOf view.now.facts line.old }
     requires places { view.now.places ≡ places_of line.old }
-    ensures { Settles (decided_by (read_outcome view.now body.now) (places_of line.old)) line.old result line.new }
+    ensures { Settles (decided_read (read_outcome view.now body.now) (places_of line.old)) line.old result line.new }
 {
     match body {
         Reading::DescribeKey {

@@ -1,5 +1,5 @@
 -- What is drawn, and what is sealed after a draw.
-use Rattle.std.proofs.Common.{◌≡◌, ℕ, List, Result, Ok, Err, IfOk, sym, ap, ◌∙◌, add-zero}
+use Rattle.std.proofs.Common.{◌≡◌, ℕ, List, sym, ap, ◌∙◌, add-zero}
 use Rattle.draw_lines.specs.Draw.{draw_at}
 use Rattle.draw_lines.specs.Iv.{iv_at}
 use Rattle.draw_lines.specs.Line.{Line}
@@ -10,7 +10,7 @@ use Rattle.kms_json.specs.declared.asks.cryptography.DataKey.{DataKey}
 use Rattle.key_states.specs.declared.rows.KeyRow.{KeyRow}
 use Rattle.account_crypto.specs.Crypto.{words_of, sealed_key}
 use Rattle.account_steps.specs.Places.{places_of, line_at, IsLineOf}
-use Rattle.account_steps.specs.Parts.{takes, after}
+use Rattle.account_steps.specs.Parts.{after}
 use Rattle.account_steps.specs.Steps.{seals, draws, newest_version}
 use Rattle.account_steps.specs.View.{View}
 
@@ -22,7 +22,7 @@ drawn_is view line size n room is at sized drawn =
     ∙ sym (ap (draws view.facts size) at)
 
 -- a draw leaves the initialization vectors
-sealed_after : (facts : RealmFacts) (row : KeyRow) (pairs : List Pair) (text : List ℕ) (line next : Line) (size : ℕ) → next ≡ line_at line (after (places_of line) (takes (words_of size)))
+sealed_after : (facts : RealmFacts) (row : KeyRow) (pairs : List Pair) (text : List ℕ) (line next : Line) (size : ℕ) → next ≡ line_at line (after (places_of line) (words_of size))
     → seals facts row pairs text (places_of next) ≡ seals facts row pairs text (places_of line)
 unfolding seals
 sealed_after facts row pairs text line next size e =
@@ -31,7 +31,7 @@ sealed_after facts row pairs text line next size e =
 
 -- what is sealed after its draw is the sealed data key
 pub sealed_is : (view : View) (x : DataKey) (row : KeyRow) (line next : Line) (size : ℕ) (room blob : List ℕ)
-    → view.places ≡ places_of line → room ≡ draws view.facts x.size view.places → next ≡ line_at line (after (places_of line) (takes (words_of size)))
+    → view.places ≡ places_of line → room ≡ draws view.facts x.size view.places → next ≡ line_at line (after (places_of line) (words_of size))
     → blob ≡ seals view.facts row x.context room (places_of next) → blob ≡ sealed_key view x row
 sealed_is view x row line next size room blob at drawn on is =
     is ∙ sealed_after view.facts row x.context room line next size on

@@ -1,6 +1,6 @@
 -- The operations with texts that are sealed, opened and drawn (AWS KMS API Reference, Encrypt, Decrypt, ReEncrypt,
 -- GenerateDataKey, GenerateDataKeyWithoutPlaintext, GenerateRandom): what each says of the steps.
-use Rattle.std.specs.Prelude.{ℕ, List, [], ◌∷◌, codes, Bool, false, Option, Some, None, Ok, ⊤}
+use Rattle.std.specs.Prelude.{ℕ, List, [], ◌∷◌, codes, Bool, false, Some, Ok, ⊤}
 use Rattle.std.specs.Str.{bytes_eq}
 use Rattle.draw_lines.specs.Draw.{words_for}
 use Rattle.kms_names.specs.declared.actions.Action.{Action}
@@ -21,9 +21,8 @@ use Rattle.account_steps.specs.Steps.{unless, and_then, unfit, unsupported, key_
 use Rattle.account_steps.specs.Authority.{on_key, on_other, of_none, of_context}
 use Rattle.account_steps.specs.View.{View}
 use Rattle.account_steps.specs.declared.checks.Named.{Named}
-use Rattle.enc_context.specs.declared.pairs.Pair.{Pair}
 use Rattle.authority.specs.Setting.{Particulars}
-use Rattle.account_steps.specs.Parts.{Parts, takes}
+use Rattle.account_steps.specs.Parts.{ReadParts}
 
 -- a sealing takes one initialization vector
 abbrev pub one_iv : Uses
@@ -38,29 +37,33 @@ abbrev pub words_and_iv : ℕ → Uses
 words_and_iv size = record { words = words_for size; ivs = 1 }
 
 -- Encrypt
-abbrev pub encrypts : View → Encrypt → Parts Named ⊤
+abbrev pub encrypts : View → Encrypt → ReadParts Named ⊤
 encrypts view x = record {
-  found = key_of view x.key_id;
-  questions = λ named. on_key action.Encrypt named.row (of_context view named.row.key named.alias x.context) ∷ [];
-  tokens = x.grant_tokens;
-  uses = λ named. record { action = action.Encrypt; key = named.row } ∷ [];
-  own = λ named. unless (unfit x.algorithm) (Ok tt);
-  effect = λ named ready. takes one_iv;
-  dry_run = x.dry_run;
-  reply = λ named ready. reply.Encrypted (seals view.facts named.row x.context x.plaintext view.places) (arn_of view.facts named.row.key);
+  parts = record {
+    found = key_of view x.key_id;
+    questions = λ named. on_key action.Encrypt named.row (of_context view named.row.key named.alias x.context) ∷ [];
+    tokens = x.grant_tokens;
+    uses = λ named. record { action = action.Encrypt; key = named.row } ∷ [];
+    own = λ named. unless (unfit x.algorithm) (Ok tt);
+    dry_run = x.dry_run;
+    reply = λ named ready. reply.Encrypted (seals view.facts named.row x.context x.plaintext view.places) (arn_of view.facts named.row.key);
+  };
+  takes = one_iv;
 }
 
 -- Decrypt
-abbrev pub decrypts : View → Decrypt → Parts Source (List ℕ)
+abbrev pub decrypts : View → Decrypt → ReadParts Source (List ℕ)
 decrypts view x = record {
-  found = source_of view action.Decrypt x.key_id x.blob;
-  questions = λ source. on_key action.Decrypt source.row (of_context view source.row.key source.alias x.context) ∷ [];
-  tokens = x.grant_tokens;
-  uses = λ source. record { action = action.Decrypt; key = source.row } ∷ [];
-  own = λ source. unless (unfit x.algorithm) (unless (unsupported x.recipient Recipient) (opens view.facts source x.context));
-  effect = λ source plaintext. takes nothing_used;
-  dry_run = x.dry_run;
-  reply = λ source plaintext. reply.Decrypted plaintext (arn_of view.facts source.row.key);
+  parts = record {
+    found = source_of view action.Decrypt x.key_id x.blob;
+    questions = λ source. on_key action.Decrypt source.row (of_context view source.row.key source.alias x.context) ∷ [];
+    tokens = x.grant_tokens;
+    uses = λ source. record { action = action.Decrypt; key = source.row } ∷ [];
+    own = λ source. unless (unfit x.algorithm) (unless (unsupported x.recipient Recipient) (opens view.facts source x.context));
+    dry_run = x.dry_run;
+    reply = λ source plaintext. reply.Decrypted plaintext (arn_of view.facts source.row.key);
+  };
+  takes = nothing_used;
 }
 
 -- whether a text is sealed anew under the key that sealed it
@@ -75,57 +78,63 @@ abbrev pub of_destination : View → ReEncrypt → Turning → Particulars
 of_destination view x turning = record (of_context view turning.to.row.key turning.to.alias x.context) { same_key = Some (same_key turning) }
 
 -- ReEncrypt: the key that the text was sealed under is looked up, and then the one that it is sealed under
-abbrev pub re_encrypts : View → ReEncrypt → Parts Turning (List ℕ)
+abbrev pub re_encrypts : View → ReEncrypt → ReadParts Turning (List ℕ)
 re_encrypts view x = record {
-  found = and_then (source_of view action.ReEncryptFrom x.source_key_id x.blob)
-      (λ source. and_then (key_of view x.key_id) (λ to. Ok (record { source = source; to = to })));
-  questions = λ turning.
-      on_key action.ReEncryptFrom turning.source.row (of_source view x turning) ∷ on_key action.ReEncryptTo turning.to.row (of_destination view x turning) ∷ [];
-  tokens = x.grant_tokens;
-  uses = λ turning. record { action = action.ReEncryptFrom; key = turning.source.row } ∷ record { action = action.ReEncryptTo; key = turning.to.row } ∷ [];
-  own = λ turning. unless (unfit x.source_algorithm) (unless (unfit x.algorithm) (opens view.facts turning.source x.source_context));
-  effect = λ turning plaintext. takes one_iv;
-  dry_run = x.dry_run;
-  reply = λ turning plaintext. reply.ReEncrypted (seals view.facts turning.to.row x.context plaintext view.places) (arn_of view.facts turning.to.row.key) (arn_of view.facts turning.source.row.key);
+  parts = record {
+    found = and_then (source_of view action.ReEncryptFrom x.source_key_id x.blob)
+        (λ source. and_then (key_of view x.key_id) (λ to. Ok (record { source = source; to = to })));
+    questions = λ turning.
+        on_key action.ReEncryptFrom turning.source.row (of_source view x turning) ∷ on_key action.ReEncryptTo turning.to.row (of_destination view x turning) ∷ [];
+    tokens = x.grant_tokens;
+    uses = λ turning. record { action = action.ReEncryptFrom; key = turning.source.row } ∷ record { action = action.ReEncryptTo; key = turning.to.row } ∷ [];
+    own = λ turning. unless (unfit x.source_algorithm) (unless (unfit x.algorithm) (opens view.facts turning.source x.source_context));
+    dry_run = x.dry_run;
+    reply = λ turning plaintext. reply.ReEncrypted (seals view.facts turning.to.row x.context plaintext view.places) (arn_of view.facts turning.to.row.key) (arn_of view.facts turning.source.row.key);
+  };
+  takes = one_iv;
 }
 
 -- a data key: it is drawn first, and then its initialization vector is taken
-abbrev pub data_key_parts : View → DataKey → Action → Bool → (KeyRow → Reply) → Parts Named ⊤
+abbrev pub data_key_parts : View → DataKey → Action → Bool → (KeyRow → Reply) → ReadParts Named ⊤
 data_key_parts view x op recipient given = record {
-  found = key_of view x.key_id;
-  questions = λ named. on_key op named.row (of_context view named.row.key named.alias x.context) ∷ [];
-  tokens = x.grant_tokens;
-  uses = λ named. record { action = op; key = named.row } ∷ [];
-  own = λ named. unless (unsupported recipient Recipient) (Ok tt);
-  effect = λ named ready. takes (words_and_iv x.size);
-  dry_run = x.dry_run;
-  reply = λ named ready. given named.row;
+  parts = record {
+    found = key_of view x.key_id;
+    questions = λ named. on_key op named.row (of_context view named.row.key named.alias x.context) ∷ [];
+    tokens = x.grant_tokens;
+    uses = λ named. record { action = op; key = named.row } ∷ [];
+    own = λ named. unless (unsupported recipient Recipient) (Ok tt);
+    dry_run = x.dry_run;
+    reply = λ named ready. given named.row;
+  };
+  takes = words_and_iv x.size;
 }
 
 abbrev pub sealed_key : View → DataKey → KeyRow → List ℕ
 sealed_key view x row = seals view.facts row x.context (draws view.facts x.size view.places) view.places
 
 -- GenerateDataKey
-abbrev pub generates_data_key : View → DataKey → Bool → Parts Named ⊤
+abbrev pub generates_data_key : View → DataKey → Bool → ReadParts Named ⊤
 generates_data_key view x recipient =
     data_key_parts view x action.GenerateDataKey recipient
     (λ row. reply.DataKey (sealed_key view x row) (draws view.facts x.size view.places) (arn_of view.facts row.key))
 
 -- GenerateDataKeyWithoutPlaintext
-abbrev pub generates_sealed_data_key : View → DataKey → Parts Named ⊤
+abbrev pub generates_sealed_data_key : View → DataKey → ReadParts Named ⊤
 generates_sealed_data_key view x =
     data_key_parts view x action.GenerateDataKeyWithoutPlaintext false
     (λ row. reply.SealedDataKey (sealed_key view x row) (arn_of view.facts row.key))
 
 -- GenerateRandom
-abbrev pub generates_random : View → ℕ → Bool → Bool → Parts ⊤ ⊤
+abbrev pub generates_random : View → ℕ → Bool → Bool → ReadParts ⊤ ⊤
 generates_random view size custom_key_store recipient = record {
-  found = Ok tt;
-  questions = λ found. on_other action.GenerateRandom (codes "*") of_none ∷ [];
-  tokens = [];
-  uses = λ found. [];
-  own = λ found. unless (unsupported custom_key_store CustomKeyStoreId) (unless (unsupported recipient Recipient) (Ok tt));
-  effect = λ found ready. takes (words_of size);
-  dry_run = false;
-  reply = λ found ready. reply.Random (draws view.facts size view.places);
+  parts = record {
+    found = Ok tt;
+    questions = λ found. on_other action.GenerateRandom (codes "*") of_none ∷ [];
+    tokens = [];
+    uses = λ found. [];
+    own = λ found. unless (unsupported custom_key_store CustomKeyStoreId) (unless (unsupported recipient Recipient) (Ok tt));
+    dry_run = false;
+    reply = λ found ready. reply.Random (draws view.facts size view.places);
+  };
+  takes = words_of size;
 }

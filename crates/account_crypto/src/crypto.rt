@@ -2,7 +2,7 @@
 ghost use Rattle.std.specs.Prelude.{◌≡◌, ◌+◌, ◌^◌, ◌<◌, ◌≤◌, length, IfOk};
 ghost use Rattle.draw_lines.specs.Draw.{words_for, draw_at};
 ghost use Rattle.account_steps.specs.Places.{places_of, line_at, IsLineOf};
-ghost use Rattle.account_steps.specs.Parts.{after, takes};
+ghost use Rattle.account_steps.specs.Parts.{after};
 ghost use Rattle.account_steps.specs.Steps.{seals};
 ghost use Rattle.account_crypto.specs.Crypto.{one_iv, words_of};
 
@@ -32,7 +32,7 @@ pub fn seal(
     requires some { 1 ≤ length text.now }
     requires short { length text.now ≤ 4096 }
     ensures blob { IfOk result (λ b. b ≡ seals view.now.facts lent.now context.now text.now (places_of line.old)) }
-    ensures used { line.new ≡ line_at line.old (after (places_of line.old) (takes one_iv)) }
+    ensures used { line.new ≡ line_at line.old (after (places_of line.old) one_iv) }
 {
     let iv = line.next_iv().unwrap();
     seal_blob(
@@ -51,7 +51,7 @@ pub fn draw(line: &mut DrawLine, room: &mut [u8])
     requires short { length room.old ≤ 1024 }
     requires words { line.old.words + words_for (length room.old) ≤ 2 ^ 48 }
     ensures room { room.new ≡ draw_at line.old.seed line.old.words (length room.old) }
-    ensures used { line.new ≡ line_at line.old (after (places_of line.old) (takes (words_of (length room.old)))) }
+    ensures used { line.new ≡ line_at line.old (after (places_of line.old) (words_of (length room.old))) }
 {
     let _ = line.draw(room);
 }

@@ -31,7 +31,7 @@ impl<'a> Drawing<'a> {
     ghost use Rattle.account_steps.specs.Authority.{denied, on_key};
     ghost use Rattle.account_steps.specs.Authority.{of_context};
     ghost use Rattle.account_steps.specs.Places.{places_of, line_at, IsLineOf};
-    ghost use Rattle.account_steps.specs.Parts.{after, takes, spent};
+    ghost use Rattle.account_steps.specs.Parts.{after, spent};
     ghost use Rattle.account_steps.specs.Steps.{Passes, draws};
     ghost use Rattle.account_crypto.specs.Crypto.{sealed_key, words_and_iv};
 
@@ -68,7 +68,7 @@ impl<'a> Drawing<'a> {
         requires size { length room.old ≡ self.now.x.now.size }
         ensures blob { IfOk result (λ b. b ≡ sealed_key self.now.view.now self.now.x.now lent.now) }
         ensures room { room.new ≡ draws self.now.view.now.facts self.now.x.now.size self.now.view.now.places }
-        ensures used { line.new ≡ line_at line.old (after (places_of line.old) (takes (words_and_iv self.now.x.now.size))) }
+        ensures used { line.new ≡ line_at line.old (after (places_of line.old) (words_and_iv self.now.x.now.size)) }
     {
         draw(line, room);
         seal(alloc, self.view, lent, &self.x.context, room, line)
@@ -91,7 +91,7 @@ impl<'a> Operation for GeneratingDataKey<'a> {
 
     ghost seen = { λ op. op.drawing.view.now };
 
-    ghost parts = { λ op. generates_data_key op.drawing.view.now op.drawing.x.now op.recipient };
+    ghost parts = { λ op. (generates_data_key op.drawing.view.now op.drawing.x.now op.recipient).parts };
 
     fn view(&self) -> &View<'_> {
         self.drawing.view
@@ -125,6 +125,8 @@ impl<'a> Operation for GeneratingDataKey<'a> {
 }
 
 impl<'a> Reads for GeneratingDataKey<'a> {
+    ghost takes = { λ op. (generates_data_key op.drawing.view.now op.drawing.x.now op.recipient).takes };
+
     fn uses(&self) -> Uses {
         self.drawing.words_and_iv()
     }
@@ -163,7 +165,7 @@ impl<'a> Operation for GeneratingSealedDataKey<'a> {
 
     ghost seen = { λ op. op.drawing.view.now };
 
-    ghost parts = { λ op. generates_sealed_data_key op.drawing.view.now op.drawing.x.now };
+    ghost parts = { λ op. (generates_sealed_data_key op.drawing.view.now op.drawing.x.now).parts };
 
     fn view(&self) -> &View<'_> {
         self.drawing.view
@@ -197,6 +199,8 @@ impl<'a> Operation for GeneratingSealedDataKey<'a> {
 }
 
 impl<'a> Reads for GeneratingSealedDataKey<'a> {
+    ghost takes = { λ op. (generates_sealed_data_key op.drawing.view.now op.drawing.x.now).takes };
+
     fn uses(&self) -> Uses {
         self.drawing.words_and_iv()
     }

@@ -25,7 +25,7 @@ impl<'a> Operation for Decrypting<'a> {
 
     ghost seen = { λ op. op.view.now };
 
-    ghost parts = { λ op. decrypts op.view.now op.x.now };
+    ghost parts = { λ op. (decrypts op.view.now op.x.now).parts };
 
     fn view(&self) -> &View<'_> {
         self.view
@@ -67,6 +67,8 @@ impl<'a> Operation for Decrypting<'a> {
 }
 
 impl<'a> Reads for Decrypting<'a> {
+    ghost takes = { λ op. (decrypts op.view.now op.x.now).takes };
+
     fn uses(&self) -> Uses {
         Uses::NOTHING
     }

@@ -27,7 +27,7 @@ impl<'a> Operation for Encrypting<'a> {
 
     ghost seen = { λ op. op.view.now };
 
-    ghost parts = { λ op. encrypts op.view.now op.x.now };
+    ghost parts = { λ op. (encrypts op.view.now op.x.now).parts };
 
     fn view(&self) -> &View<'_> {
         self.view
@@ -62,6 +62,8 @@ impl<'a> Operation for Encrypting<'a> {
 }
 
 impl<'a> Reads for Encrypting<'a> {
+    ghost takes = { λ op. (encrypts op.view.now op.x.now).takes };
+
     fn uses(&self) -> Uses {
         ONE_IV
     }

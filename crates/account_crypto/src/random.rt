@@ -34,7 +34,7 @@ impl<'a> Operation for GeneratingRandom<'a> {
 
     ghost seen = { λ op. op.view.now };
 
-    ghost parts = { λ op. generates_random op.view.now op.size op.custom_key_store op.recipient };
+    ghost parts = { λ op. (generates_random op.view.now op.size op.custom_key_store op.recipient).parts };
 
     fn view(&self) -> &View<'_> {
         self.view
@@ -68,6 +68,8 @@ impl<'a> Operation for GeneratingRandom<'a> {
 }
 
 impl<'a> Reads for GeneratingRandom<'a> {
+    ghost takes = { λ op. (generates_random op.view.now op.size op.custom_key_store op.recipient).takes };
+
     fn uses(&self) -> Uses {
         Uses {
             words: self.size.div_ceil(4),

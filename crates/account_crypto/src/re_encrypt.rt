@@ -82,7 +82,7 @@ impl<'a> Operation for ReEncrypting<'a> {
 
     ghost seen = { λ op. op.view.now };
 
-    ghost parts = { λ op. re_encrypts op.view.now op.x.now };
+    ghost parts = { λ op. (re_encrypts op.view.now op.x.now).parts };
 
     fn view(&self) -> &View<'_> {
         self.view
@@ -131,6 +131,8 @@ impl<'a> Operation for ReEncrypting<'a> {
 }
 
 impl<'a> Reads for ReEncrypting<'a> {
+    ghost takes = { λ op. (re_encrypts op.view.now op.x.now).takes };
+
     fn uses(&self) -> Uses {
         ONE_IV
     }

@@ -1,5 +1,5 @@
 -- The operations on aliases (AWS KMS API Reference, CreateAlias, UpdateAlias, DeleteAlias): what each says of the steps.
-use Rattle.std.specs.Prelude.{ℕ, List, [], ◌∷◌, ◌++◌, Bool, true, false, if◌then◌else◌, is_some, Option, Some, None, Result, Ok, ⊤}
+use Rattle.std.specs.Prelude.{ℕ, List, [], ◌∷◌, ◌++◌, false, if◌then◌else◌, is_some, Option, Some, None, Result, Ok, ⊤}
 use Rattle.kms_names.specs.declared.actions.Action.{Action}
 use Rattle.kms_names.specs.declared.actions.Action.TheVariants as action
 use Rattle.kms_json.specs.declared.refusals.Refusal.{Refusal}
@@ -14,7 +14,7 @@ use Rattle.account_keys.specs.declared.alias_changes.Moving.{Moving}
 use Rattle.account_steps.specs.Steps.{unless, and_then, only_key_of, key_of_alias, alias_arn_of}
 use Rattle.account_steps.specs.Authority.{Question, on_key, on_other, of_none, of_key}
 use Rattle.account_steps.specs.View.{View, aliased}
-use Rattle.account_steps.specs.Parts.{Parts, Use, Effect, appends}
+use Rattle.account_steps.specs.Parts.{ChangeParts, Use}
 
 abbrev pub action_of : AliasChange → Action
 action_of (change.Create key_id) = action.CreateAlias
@@ -50,14 +50,16 @@ done_to name (Some row) = what.AliasPut name row.key
 
 -- CreateAlias, UpdateAlias, DeleteAlias: the caller needs the operation on the alias, and on each key. Only the state of the key that the alias is to
 -- name counts
-abbrev pub changes_alias : View → List ℕ → AliasChange → Parts Moving ⊤
+abbrev pub changes_alias : View → List ℕ → AliasChange → ChangeParts Moving ⊤
 changes_alias view name change = record {
-  found = moving_of view name change;
-  questions = λ moving. on_other (action_of change) (alias_arn_of view.facts name) of_none ∷ (question_on view (action_of change) moving.old ++ question_on view (action_of change) moving.new);
-  tokens = [];
-  uses = λ moving. use_of (action_of change) moving.new;
-  own = λ moving. unless (taken view name change) (Ok tt);
-  effect = λ moving ready. appends (record { time = view.moment; what = done_to name moving.new });
-  dry_run = false;
-  reply = λ moving ready. reply.Done;
+  parts = record {
+    found = moving_of view name change;
+    questions = λ moving. on_other (action_of change) (alias_arn_of view.facts name) of_none ∷ (question_on view (action_of change) moving.old ++ question_on view (action_of change) moving.new);
+    tokens = [];
+    uses = λ moving. use_of (action_of change) moving.new;
+    own = λ moving. unless (taken view name change) (Ok tt);
+    dry_run = false;
+    reply = λ moving ready. reply.Done;
+  };
+  does = λ moving ready. Some (done_to name moving.new);
 }

@@ -1,10 +1,8 @@
 -- The operations on grants (AWS KMS API Reference, CreateGrant, RetireGrant, RevokeGrant): what each says of the steps.
-use Rattle.std.specs.Prelude.{ℕ, List, [], ◌∷◌, Bool, ◌&&◌, if◌then◌else◌, Option, Some, None, option_and_then, option_map, ok_or, Result, Ok, Err, ⊤}
+use Rattle.std.specs.Prelude.{ℕ, List, [], ◌∷◌, Bool, if◌then◌else◌, Option, Some, None, option_and_then, ok_or, Result, Ok, ⊤}
 use Rattle.std.specs.Str.{bytes_eq}
 use Rattle.enc_context.specs.declared.pairs.Pair.{Pair}
-use Rattle.kms_names.specs.Reading.{principal_of}
 use Rattle.kms_names.specs.declared.actions.Action.TheVariants as action
-use Rattle.kms_names.specs.declared.principals.Principal.{Principal}
 use Rattle.kms_json.specs.declared.asks.grants.CreateGrant.{CreateGrant}
 use Rattle.kms_json.specs.declared.asks.grants.GrantConstraint.{GrantConstraint}
 use Rattle.kms_json.specs.declared.asks.grants.GrantConstraint.TheVariants as given
@@ -20,16 +18,16 @@ use Rattle.grant_table.specs.declared.constraints.Constraint.TheVariants as cons
 use Rattle.grant_table.specs.declared.rows.GrantRow.{GrantRow}
 use Rattle.grant_table.specs.Grants.{same_as}
 use Rattle.key_states.specs.declared.rows.KeyRow.{KeyRow}
+use Rattle.account_rows.specs.declared.entries.What.{What}
 use Rattle.account_rows.specs.declared.entries.What.TheVariants as what
 use Rattle.account_keys.specs.declared.grants.Granting.{Granting}
 use Rattle.account_keys.specs.declared.grants.Revoking.{Revoking}
 use Rattle.account_steps.specs.Ids.{grant_id_at}
-use Rattle.account_steps.specs.Places.{nothing_used}
-use Rattle.account_steps.specs.Steps.{unless, and_then, only_key_of}
+use Rattle.account_steps.specs.Steps.{and_then, only_key_of}
 use Rattle.account_steps.specs.Authority.{on_key, retiring, of_key}
 use Rattle.account_steps.specs.View.{View, grant_held}
 use Rattle.account_steps.specs.Given.{principal_in, principal_if_given, grant_id_in}
-use Rattle.account_steps.specs.Parts.{Parts, Effect, takes, appends, grant_id_of, grant_of_token}
+use Rattle.account_steps.specs.Parts.{ChangeParts, grant_of_token}
 
 -- ---- what requests say
 
@@ -65,28 +63,28 @@ abbrev pub same_grant : View → CreateGrant → Granting → Option GrantRow
 same_grant view x granting =
     option_and_then (λ name. same_as view.grants granting.row.key name granting.grantee granting.retiring x.operations (constraint_of x.constraint)) x.name
 
-abbrev pub made_unless : Option GrantRow → View → CreateGrant → Granting → Effect
-made_unless (Some grant) view x granting = takes nothing_used
-made_unless None view x granting = appends (record {
-  time = view.moment;
-  what = what.GrantAdd (grant_id_at view.facts view.place) granting.row.key granting.grantee granting.retiring x.operations (constraint_of x.constraint) x.name;
-})
+abbrev pub made_unless : Option GrantRow → View → CreateGrant → Granting → Option What
+made_unless (Some grant) view x granting = None
+made_unless None view x granting =
+    Some (what.GrantAdd (grant_id_at view.facts view.place) granting.row.key granting.grantee granting.retiring x.operations (constraint_of x.constraint) x.name)
 
 abbrev pub id_or : List ℕ → Option GrantRow → List ℕ
 id_or id None = id
 id_or id (Some grant) = grant.grant
 
 -- CreateGrant: where the key has the grant of this name already, with all else the same, the reply is that grant's id
-abbrev pub creates_grant : View → CreateGrant → Parts Granting ⊤
+abbrev pub creates_grant : View → CreateGrant → ChangeParts Granting ⊤
 creates_grant view x = record {
-  found = granting_of view x;
-  questions = λ granting. on_key action.CreateGrant granting.row (of_grant view x granting) ∷ [];
-  tokens = x.grant_tokens;
-  uses = λ granting. record { action = action.CreateGrant; key = granting.row } ∷ [];
-  own = λ granting. Ok tt;
-  effect = λ granting ready. made_unless (same_grant view x granting) view x granting;
-  dry_run = x.dry_run;
-  reply = λ granting ready. reply.Granted (id_or (grant_id_at view.facts view.place) (same_grant view x granting));
+  parts = record {
+    found = granting_of view x;
+    questions = λ granting. on_key action.CreateGrant granting.row (of_grant view x granting) ∷ [];
+    tokens = x.grant_tokens;
+    uses = λ granting. record { action = action.CreateGrant; key = granting.row } ∷ [];
+    own = λ granting. Ok tt;
+    dry_run = x.dry_run;
+    reply = λ granting ready. reply.Granted (id_or (grant_id_at view.facts view.place) (same_grant view x granting));
+  };
+  does = λ granting ready. made_unless (same_grant view x granting) view x granting;
 }
 
 -- ---- RetireGrant and RevokeGrant
@@ -103,30 +101,34 @@ retired_of view (retired.OfToken token) = ok_or (grant_of_token view token) refu
 retired_of view (retired.OfKey key_id id) = and_then (only_key_of view key_id) (λ row. and_then (grant_id_in id) (λ grant. grant_of view row grant))
 
 -- RetireGrant
-abbrev pub retires_grant : View → RetiredGrant → Bool → Parts GrantRow ⊤
+abbrev pub retires_grant : View → RetiredGrant → Bool → ChangeParts GrantRow ⊤
 retires_grant view x dry_run = record {
-  found = retired_of view x;
-  questions = λ grant. retiring grant ∷ [];
-  tokens = [];
-  uses = λ grant. [];
-  own = λ grant. Ok tt;
-  effect = λ grant ready. appends (record { time = view.moment; what = what.GrantDrop grant.grant });
-  dry_run = dry_run;
-  reply = λ grant ready. reply.Done;
+  parts = record {
+    found = retired_of view x;
+    questions = λ grant. retiring grant ∷ [];
+    tokens = [];
+    uses = λ grant. [];
+    own = λ grant. Ok tt;
+    dry_run = dry_run;
+    reply = λ grant ready. reply.Done;
+  };
+  does = λ grant ready. Some (what.GrantDrop grant.grant);
 }
 
 abbrev pub revoking_of : View → List ℕ → List ℕ → Result Revoking Refusal
 revoking_of view key_id id = and_then (only_key_of view key_id) (λ row. and_then (grant_id_in id) (λ grant. Ok (record { row = row; grant = grant })))
 
 -- RevokeGrant
-abbrev pub revokes_grant : View → List ℕ → List ℕ → Bool → Parts Revoking GrantRow
+abbrev pub revokes_grant : View → List ℕ → List ℕ → Bool → ChangeParts Revoking GrantRow
 revokes_grant view key_id id dry_run = record {
-  found = revoking_of view key_id id;
-  questions = λ revoking. on_key action.RevokeGrant revoking.row (of_key view revoking.row.key) ∷ [];
-  tokens = [];
-  uses = λ revoking. record { action = action.RevokeGrant; key = revoking.row } ∷ [];
-  own = λ revoking. grant_of view revoking.row revoking.grant;
-  effect = λ revoking grant. appends (record { time = view.moment; what = what.GrantDrop grant.grant });
-  dry_run = dry_run;
-  reply = λ revoking grant. reply.Done;
+  parts = record {
+    found = revoking_of view key_id id;
+    questions = λ revoking. on_key action.RevokeGrant revoking.row (of_key view revoking.row.key) ∷ [];
+    tokens = [];
+    uses = λ revoking. record { action = action.RevokeGrant; key = revoking.row } ∷ [];
+    own = λ revoking. grant_of view revoking.row revoking.grant;
+    dry_run = dry_run;
+    reply = λ revoking grant. reply.Done;
+  };
+  does = λ revoking grant. Some (what.GrantDrop grant.grant);
 }

@@ -20,7 +20,7 @@ use Rattle.account_steps.specs.Steps.{only_key_of, arn_of}
 use Rattle.authority.specs.Setting.{Particulars}
 use Rattle.account_steps.specs.Authority.{on_key, of_key}
 use Rattle.account_steps.specs.View.{View}
-use Rattle.account_steps.specs.Parts.{Parts, Effect, takes, appends}
+use Rattle.account_steps.specs.Parts.{ReadParts, ChangeParts}
 
 abbrev pub action_of : KeyChange → Action
 action_of change.Enable = action.EnableKey
@@ -65,17 +65,17 @@ is_off (Some days) = false
 -- ---- what each does
 
 -- this is done, or there is nothing to do
-abbrev pub does_unless : Bool → ℕ → What → Effect
-does_unless done moment what = if done then takes nothing_used else appends (record { time = moment; what = what })
+abbrev pub does_unless : Bool → What → Option What
+does_unless done did = if done then None else Some did
 
-abbrev pub effect_at : ℕ → KeyRow → KeyChange → Effect
-effect_at moment row change.Enable = does_unless (is_enabled row.stored) moment (what.Enable row.key)
-effect_at moment row change.Disable = does_unless (is_disabled row.stored) moment (what.Disable row.key)
-effect_at moment row (change.ScheduleDeletion days) = does_unless false moment (what.Schedule row.key (days_after moment days) days)
-effect_at moment row change.CancelDeletion = does_unless false moment (what.Cancel row.key)
-effect_at moment row (change.RotateEvery period) = does_unless (is_period period row.period) moment (what.RotationOn row.key period)
-effect_at moment row change.RotateNoMore = does_unless (is_off row.period) moment (what.RotationOff row.key)
-effect_at moment row change.RotateNow = does_unless false moment (what.RotateNow row.key)
+abbrev pub done_at : ℕ → KeyRow → KeyChange → Option What
+done_at moment row change.Enable = does_unless (is_enabled row.stored) (what.Enable row.key)
+done_at moment row change.Disable = does_unless (is_disabled row.stored) (what.Disable row.key)
+done_at moment row (change.ScheduleDeletion days) = Some (what.Schedule row.key (days_after moment days) days)
+done_at moment row change.CancelDeletion = Some (what.Cancel row.key)
+done_at moment row (change.RotateEvery period) = does_unless (is_period period row.period) (what.RotationOn row.key period)
+done_at moment row change.RotateNoMore = does_unless (is_off row.period) (what.RotationOff row.key)
+done_at moment row change.RotateNow = Some (what.RotateNow row.key)
 
 abbrev pub reply_of : View → KeyRow → KeyChange → Reply
 reply_of view row change.Enable = reply.Done
@@ -87,29 +87,33 @@ reply_of view row change.RotateNoMore = reply.Done
 reply_of view row change.RotateNow = reply.Rotated row.key
 
 -- EnableKey, DisableKey, ScheduleKeyDeletion, CancelKeyDeletion, EnableKeyRotation, DisableKeyRotation, RotateKeyOnDemand
-abbrev pub changes_key : View → List ℕ → KeyChange → Parts KeyRow ⊤
+abbrev pub changes_key : View → List ℕ → KeyChange → ChangeParts KeyRow ⊤
 changes_key view reference change = record {
-  found = only_key_of view reference;
-  questions = λ row. on_key (action_of change) row (said_of change (of_key view row.key)) ∷ [];
-  tokens = [];
-  uses = λ row. record { action = action_of change; key = row } ∷ [];
-  own = λ row. Ok tt;
-  effect = λ row ready. effect_at view.moment row change;
-  dry_run = false;
-  reply = λ row ready. reply_of view row change;
+  parts = record {
+    found = only_key_of view reference;
+    questions = λ row. on_key (action_of change) row (said_of change (of_key view row.key)) ∷ [];
+    tokens = [];
+    uses = λ row. record { action = action_of change; key = row } ∷ [];
+    own = λ row. Ok tt;
+    dry_run = false;
+    reply = λ row ready. reply_of view row change;
+  };
+  does = λ row ready. done_at view.moment row change;
 }
 
 -- UpdateKeyDescription
-abbrev pub updates_description : View → List ℕ → List ℕ → Parts KeyRow ⊤
+abbrev pub updates_description : View → List ℕ → List ℕ → ChangeParts KeyRow ⊤
 updates_description view reference text = record {
-  found = only_key_of view reference;
-  questions = λ row. on_key action.UpdateKeyDescription row (of_key view row.key) ∷ [];
-  tokens = [];
-  uses = λ row. record { action = action.UpdateKeyDescription; key = row } ∷ [];
-  own = λ row. Ok tt;
-  effect = λ row ready. appends (record { time = view.moment; what = what.Description row.key text });
-  dry_run = false;
-  reply = λ row ready. reply.Done;
+  parts = record {
+    found = only_key_of view reference;
+    questions = λ row. on_key action.UpdateKeyDescription row (of_key view row.key) ∷ [];
+    tokens = [];
+    uses = λ row. record { action = action.UpdateKeyDescription; key = row } ∷ [];
+    own = λ row. Ok tt;
+    dry_run = false;
+    reply = λ row ready. reply.Done;
+  };
+  does = λ row ready. Some (what.Description row.key text);
 }
 
 -- the next automatic rotation, and its period
@@ -117,14 +121,16 @@ abbrev pub rotation_of : KeyRow → Option AutomaticRotation
 rotation_of row = option_map (λ period. record { next = row.next; period = period }) row.period
 
 -- GetKeyRotationStatus
-abbrev pub gets_rotation_status : View → List ℕ → Parts KeyRow ⊤
+abbrev pub gets_rotation_status : View → List ℕ → ReadParts KeyRow ⊤
 gets_rotation_status view reference = record {
-  found = only_key_of view reference;
-  questions = λ row. on_key action.GetKeyRotationStatus row (of_key view row.key) ∷ [];
-  tokens = [];
-  uses = λ row. record { action = action.GetKeyRotationStatus; key = row } ∷ [];
-  own = λ row. Ok tt;
-  effect = λ row ready. takes nothing_used;
-  dry_run = false;
-  reply = λ row ready. reply.RotationStatus row.key (rotation_of row);
+  parts = record {
+    found = only_key_of view reference;
+    questions = λ row. on_key action.GetKeyRotationStatus row (of_key view row.key) ∷ [];
+    tokens = [];
+    uses = λ row. record { action = action.GetKeyRotationStatus; key = row } ∷ [];
+    own = λ row. Ok tt;
+    dry_run = false;
+    reply = λ row ready. reply.RotationStatus row.key (rotation_of row);
+  };
+  takes = nothing_used;
 }

@@ -15,14 +15,13 @@ use Rattle.kms_json.specs.declared.replies.Reply.TheVariants as reply
 use Rattle.authority.specs.KeyPolicy.{default_text}
 use Rattle.account_steps.specs.declared.facts.RealmFacts.{RealmFacts}
 use Rattle.account_rows.specs.declared.entries.What.TheVariants as what
-use Rattle.key_states.specs.declared.rows.KeyRow.{KeyRow}
 use Rattle.account_steps.specs.Ids.{key_id_at}
 use Rattle.account_steps.specs.Places.{nothing_used}
 use Rattle.account_steps.specs.Steps.{unless, or_else, unsupported, key_of}
 use Rattle.account_steps.specs.Authority.{on_key, on_other, of_new_key, of_named}
 use Rattle.account_steps.specs.View.{View}
 use Rattle.account_steps.specs.declared.checks.Named.{Named}
-use Rattle.account_steps.specs.Parts.{Parts, takes, appends, told_state}
+use Rattle.account_steps.specs.Parts.{ReadParts, ChangeParts, told_state}
 use Rattle.account_keys.specs.Policies.{policy_refused}
 
 -- a key as replies describe it
@@ -57,27 +56,31 @@ refused_if_given view None bypass = None
 refused_if_given view (Some text) bypass = policy_refused view (key_id_at view.facts view.place) text bypass
 
 -- CreateKey: a key whose id is that of the next place
-abbrev pub creates_key : View → CreateKey → Parts ⊤ ⊤
+abbrev pub creates_key : View → CreateKey → ChangeParts ⊤ ⊤
 creates_key view x = record {
-  found = Ok tt;
-  questions = λ found. on_other action.CreateKey (codes "*") (record of_new_key { bypass = Some x.bypass_lockout_check }) ∷ [];
-  tokens = [];
-  uses = λ found. [];
-  own = λ found. unless (unserved_key x) (unless (refused_if_given view x.policy x.bypass_lockout_check) (Ok tt));
-  effect = λ found ready. appends (record { time = view.moment; what = what.CreateKey (key_id_at view.facts view.place) x.description (policy_or_default view.facts.account x.policy) });
-  dry_run = false;
-  reply = λ found ready. reply.Metadata (description_of view.facts (key_id_at view.facts view.place) view.moment x.description state.Enabled);
+  parts = record {
+    found = Ok tt;
+    questions = λ found. on_other action.CreateKey (codes "*") (record of_new_key { bypass = Some x.bypass_lockout_check }) ∷ [];
+    tokens = [];
+    uses = λ found. [];
+    own = λ found. unless (unserved_key x) (unless (refused_if_given view x.policy x.bypass_lockout_check) (Ok tt));
+    dry_run = false;
+    reply = λ found ready. reply.Metadata (description_of view.facts (key_id_at view.facts view.place) view.moment x.description state.Enabled);
+  };
+  does = λ found ready. Some (what.CreateKey (key_id_at view.facts view.place) x.description (policy_or_default view.facts.account x.policy));
 }
 
 -- DescribeKey
-abbrev pub describes_key : View → List ℕ → List (List ℕ) → Parts Named ⊤
+abbrev pub describes_key : View → List ℕ → List (List ℕ) → ReadParts Named ⊤
 describes_key view reference tokens = record {
-  found = key_of view reference;
-  questions = λ named. on_key action.DescribeKey named.row (of_named view named.row.key named.alias) ∷ [];
-  tokens = tokens;
-  uses = λ named. record { action = action.DescribeKey; key = named.row } ∷ [];
-  own = λ named. Ok tt;
-  effect = λ named ready. takes nothing_used;
-  dry_run = false;
-  reply = λ named ready. reply.Metadata (description_of view.facts named.row.key named.row.made named.row.description (told_state named.row.stored));
+  parts = record {
+    found = key_of view reference;
+    questions = λ named. on_key action.DescribeKey named.row (of_named view named.row.key named.alias) ∷ [];
+    tokens = tokens;
+    uses = λ named. record { action = action.DescribeKey; key = named.row } ∷ [];
+    own = λ named. Ok tt;
+    dry_run = false;
+    reply = λ named ready. reply.Metadata (description_of view.facts named.row.key named.row.made named.row.description (told_state named.row.stored));
+  };
+  takes = nothing_used;
 }

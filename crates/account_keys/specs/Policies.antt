@@ -18,7 +18,7 @@ use Rattle.account_steps.specs.Places.{nothing_used}
 use Rattle.account_steps.specs.Steps.{unless, only_key_of}
 use Rattle.account_steps.specs.Authority.{on_key, may_on_key, of_key}
 use Rattle.account_steps.specs.View.{View}
-use Rattle.account_steps.specs.Parts.{Parts, takes, appends}
+use Rattle.account_steps.specs.Parts.{ReadParts, ChangeParts}
 
 -- a fault of a document, as a refusal tells it
 abbrev pub flaw_of : PolicyFault → PolicyFlaw
@@ -59,27 +59,31 @@ unfoldable pub policy_refused : View → List ℕ → List ℕ → Bool → Opti
 policy_refused view key text bypass = refused_by (fault_in text) (locked_out view (policy_in text) key bypass)
 
 -- PutKeyPolicy
-abbrev pub puts_policy : View → List ℕ → List ℕ → Bool → Parts KeyRow ⊤
+abbrev pub puts_policy : View → List ℕ → List ℕ → Bool → ChangeParts KeyRow ⊤
 puts_policy view reference text bypass = record {
-  found = only_key_of view reference;
-  questions = λ row. on_key action.PutKeyPolicy row (record (of_key view row.key) { bypass = Some bypass }) ∷ [];
-  tokens = [];
-  uses = λ row. record { action = action.PutKeyPolicy; key = row } ∷ [];
-  own = λ row. unless (policy_refused view row.key text bypass) (Ok tt);
-  effect = λ row ready. appends (record { time = view.moment; what = what.Policy row.key text });
-  dry_run = false;
-  reply = λ row ready. reply.Done;
+  parts = record {
+    found = only_key_of view reference;
+    questions = λ row. on_key action.PutKeyPolicy row (record (of_key view row.key) { bypass = Some bypass }) ∷ [];
+    tokens = [];
+    uses = λ row. record { action = action.PutKeyPolicy; key = row } ∷ [];
+    own = λ row. unless (policy_refused view row.key text bypass) (Ok tt);
+    dry_run = false;
+    reply = λ row ready. reply.Done;
+  };
+  does = λ row ready. Some (what.Policy row.key text);
 }
 
 -- GetKeyPolicy: the text as it was put
-abbrev pub gets_policy : View → List ℕ → Parts KeyRow ⊤
+abbrev pub gets_policy : View → List ℕ → ReadParts KeyRow ⊤
 gets_policy view reference = record {
-  found = only_key_of view reference;
-  questions = λ row. on_key action.GetKeyPolicy row (of_key view row.key) ∷ [];
-  tokens = [];
-  uses = λ row. record { action = action.GetKeyPolicy; key = row } ∷ [];
-  own = λ row. Ok tt;
-  effect = λ row ready. takes nothing_used;
-  dry_run = false;
-  reply = λ row ready. reply.KeyPolicy row.policy;
+  parts = record {
+    found = only_key_of view reference;
+    questions = λ row. on_key action.GetKeyPolicy row (of_key view row.key) ∷ [];
+    tokens = [];
+    uses = λ row. record { action = action.GetKeyPolicy; key = row } ∷ [];
+    own = λ row. Ok tt;
+    dry_run = false;
+    reply = λ row ready. reply.KeyPolicy row.policy;
+  };
+  takes = nothing_used;
 }

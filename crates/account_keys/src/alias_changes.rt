@@ -2,7 +2,7 @@
 ghost use Rattle.std.specs.Prelude.{◌≡◌};
 ghost use Rattle.account_keys.specs.Aliases.{action_of, changes_alias};
 
-use account_rows::{Entry, Lent, What};
+use account_rows::{Lent, What};
 use account_steps::{
     Changes, LentText, Made, Operation, Stop, View, key_of_alias, of_key, of_none, only_key_of,
     refuse,
@@ -120,7 +120,7 @@ impl<'a> Operation for ChangingAlias<'a> {
 
     ghost seen = { λ op. op.view.now };
 
-    ghost parts = { λ op. changes_alias op.view.now op.name.now op.change };
+    ghost parts = { λ op. (changes_alias op.view.now op.name.now op.change).parts };
 
     fn view(&self) -> &View<'_> {
         self.view
@@ -169,13 +169,12 @@ impl<'a> Operation for ChangingAlias<'a> {
 }
 
 impl<'a> Changes for ChangingAlias<'a> {
+    ghost does = { λ op. (changes_alias op.view.now op.name.now op.change).does };
+
     fn make(&self, _alloc: Global, found: Moving<'a>, _ready: ()) -> Result<Made, NoMemory> {
         Ok(Made {
             reply: Reply::Done,
-            entry: Some(Entry {
-                time: self.view.moment(),
-                what: self.done_to(&found.new)?,
-            }),
+            what: Some(self.done_to(&found.new)?),
         })
     }
 }

@@ -5,7 +5,7 @@ ghost use Rattle.account_rows.specs.declared.entries.What.TheVariants as what;
 ghost use Rattle.account_steps.specs.Steps.{Gives};
 ghost use Rattle.account_keys.specs.Grants.{constraint_of, pairs_of, grant_of, creates_grant, retires_grant, revokes_grant};
 
-use account_rows::{Entry, Lent, What, same_key};
+use account_rows::{Lent, What, same_key};
 use account_steps::{
     Changes, LentGrant, Made, Operation, Stop, View, grant_id, grant_id_in, grant_of_token, of_key,
     only_key_of, principal_if_given, principal_in,
@@ -89,7 +89,6 @@ pub fn creating_grant<'a>(
 impl<'a> CreatingGrant<'a> {
     ghost use Rattle.std.specs.Prelude.{◌≡◌, IfOk, None, option_map};
     ghost use Rattle.account_steps.specs.Ids.{grant_id_at};
-    ghost use Rattle.account_steps.specs.Parts.{appends};
     ghost use Rattle.account_keys.specs.Grants.{same_grant, of_grant, made_unless};
 
     // What the request says of itself.
@@ -126,25 +125,22 @@ impl<'a> CreatingGrant<'a> {
     }
 
     // The grant that is made.
-    fn added(&self, found: Granting<'a>, grant: GrantId) -> Result<Entry, NoMemory>
+    fn added(&self, found: Granting<'a>, grant: GrantId) -> Result<What, NoMemory>
         requires { grant ≡ grant_id_at self.now.view.now.facts self.now.view.now.place }
-        ensures { IfOk result (λ entry. appends entry ≡ made_unless None self.now.view.now self.now.x.now found.entry) }
+        ensures { IfOk result (λ what. Some what ≡ made_unless None self.now.view.now self.now.x.now found.entry) }
     {
         let name = match &self.x.name {
             Some(name) => Some(name.copy()?),
             None => None,
         };
-        Ok(Entry {
-            time: self.view.moment(),
-            what: What::GrantAdd {
-                grant,
-                key: found.row.row().key,
-                grantee: found.grantee,
-                retiring: found.retiring,
-                operations: self.x.operations,
-                constraint: self.constraint.copy()?,
-                name,
-            },
+        Ok(What::GrantAdd {
+            grant,
+            key: found.row.row().key,
+            grantee: found.grantee,
+            retiring: found.retiring,
+            operations: self.x.operations,
+            constraint: self.constraint.copy()?,
+            name,
         })
     }
 }
@@ -156,7 +152,7 @@ impl<'a> Operation for CreatingGrant<'a> {
 
     ghost seen = { λ op. op.view.now };
 
-    ghost parts = { λ op. creates_grant op.view.now op.x.now };
+    ghost parts = { λ op. (creates_grant op.view.now op.x.now).parts };
 
     fn view(&self) -> &View<'_> {
         self.view
@@ -196,17 +192,19 @@ impl<'a> Operation for CreatingGrant<'a> {
 }
 
 impl<'a> Changes for CreatingGrant<'a> {
+    ghost does = { λ op. (creates_grant op.view.now op.x.now).does };
+
     fn make(&self, _alloc: Global, found: Granting<'a>, _ready: ()) -> Result<Made, NoMemory> {
         if let Some(same) = self.same_grant(&found) {
             return Ok(Made {
                 reply: Reply::Granted { grant: same.grant },
-                entry: None,
+                what: None,
             });
         }
         let grant = grant_id(self.view.facts(), self.view.place());
         Ok(Made {
             reply: Reply::Granted { grant },
-            entry: Some(self.added(found, grant)?),
+            what: Some(self.added(found, grant)?),
         })
     }
 }
@@ -229,7 +227,7 @@ impl<'a> Operation for RetiringGrant<'a> {
 
     ghost seen = { λ op. op.view.now };
 
-    ghost parts = { λ op. retires_grant op.view.now op.grant.now op.dry_run };
+    ghost parts = { λ op. (retires_grant op.view.now op.grant.now op.dry_run).parts };
 
     fn view(&self) -> &View<'_> {
         self.view
@@ -271,23 +269,22 @@ impl<'a> Operation for RetiringGrant<'a> {
 }
 
 // A grant is dropped.
-fn dropped(time: u64, grant: &LentGrant<'_>) -> Made
-    ensures { result ≡ record { reply = reply.Done; entry = Some (record { time = time; what = what.GrantDrop grant.now.grant }) } }
+fn dropped(grant: &LentGrant<'_>) -> Made
+    ensures { result ≡ record { reply = reply.Done; what = Some (what.GrantDrop grant.now.grant) } }
 {
     Made {
         reply: Reply::Done,
-        entry: Some(Entry {
-            time,
-            what: What::GrantDrop {
-                grant: grant.row().grant,
-            },
+        what: Some(What::GrantDrop {
+            grant: grant.row().grant,
         }),
     }
 }
 
 impl<'a> Changes for RetiringGrant<'a> {
+    ghost does = { λ op. (retires_grant op.view.now op.grant.now op.dry_run).does };
+
     fn make(&self, _alloc: Global, found: LentGrant<'a>, _ready: ()) -> Result<Made, NoMemory> {
-        Ok(dropped(self.view.moment(), &found))
+        Ok(dropped(&found))
     }
 }
 
@@ -320,7 +317,7 @@ impl<'a> Operation for RevokingGrant<'a> {
 
     ghost seen = { λ op. op.view.now };
 
-    ghost parts = { λ op. revokes_grant op.view.now op.key_id.now op.grant_id.now op.dry_run };
+    ghost parts = { λ op. (revokes_grant op.view.now op.key_id.now op.grant_id.now op.dry_run).parts };
 
     fn view(&self) -> &View<'_> {
         self.view
@@ -356,12 +353,14 @@ impl<'a> Operation for RevokingGrant<'a> {
 }
 
 impl<'a> Changes for RevokingGrant<'a> {
+    ghost does = { λ op. (revokes_grant op.view.now op.key_id.now op.grant_id.now op.dry_run).does };
+
     fn make(
         &self,
         _alloc: Global,
         _found: Revoking<'a>,
         ready: LentGrant<'a>,
     ) -> Result<Made, NoMemory> {
-        Ok(dropped(self.view.moment(), &ready))
+        Ok(dropped(&ready))
     }
 }

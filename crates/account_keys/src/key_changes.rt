@@ -1,9 +1,8 @@
 // The operations on the state, the rotation and the description of a key.
 ghost use Rattle.std.specs.Prelude.{◌≡◌, ◌<◌, ◌≤◌, IfOk};
-ghost use Rattle.account_keys.specs.KeyChanges.{action_of, said_of, effect_at, reply_of, rotation_of, changes_key, updates_description, gets_rotation_status};
-ghost use Rattle.account_steps.specs.Settling.{effect_with};
+ghost use Rattle.account_keys.specs.KeyChanges.{action_of, said_of, done_at, reply_of, rotation_of, changes_key, updates_description, gets_rotation_status};
 
-use account_rows::{Entry, Lent, What, days_after};
+use account_rows::{Lent, What, days_after};
 use account_steps::{Changes, Made, Operation, Reads, Stop, Uses, View, of_key, only_key_of};
 use authority::Particulars;
 use draw_lines::DrawLine;
@@ -69,13 +68,13 @@ impl KeyChange {
     }
 }
 
-// What is appended, where there is something to do.
-fn entry_of(row: &KeyRow, moment: u64, change: KeyChange) -> Option<Entry>
+// What is done at a moment, where there is something to do.
+fn done_at(row: &KeyRow, moment: u64, change: KeyChange) -> Option<What>
     requires { moment < 253402300800 }
-    ensures { effect_with result ≡ effect_at moment row.now change }
+    ensures { result ≡ done_at moment row.now change }
 {
     let key = row.key;
-    let what = match change {
+    Some(match change {
         KeyChange::Enable if row.stored == Stored::Enabled => return None,
         KeyChange::Enable => What::Enable { key },
         KeyChange::Disable if row.stored == Stored::Disabled => return None,
@@ -91,8 +90,7 @@ fn entry_of(row: &KeyRow, moment: u64, change: KeyChange) -> Option<Entry>
         KeyChange::RotateNoMore if row.period.is_none() => return None,
         KeyChange::RotateNoMore => What::RotationOff { key },
         KeyChange::RotateNow => What::RotateNow { key },
-    };
-    Some(Entry { time: moment, what })
+    })
 }
 
 /// One of the operations on a key's state or rotation.
@@ -138,7 +136,7 @@ impl<'a> Operation for ChangingKey<'a> {
 
     ghost seen = { λ op. op.view.now };
 
-    ghost parts = { λ op. changes_key op.view.now op.key_id.now op.change };
+    ghost parts = { λ op. (changes_key op.view.now op.key_id.now op.change).parts };
 
     fn view(&self) -> &View<'_> {
         self.view
@@ -172,11 +170,13 @@ impl<'a> Operation for ChangingKey<'a> {
 }
 
 impl<'a> Changes for ChangingKey<'a> {
+    ghost does = { λ op. (changes_key op.view.now op.key_id.now op.change).does };
+
     fn make(&self, alloc: Global, found: Lent<'a>, _ready: ()) -> Result<Made, NoMemory> {
         let row = found.row();
         Ok(Made {
             reply: self.reply(alloc, row)?,
-            entry: entry_of(row, self.view.moment(), self.change),
+            what: done_at(row, self.view.moment(), self.change),
         })
     }
 }
@@ -199,7 +199,7 @@ impl<'a> Operation for UpdatingDescription<'a> {
 
     ghost seen = { λ op. op.view.now };
 
-    ghost parts = { λ op. updates_description op.view.now op.key_id.now op.description.now };
+    ghost parts = { λ op. (updates_description op.view.now op.key_id.now op.description.now).parts };
 
     fn view(&self) -> &View<'_> {
         self.view
@@ -233,16 +233,15 @@ impl<'a> Operation for UpdatingDescription<'a> {
 }
 
 impl<'a> Changes for UpdatingDescription<'a> {
+    ghost does = { λ op. (updates_description op.view.now op.key_id.now op.description.now).does };
+
     fn make(&self, _alloc: Global, found: Lent<'a>, _ready: ()) -> Result<Made, NoMemory> {
         let text = self.description.copy()?;
         Ok(Made {
             reply: Reply::Done,
-            entry: Some(Entry {
-                time: self.view.moment(),
-                what: What::Description {
-                    key: found.row().key,
-                    text,
-                },
+            what: Some(What::Description {
+                key: found.row().key,
+                text,
             }),
         })
     }
@@ -277,7 +276,7 @@ impl<'a> Operation for GettingRotationStatus<'a> {
 
     ghost seen = { λ op. op.view.now };
 
-    ghost parts = { λ op. gets_rotation_status op.view.now op.key_id.now };
+    ghost parts = { λ op. (gets_rotation_status op.view.now op.key_id.now).parts };
 
     fn view(&self) -> &View<'_> {
         self.view
@@ -311,6 +310,8 @@ impl<'a> Operation for GettingRotationStatus<'a> {
 }
 
 impl<'a> Reads for GettingRotationStatus<'a> {
+    ghost takes = { λ op. (gets_rotation_status op.view.now op.key_id.now).takes };
+
     fn uses(&self) -> Uses {
         Uses::NOTHING
     }

@@ -5,7 +5,7 @@ ghost use Rattle.account_steps.specs.Steps.{Passes};
 ghost use Rattle.account_keys.specs.Keys.{description_of, creates_key, describes_key, unsupported_unless, unserved_key, policy_or_default, refused_if_given};
 
 use crate::policies::accept;
-use account_rows::{Entry, What};
+use account_rows::What;
 use account_steps::{
     Changes, Made, Named, Operation, Reads, Stop, Uses, View, key_id, key_of, of_named, of_new_key,
     refuse, told_state, unsupported,
@@ -113,7 +113,7 @@ impl<'a> Operation for CreatingKey<'a> {
 
     ghost seen = { λ op. op.view.now };
 
-    ghost parts = { λ op. creates_key op.view.now op.x.now };
+    ghost parts = { λ op. (creates_key op.view.now op.x.now).parts };
 
     fn view(&self) -> &View<'_> {
         self.view
@@ -155,6 +155,8 @@ impl<'a> Operation for CreatingKey<'a> {
 }
 
 impl<'a> Changes for CreatingKey<'a> {
+    ghost does = { λ op. (creates_key op.view.now op.x.now).does };
+
     fn make(&self, alloc: Global, _found: (), _ready: ()) -> Result<Made, NoMemory> {
         let time = self.view.moment();
         let facts = self.view.facts();
@@ -164,13 +166,10 @@ impl<'a> Changes for CreatingKey<'a> {
         let policy = policy_or_default(alloc, &facts.account, &self.x.policy)?;
         Ok(Made {
             reply: Reply::Metadata(metadata),
-            entry: Some(Entry {
-                time,
-                what: What::CreateKey {
-                    key,
-                    description,
-                    policy,
-                },
+            what: Some(What::CreateKey {
+                key,
+                description,
+                policy,
             }),
         })
     }
@@ -194,7 +193,7 @@ impl<'a> Operation for DescribingKey<'a> {
 
     ghost seen = { λ op. op.view.now };
 
-    ghost parts = { λ op. describes_key op.view.now op.key_id.now op.grant_tokens.now };
+    ghost parts = { λ op. (describes_key op.view.now op.key_id.now op.grant_tokens.now).parts };
 
     fn view(&self) -> &View<'_> {
         self.view
@@ -228,6 +227,8 @@ impl<'a> Operation for DescribingKey<'a> {
 }
 
 impl<'a> Reads for DescribingKey<'a> {
+    ghost takes = { λ op. (describes_key op.view.now op.key_id.now op.grant_tokens.now).takes };
+
     fn uses(&self) -> Uses {
         Uses::NOTHING
     }

@@ -7,7 +7,7 @@ ghost use Rattle.account_steps.specs.declared.stops.Stop.TheVariants as stop;
 ghost use Rattle.account_steps.specs.Steps.{Passes};
 ghost use Rattle.account_keys.specs.Policies.{StopsAt, IsStopAt, may_put_again, locked_out, policy_refused, puts_policy, gets_policy};
 
-use account_rows::{Entry, Lent, What};
+use account_rows::{Lent, What};
 use account_steps::{Changes, Made, Operation, Reads, Stop, Uses, View, of_key, only_key_of};
 use authority::{KeyPolicy, Particulars};
 use draw_lines::DrawLine;
@@ -134,7 +134,7 @@ impl<'a> Operation for PuttingPolicy<'a> {
 
     ghost seen = { λ op. op.view.now };
 
-    ghost parts = { λ op. puts_policy op.view.now op.key_id.now op.policy.now op.bypass };
+    ghost parts = { λ op. (puts_policy op.view.now op.key_id.now op.policy.now op.bypass).parts };
 
     fn view(&self) -> &View<'_> {
         self.view
@@ -168,16 +168,15 @@ impl<'a> Operation for PuttingPolicy<'a> {
 }
 
 impl<'a> Changes for PuttingPolicy<'a> {
+    ghost does = { λ op. (puts_policy op.view.now op.key_id.now op.policy.now op.bypass).does };
+
     fn make(&self, _alloc: Global, found: Lent<'a>, _ready: ()) -> Result<Made, NoMemory> {
         let text = self.policy.copy()?;
         Ok(Made {
             reply: Reply::Done,
-            entry: Some(Entry {
-                time: self.view.moment(),
-                what: What::Policy {
-                    key: found.row().key,
-                    text,
-                },
+            what: Some(What::Policy {
+                key: found.row().key,
+                text,
             }),
         })
     }
@@ -199,7 +198,7 @@ impl<'a> Operation for GettingPolicy<'a> {
 
     ghost seen = { λ op. op.view.now };
 
-    ghost parts = { λ op. gets_policy op.view.now op.key_id.now };
+    ghost parts = { λ op. (gets_policy op.view.now op.key_id.now).parts };
 
     fn view(&self) -> &View<'_> {
         self.view
@@ -233,6 +232,8 @@ impl<'a> Operation for GettingPolicy<'a> {
 }
 
 impl<'a> Reads for GettingPolicy<'a> {
+    ghost takes = { λ op. (gets_policy op.view.now op.key_id.now).takes };
+
     fn uses(&self) -> Uses {
         Uses::NOTHING
     }

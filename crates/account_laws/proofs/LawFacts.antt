@@ -1,5 +1,5 @@
 -- The laws of sealing.
-use Rattle.std.proofs.Common.{◌≡◌, ℕ, ◌-◌, ◌<◌, ◌≤◌, ◌^◌, max, List, [], ◌∷◌, ◌++◌, length, take, drop, get_or, codes, Bool, true, false, nat_le, le-leb, Option, Some, None, Result, Ok, Err, refl, sym, ap, ◌∙◌, subst, if◌then◌else◌, append_assoc, arith, length-append, length-take}
+use Rattle.std.proofs.Common.{◌≡◌, ℕ, ◌-◌, ◌<◌, ◌≤◌, ◌^◌, List, [], ◌∷◌, ◌++◌, length, take, drop, get_or, Bool, true, false, nat_le, le-leb, Option, Some, None, Result, Ok, Err, refl, sym, ap, ◌∙◌, subst, if◌then◌else◌, append_assoc, arith, length-append}
 use Rattle.std.specs.Prelude.{ok_or}
 use Rattle.std.specs.Int.{w16, w32, to_be_bytes}
 use Rattle.std.specs.List.Sorted.{IsNonDecreasingBy}
@@ -7,8 +7,6 @@ use Rattle.std.proofs.lemmas.List.Sorted.{IsNonDecreasingBy-push}
 use Rattle.std.proofs.lemmas.List.{take_at, drop_at, get_or_push}
 use Rattle.draw_lines.specs.Iv.{iv_at}
 use Rattle.draw_lines.proofs.IvFacts.{count_told, pass_told}
-use Rattle.mac_sha.specs.Hmac.{hmac_sha256}
-use Rattle.mac_sha.proofs.HmacFacts.{hmac_length}
 use Rattle.blob_format.specs.Blob.{blob_head, blob_text}
 use Rattle.blob_format.proofs.BlobFacts.{told}
 use Rattle.enc_context.specs.declared.pairs.Pair.{Pair}
@@ -37,9 +35,10 @@ use Rattle.key_states.specs.declared.states.Stored.{Stored}
 use Rattle.key_states.specs.declared.states.Stored.TheVariants as at
 use Rattle.key_states.specs.Permissions.{refusal_of, need_of}
 use Rattle.key_states.specs.States.{state_of}
-use Rattle.account_steps.specs.Ids.{key_id_at, be32, be48}
+use Rattle.account_steps.specs.Ids.{be48}
 use Rattle.account_steps.specs.Places.{IsUpTo, nothing_used}
 use Rattle.account_steps.specs.declared.places.Places.{Places}
+use Rattle.account_steps.specs.declared.places.Uses.{Uses}
 use Rattle.blob_format.specs.Names.{BlobName, name_in, named_in}
 use Rattle.account_rows.specs.History.{replay, latest_of, key_with, IsRowOf}
 use Rattle.account_steps.specs.Source.{Source}
@@ -47,10 +46,11 @@ use Rattle.account_steps.specs.View.{View, view_of, unless_gone, key_held}
 use Rattle.account_steps.specs.Steps.{unless, and_then, or_else, unfit, unsupported, key_if_given, other_key, alias_of, blob_name, source_in, source_of, newest_version, opens, seals, arn_of}
 use Rattle.account_steps.specs.Authority.{on_key, denied, MayAsk}
 use Rattle.account_steps.specs.declared.checks.Named.{Named}
-use Rattle.account_steps.specs.Parts.{Outcome, takes, outcome, dead_token, decided_by, only_asked, refused_state, unfit_one, told_state}
+use Rattle.account_steps.specs.Parts.{Outcome, reads, spent, dead_token, decided_read, only_asked, refused_state, unfit_one, told_state}
 use Rattle.account_crypto.specs.Crypto.{decrypts}
 use Rattle.account_steps.specs.Authority.{of_context}
-use Rattle.account_core.specs.Decide.{lacking, body_outcome, decide, IsNext, appended, kept, IsLawful, empty, longer}
+use Rattle.account_core.specs.Operations.{read_outcome}
+use Rattle.account_core.specs.Decide.{lacking, decide_body, decide, IsLawful, empty, longer}
 use Rattle.account_laws.specs.Laws.{reply_to, PassGoesOn, no_request, one_more, wants_memory, iv_in, exception_of, unless_excepted, SealedIsDecryptedAgain, OnePassRepeatsNoIv, PassesShareNoIv, TimesNeverFall, HouseIsKeptOnce, KeysDiffer, GrantsDiffer}
 use Rattle.blob_format.proofs.BlobNames.{named_blob}
 use Rattle.account_core.proofs.GoingOn.{decide_goes_on}
@@ -58,7 +58,7 @@ use Rattle.account_rows.specs.Changes.{HasVersions, is_gone, is_state_gone}
 use Rattle.account_rows.proofs.RowFacts.{found_key, found_all, latest-push}
 use Rattle.account_rows.proofs.VersionFacts.{versions_grow}
 use Rattle.account_rows.proofs.HouseFacts.{kept_once}
-use Rattle.account_core.proofs.Fitting.{HasLaws, laws_of, comes_next, lawful_front, id_ends, grant_ends}
+use Rattle.account_core.proofs.Fitting.{laws_of, comes_next, lawful_front, id_ends, grant_ends}
 use Rattle.account_steps.proofs.Asking.{one_passes}
 use Rattle.account_laws.proofs.LawSealings.{IsText, is_sealed, there_of}
 use Rattle.account_steps.proofs.Passing.{goes_through, stops_at_state}
@@ -185,27 +185,27 @@ module _ (view : View) (row : KeyRow) (version : ℕ) (there : key_held view row
           by_test false e = refl
 
   decrypted_is : (d : Decrypt) (given : Option Named) (plaintext : List ℕ) (e : Option Refusal) → key_if_given view d.key_id ≡ Ok given → other_key given row.key ≡ None → named_in d.blob ≡ Some (record { key = row.key; version = version })
-      → version ≤ newest_version row → opened view.facts.root d.blob d.context ≡ Some plaintext → denied view ((decrypts view d).questions (source given d.blob)) ≡ None → dead_token view d.grant_tokens ≡ None
+      → version ≤ newest_version row → opened view.facts.root d.blob d.context ≡ Some plaintext → denied view ((decrypts view d).parts.questions (source given d.blob)) ≡ None → dead_token view d.grant_tokens ≡ None
       → unfit_one view (record { action = action.Decrypt; key = row }) ≡ e → unfit d.algorithm ≡ None → d.recipient ≡ false → d.dry_run ≡ false
-      → (decided_by (outcome view (decrypts view d)) view.places).reply ≡ unless_excepted e (reply.Decrypted plaintext (arn_of view.facts row.key))
+      → (decided_read (reads view (decrypts view d)) view.places).reply ≡ unless_excepted e (reply.Decrypted plaintext (arn_of view.facts row.key))
   decrypted_is d given plaintext None is right named old opens_to allowed live state fit no_recipient no_dry_run =
-      let own : (decrypts view d).own (source given d.blob) ≡ Ok plaintext =
+      let own : (decrypts view d).parts.own (source given d.blob) ≡ Ok plaintext =
       ap (λ (o : Option Refusal). unless o (unless (unsupported d.recipient Recipient) (opens view.facts (source given d.blob) d.context))) fit
       ∙ ap (λ (b : Bool). unless (unsupported b Recipient) (opens view.facts (source given d.blob) d.context)) no_recipient
       ∙ ap (λ (b : Bool). if b then ok_or (opened view.facts.root d.blob d.context) refusal.InvalidCiphertext else Err refusal.InvalidCiphertext) (le-leb version (newest_version row) old)
       ∙ ap (λ (o : Option (List ℕ)). ok_or o refusal.InvalidCiphertext) opens_to in
-      ap (λ (wanted : Result Outcome Refusal). (decided_by wanted view.places).reply)
-      (goes_through view (decrypts view d) (source given d.blob) plaintext (source_is d.key_id given d.blob is right named) allowed live (ap (λ (o : Option Refusal). or_else o None) state) own refl (ap only_asked no_dry_run))
+      ap (λ (wanted : Result (Outcome Uses) Refusal). (decided_read wanted view.places).reply)
+      (goes_through view (decrypts view d).parts (spent view.places) (λ found ready. nothing_used) (source given d.blob) plaintext (source_is d.key_id given d.blob is right named) allowed live (ap (λ (o : Option Refusal). or_else o None) state) own refl (ap only_asked no_dry_run))
   decrypted_is d given plaintext (Some why) is right named old opens_to allowed live state fit no_recipient no_dry_run =
-      ap (λ (wanted : Result Outcome Refusal). (decided_by wanted view.places).reply)
-      (stops_at_state view (decrypts view d) (source given d.blob) why (source_is d.key_id given d.blob is right named) allowed live (ap (λ (o : Option Refusal). or_else o None) state))
+      ap (λ (wanted : Result (Outcome Uses) Refusal). (decided_read wanted view.places).reply)
+      (stops_at_state view (decrypts view d).parts (spent view.places) (λ found ready. nothing_used) (source given d.blob) why (source_is d.key_id given d.blob is right named) allowed live (ap (λ (o : Option Refusal). or_else o None) state))
 
 decrypt_reply : (facts : RealmFacts) (history : List Entry) (y : Ask) (places : Places) (d : Decrypt) → lacking (length history) y.after ≡ None → y.body ≡ ask.Read (reading.Decrypt d)
-    → reply_to facts history y places ≡ (decided_by (outcome (view_of facts history y places) (decrypts (view_of facts history y places) d)) places).reply
+    → reply_to facts history y places ≡ (decided_read (reads (view_of facts history y places) (decrypts (view_of facts history y places) d)) places).reply
 unfolding decide
 decrypt_reply facts history y places d enough body =
-    ap (λ (first : Option Refusal). (decided_by (unless first (body_outcome facts history y places y.body)) places).reply) enough
-    ∙ ap (λ (b : AskBody). (decided_by (body_outcome facts history y places b) places).reply) body
+    ap (λ (b : AskBody). (decide_body facts history y b places).reply) body
+    ∙ ap (λ (first : Option Refusal). (decided_read (unless first (read_outcome (view_of facts history y places) (reading.Decrypt d))) places).reply) enough
 
 -- who may decrypt under the key is allowed it
 may_open : (view : View) (d : Decrypt) (row : KeyRow) (alias : Option (List ℕ)) (context : List Pair) → AreIdentityPolicies (callers_policies view.facts.identities view.caller) → d.context ≡ context

@@ -38,13 +38,13 @@ use Rattle.account_steps.specs.declared.checks.Named.{Named}
 use Rattle.account_steps.specs.View.{View, view_of, unless_gone, key_held, aliased}
 use Rattle.account_rows.specs.Changes.{is_gone}
 use Rattle.account_steps.specs.Steps.{unless, or_else, and_then, unfit, named_by_id, named_by, named_by_alias, key_of_alias, alias_of, key_referred, reference_of, key_of, key_if_given, blob_name, other_key, held_key, source_in, source_of, newest_version, opens, seals, draws, arn_of}
-use Rattle.account_steps.specs.Parts.{Outcome, takes, limited, spent, no_more_draws, no_more_ivs, after}
+use Rattle.account_steps.specs.Parts.{Outcome, spent, no_more_draws, no_more_ivs, after}
 use Rattle.account_crypto.specs.Crypto.{one_iv, words_and_iv, encrypts, re_encrypts, generates_data_key, generates_sealed_data_key}
 use Rattle.account_core.specs.Decide.{decide, IsProper}
 use Rattle.account_laws.specs.Laws.{Sealing, HasSealed, encrypted, re_encrypted, data_key, sealed_data_key}
 use Rattle.account_steps.proofs.Openings.{size_of_opened}
 use Rattle.account_rows.proofs.RowFacts.{found_key}
-use Rattle.account_steps.proofs.Passing.{found_of, next_of, ok_of, ok_same, passed}
+use Rattle.account_steps.proofs.Passing.{found_of, next_of, ok_of, ok_same, read_passed}
 use Rattle.account_laws.proofs.Serving.{Serves, serves_of}
 
 -- ---- the keys
@@ -189,10 +189,10 @@ module _ (facts : RealmFacts) (history : List Entry) (x : Ask) (places : Places)
     number : (decide facts history x places).places.number ≡ places.number
     ivs : (decide facts history x places).places.ivs ≡ places.ivs + 1
 
-  leaves_one : (body : Reading) (r : Reply) (uses : Uses) (served : Serves facts history x places body r) → uses.ivs ≡ 1 → limited view (takes uses) ≡ None
-      → takes uses ≡ served.out.effect → LeavesOne uses
+  leaves_one : (body : Reading) (r : Reply) (uses : Uses) (served : Serves facts history x places body r) → uses.ivs ≡ 1 → spent places uses ≡ None
+      → uses ≡ served.out.effect → LeavesOne uses
   leaves_one body r uses served one left effect =
-      let at : (decide facts history x places).places ≡ after places (takes uses) = served.places_are ∙ sym (ap (after places) effect) in
+      let at : (decide facts history x places).places ≡ after places uses = served.places_are ∙ sym (ap (after places) effect) in
       record {
         few = few_of places uses one left;
         number = ap (λ (p : Places). p.number) at;
@@ -207,7 +207,7 @@ module _ (facts : RealmFacts) (history : List Entry) (x : Ask) (places : Places)
     there : IsThere view turning.to
     source : IsSourceOf r.blob turning.source
 
-  turning_is : (r : ReEncrypt) (turning : Turning) → (re_encrypts view r).found ≡ Ok turning → HasTurned r turning
+  turning_is : (r : ReEncrypt) (turning : Turning) → (re_encrypts view r).parts.found ≡ Ok turning → HasTurned r turning
   turning_is r turning e =
       let made : Source → Named → Result Turning Refusal = λ source to. Ok (record { source = source; to = to }) in
       let source = found_of (source_of view action.ReEncryptFrom r.source_key_id r.blob) (λ (s : Source). and_then (key_of view r.key_id) (made s)) turning e in
@@ -218,7 +218,7 @@ module _ (facts : RealmFacts) (history : List Entry) (x : Ask) (places : Places)
         source = source_named view action.ReEncryptFrom r.source_key_id r.blob source.value source.is;
       })
 
-  turned : (r : ReEncrypt) (turning : Turning) (text plaintext : List ℕ) → HasTurned r turning → (re_encrypts view r).own turning ≡ Ok text
+  turned : (r : ReEncrypt) (turning : Turning) (text plaintext : List ℕ) → HasTurned r turning → (re_encrypts view r).parts.own turning ≡ Ok text
       → opened facts.root r.blob r.source_context ≡ Some plaintext → plaintext ≡ text
   turned r turning text plaintext turns own opens_to =
       let second = next_of (unfit r.source_algorithm) (unless (unfit r.algorithm) (opens facts turning.source r.source_context)) text own in
@@ -232,10 +232,10 @@ pub is_sealed : (facts : RealmFacts) (history : List Entry) (x : Ask) (places : 
 is_sealed facts history x places s (encrypted e blob arn body replied) =
     let seen = view_of facts history x places in
     let served = serves_of facts history x places (reading.Encrypt e) (reply.Encrypted blob arn) body (λ why same. cc) replied in
-    let p = passed seen (encrypts seen e) served.out served.is in
+    let p = read_passed seen (encrypts seen e) served.out served.is in
     let came : reply.Encrypted (seals facts p.found.row e.context e.plaintext places) (arn_of facts p.found.row.key) ≡ reply.Encrypted blob arn =
-    ap (λ (o : Outcome). o.reply) p.outcome_is ∙ served.reply_is in
-    let one = leaves_one facts history x places (reading.Encrypt e) (reply.Encrypted blob arn) one_iv served refl p.left (ap (λ (o : Outcome). o.effect) p.outcome_is) in
+    ap (λ (o : Outcome Uses). o.reply) p.outcome_is ∙ served.reply_is in
+    let one = leaves_one facts history x places (reading.Encrypt e) (reply.Encrypted blob arn) one_iv served refl p.left (ap (λ (o : Outcome Uses). o.effect) p.outcome_is) in
     record {
       row = p.found.row;
       there = key_there seen e.key_id p.found p.found_is;
@@ -249,10 +249,10 @@ is_sealed facts history x places s (encrypted e blob arn body replied) =
 is_sealed facts history x places s (re_encrypted r blob plaintext arn source_arn body opens_to replied) =
     let seen = view_of facts history x places in
     let served = serves_of facts history x places (reading.ReEncrypt r) (reply.ReEncrypted blob arn source_arn) body (λ why same. cc) replied in
-    let p = passed seen (re_encrypts seen r) served.out served.is in
+    let p = read_passed seen (re_encrypts seen r) served.out served.is in
     let came : reply.ReEncrypted (seals facts p.found.to.row r.context p.ready places) (arn_of facts p.found.to.row.key) (arn_of facts p.found.source.row.key) ≡ reply.ReEncrypted blob arn source_arn =
-    ap (λ (o : Outcome). o.reply) p.outcome_is ∙ served.reply_is in
-    let one = leaves_one facts history x places (reading.ReEncrypt r) (reply.ReEncrypted blob arn source_arn) one_iv served refl p.left (ap (λ (o : Outcome). o.effect) p.outcome_is) in
+    ap (λ (o : Outcome Uses). o.reply) p.outcome_is ∙ served.reply_is in
+    let one = leaves_one facts history x places (reading.ReEncrypt r) (reply.ReEncrypted blob arn source_arn) one_iv served refl p.left (ap (λ (o : Outcome Uses). o.effect) p.outcome_is) in
     let turns = turning_is facts history x places r p.found p.found_is in
     let same = turned facts history x places r p.found p.ready plaintext turns p.own_is opens_to in
     let blob_is : blob ≡ seals facts p.found.to.row r.context p.ready places = cc in
@@ -269,10 +269,10 @@ is_sealed facts history x places s (re_encrypted r blob plaintext arn source_arn
 is_sealed facts history x places s (data_key key recipient blob plaintext arn body replied) =
     let seen = view_of facts history x places in
     let served = serves_of facts history x places (reading.GenerateDataKey key recipient) (reply.DataKey blob plaintext arn) body (λ why same. cc) replied in
-    let p = passed seen (generates_data_key seen key recipient) served.out served.is in
+    let p = read_passed seen (generates_data_key seen key recipient) served.out served.is in
     let came : reply.DataKey (seals facts p.found.row key.context (draws facts key.size places) places) (draws facts key.size places) (arn_of facts p.found.row.key) ≡ reply.DataKey blob plaintext arn =
-    ap (λ (o : Outcome). o.reply) p.outcome_is ∙ served.reply_is in
-    let one = leaves_one facts history x places (reading.GenerateDataKey key recipient) (reply.DataKey blob plaintext arn) (words_and_iv key.size) served refl p.left (ap (λ (o : Outcome). o.effect) p.outcome_is) in
+    ap (λ (o : Outcome Uses). o.reply) p.outcome_is ∙ served.reply_is in
+    let one = leaves_one facts history x places (reading.GenerateDataKey key recipient) (reply.DataKey blob plaintext arn) (words_and_iv key.size) served refl p.left (ap (λ (o : Outcome Uses). o.effect) p.outcome_is) in
     let blob_is : blob ≡ seals facts p.found.row key.context (draws facts key.size places) places = cc in
     let drawn : plaintext ≡ draws facts key.size places = cc in
     record {
@@ -288,10 +288,10 @@ is_sealed facts history x places s (data_key key recipient blob plaintext arn bo
 is_sealed facts history x places s (sealed_data_key key blob arn body replied) =
     let seen = view_of facts history x places in
     let served = serves_of facts history x places (reading.GenerateDataKeyWithoutPlaintext key) (reply.SealedDataKey blob arn) body (λ why same. cc) replied in
-    let p = passed seen (generates_sealed_data_key seen key) served.out served.is in
+    let p = read_passed seen (generates_sealed_data_key seen key) served.out served.is in
     let came : reply.SealedDataKey (seals facts p.found.row key.context (draws facts key.size places) places) (arn_of facts p.found.row.key) ≡ reply.SealedDataKey blob arn =
-    ap (λ (o : Outcome). o.reply) p.outcome_is ∙ served.reply_is in
-    let one = leaves_one facts history x places (reading.GenerateDataKeyWithoutPlaintext key) (reply.SealedDataKey blob arn) (words_and_iv key.size) served refl p.left (ap (λ (o : Outcome). o.effect) p.outcome_is) in
+    ap (λ (o : Outcome Uses). o.reply) p.outcome_is ∙ served.reply_is in
+    let one = leaves_one facts history x places (reading.GenerateDataKeyWithoutPlaintext key) (reply.SealedDataKey blob arn) (words_and_iv key.size) served refl p.left (ap (λ (o : Outcome Uses). o.effect) p.outcome_is) in
     record {
       row = p.found.row;
       there = key_there seen key.key_id p.found p.found_is;

@@ -1,5 +1,5 @@
 -- A grant that was dropped stays away.
-use Rattle.std.proofs.Common.{◌≡◌, ◌≢◌, ◌⊎◌, inl, inr, ℕ, suc, ◌+◌, ◌<◌, ◌≤◌, Bool, true, false, not, cond, List, [], ◌∷◌, ◌++◌, length, take, drop, get_or, Option, Some, None, refl, sym, ap, ◌∙◌, subst, append_assoc, arith, length-append}
+use Rattle.std.proofs.Common.{◌≡◌, ◌≢◌, ℕ, suc, ◌+◌, ◌<◌, Bool, true, false, not, cond, List, [], ◌∷◌, ◌++◌, length, take, drop, get_or, Some, None, refl, sym, ap, ◌∙◌, subst, append_assoc, arith, length-append}
 use Rattle.std.specs.Prelude.{All, find, filter}
 use Rattle.std.specs.Str.{bytes_eq}
 use Rattle.std.proofs.lemmas.List.{take_at, drop_at}
@@ -19,8 +19,8 @@ use Rattle.account_rows.proofs.RowFacts.{length-push}
 use Rattle.account_steps.specs.declared.facts.RealmFacts.{RealmFacts}
 use Rattle.account_core.specs.Decide.{IsLawful, empty, longer}
 use Rattle.account_laws.specs.Laws.{DroppedGrantsStayAway}
-use Rattle.account_core.proofs.EntryFacts.{HoldsDropped}
-use Rattle.account_core.proofs.Fitting.{ComesNext, comes_next, laws_of}
+use Rattle.account_steps.proofs.Done.{HoldsDropped}
+use Rattle.account_core.proofs.Fitting.{comes_next, laws_of}
 
 -- no grant has the id, which ends with a place of an entry before
 record IsAway (grant : List ℕ) (n : ℕ) (grants : List GrantRow) : Type 0 where

@@ -8,7 +8,7 @@ use Rattle.std.proofs.lemmas.List.{take-append-drop, take_all}
 use Rattle.std.proofs.Math.Seq.{take-append_seam}
 use Rattle.kms_names.specs.Place.{is_behind}
 use Rattle.kms_names.proofs.Behind.{filter_all}
-use Rattle.account_lists.specs.Pages.{rows_behind, next_of, part_of, PartsFrom, last_part, one_more, PartsMakeTheWhole}
+use Rattle.account_lists.specs.Pages.{rows_behind, next_of, PartsFrom, last_part, one_more, PartsMakeTheWhole}
 
 module _ {A : Type 0} (born : A → ℕ) where
   abbrev Rise : List A → Type 0

@@ -1,7 +1,6 @@
 -- The operations that list (AWS KMS API Reference, ListKeys, ListAliases, ListRetirableGrants, ListKeyPolicies, ListKeyRotations, ListGrants): what each
 -- says of the steps.
 use Rattle.std.specs.Prelude.{ℕ, suc, List, [], ◌∷◌, codes, drop, filter, map, Bool, true, false, ◌&&◌, not, is_some, Option, Some, None, Result, Ok}
-use Rattle.std.specs.Str.{bytes_eq}
 use Rattle.kms_names.specs.declared.actions.Action.{Action}
 use Rattle.kms_names.specs.declared.actions.Action.TheVariants as action
 use Rattle.kms_names.specs.declared.principals.Principal.{Principal}
@@ -38,7 +37,7 @@ use Rattle.account_steps.specs.Steps.{and_then, only_key_of}
 use Rattle.account_steps.specs.Authority.{on_key, on_other, of_none, of_key}
 use Rattle.account_steps.specs.View.{View, key_held, is_live}
 use Rattle.account_lists.specs.Pages.{Part, part_of, behind_marker, PartsMakeTheWhole}
-use Rattle.account_steps.specs.Parts.{Parts, takes}
+use Rattle.account_steps.specs.Parts.{ReadParts}
 use Rattle.account_steps.specs.Given.{principal_in, principal_if_given, grant_id_in}
 
 -- ---- the rows that are listed
@@ -150,16 +149,18 @@ part_in view (listed.Aliases key) limit after = alias_page view (part_of (λ (ro
 part_in view (listed.Grants retiring) limit after = grant_page view (part_of (λ (grant : GrantRow). grant.born) (retirable_grants view retiring) limit after)
 
 -- ListKeys, ListAliases, ListRetirableGrants
-abbrev pub lists_in : View → AccountList → Page → Parts ListedIn (Option ℕ)
+abbrev pub lists_in : View → AccountList → Page → ReadParts ListedIn (Option ℕ)
 lists_in view what page = record {
-  found = listed_in view what;
-  questions = λ listed. on_other (action_in what) (codes "*") of_none ∷ [];
-  tokens = [];
-  uses = λ listed. [];
-  own = λ listed. behind_marker page.marker;
-  effect = λ listed after. takes nothing_used;
-  dry_run = false;
-  reply = λ listed after. part_in view listed page.limit after;
+  parts = record {
+    found = listed_in view what;
+    questions = λ listed. on_other (action_in what) (codes "*") of_none ∷ [];
+    tokens = [];
+    uses = λ listed. [];
+    own = λ listed. behind_marker page.marker;
+    dry_run = false;
+    reply = λ listed after. part_in view listed page.limit after;
+  };
+  takes = nothing_used;
 }
 
 -- ---- lists of a key
@@ -190,14 +191,16 @@ part_on view (of.Grants grant_id grantee) listed limit after =
     grant_page view (part_of (λ (grant : GrantRow). grant.born) (grants_of_key view listed.row.key listed.sought) limit after)
 
 -- ListKeyPolicies, ListKeyRotations, ListGrants
-abbrev pub lists_on : View → List ℕ → KeyList → Page → Parts ListedOf (Option ℕ)
+abbrev pub lists_on : View → List ℕ → KeyList → Page → ReadParts ListedOf (Option ℕ)
 lists_on view reference what page = record {
-  found = listed_of view reference what;
-  questions = λ listed. on_key (action_on what) listed.row (of_key view listed.row.key) ∷ [];
-  tokens = [];
-  uses = λ listed. record { action = action_on what; key = listed.row } ∷ [];
-  own = λ listed. behind_marker page.marker;
-  effect = λ listed after. takes nothing_used;
-  dry_run = false;
-  reply = λ listed after. part_on view what listed page.limit after;
+  parts = record {
+    found = listed_of view reference what;
+    questions = λ listed. on_key (action_on what) listed.row (of_key view listed.row.key) ∷ [];
+    tokens = [];
+    uses = λ listed. record { action = action_on what; key = listed.row } ∷ [];
+    own = λ listed. behind_marker page.marker;
+    dry_run = false;
+    reply = λ listed after. part_on view what listed page.limit after;
+  };
+  takes = nothing_used;
 }

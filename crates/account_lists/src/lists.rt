@@ -151,7 +151,7 @@ impl<'a> Operation for ListingAccount<'a> {
 
     ghost seen = { λ op. op.view.now };
 
-    ghost parts = { λ op. lists_in op.view.now op.what op.page.now };
+    ghost parts = { λ op. (lists_in op.view.now op.what op.page.now).parts };
 
     fn view(&self) -> &View<'_> {
         self.view
@@ -194,6 +194,8 @@ impl<'a> Operation for ListingAccount<'a> {
 }
 
 impl<'a> Reads for ListingAccount<'a> {
+    ghost takes = { λ op. (lists_in op.view.now op.what op.page.now).takes };
+
     fn uses(&self) -> Uses {
         Uses::NOTHING
     }
@@ -368,7 +370,7 @@ impl<'a> Operation for ListingKey<'a> {
 
     ghost seen = { λ op. op.view.now };
 
-    ghost parts = { λ op. lists_on op.view.now op.key_id.now op.what op.page.now };
+    ghost parts = { λ op. (lists_on op.view.now op.key_id.now op.what op.page.now).parts };
 
     fn view(&self) -> &View<'_> {
         self.view
@@ -404,6 +406,8 @@ impl<'a> Operation for ListingKey<'a> {
 }
 
 impl<'a> Reads for ListingKey<'a> {
+    ghost takes = { λ op. (lists_on op.view.now op.key_id.now op.what op.page.now).takes };
+
     fn uses(&self) -> Uses {
         Uses::NOTHING
     }

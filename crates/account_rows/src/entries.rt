@@ -10,7 +10,6 @@ use std::marker::Model;
 use std::sync::Arc;
 
 /// What an entry did.
-#[derive(Drop)]
 pub enum What {
     /// A key of this id was made, with this description and policy.
     CreateKey {
@@ -86,6 +85,45 @@ pub enum What {
     },
     /// Housekeeping: keys whose date of deletion has come were removed with their aliases and grants, and keys whose automatic rotation was due were rotated.
     House,
+}
+
+// Each crate that lets an entry go calls this one drop, and doesn't take it apart itself.
+impl Drop for What {
+    fn drop(self) {
+        match self {
+            What::CreateKey {
+                key: _,
+                description: _,
+                policy: _,
+            } => {}
+            What::Enable { key: _ } => {}
+            What::Disable { key: _ } => {}
+            What::Schedule {
+                key: _,
+                date: _,
+                days: _,
+            } => {}
+            What::Cancel { key: _ } => {}
+            What::RotationOn { key: _, period: _ } => {}
+            What::RotationOff { key: _ } => {}
+            What::RotateNow { key: _ } => {}
+            What::Policy { key: _, text: _ } => {}
+            What::Description { key: _, text: _ } => {}
+            What::AliasPut { name: _, key: _ } => {}
+            What::AliasDrop { name: _ } => {}
+            What::GrantAdd {
+                grant: _,
+                key: _,
+                grantee: _,
+                retiring: _,
+                operations: _,
+                constraint: _,
+                name: _,
+            } => {}
+            What::GrantDrop { grant: _ } => {}
+            What::House => {}
+        }
+    }
 }
 
 /// How many bytes each entry counts beside its texts.

@@ -27,7 +27,6 @@ pub const BYTES: u64 = 268_435_456;
 
 /// The entries of an account's history, and the rows that they make. Contracts see the list of the entries. A changed
 /// history is a new one: the old one stays as it was.
-#[derive(Drop)]
 pub struct Rows {
     default: DefaultPolicy,
     entries: Vec<SharedEntry>,
@@ -36,6 +35,21 @@ pub struct Rows {
     grants: HeldGrants,
     latest: u64,
     bytes: u64,
+}
+
+// Each crate that lets rows go calls this one drop, and doesn't take them apart itself.
+impl Drop for Rows {
+    fn drop(self) {
+        let Rows {
+            default: _,
+            entries: _,
+            keys: _,
+            aliases: _,
+            grants: _,
+            latest: _,
+            bytes: _,
+        } = self;
+    }
 }
 
 impl Model for Rows {

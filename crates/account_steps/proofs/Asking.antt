@@ -1,38 +1,29 @@
 -- The step of authority passes exactly where statements allow every question.
-use Rattle.std.proofs.Common.{◌≡◌, ◌⊎◌, inl, inr, ℕ, List, [], ◌∷◌, Bool, true, false, ◌&&◌, ◌||◌, Option, Some, None, is_some, Result, Ok, Err, ◌++◌, refl, sym, ap, ◌∙◌, zero, suc, subst, arith, length, get_or, cond}
-use Rattle.std.specs.Prelude.{◌↔◌, IsTrue, All, Any, find, ⊤}
-use Rattle.std.specs.Bool.{Decides}
-use Rattle.std.proofs.lemmas.List.Elements.{All-cons}
+use Rattle.std.proofs.Common.{◌≡◌, ◌⊎◌, inl, inr, ℕ, List, [], ◌∷◌, Bool, true, false, ◌&&◌, ◌||◌, Option, Some, None, Result, Err, ◌++◌, refl, sym, ap, ◌∙◌, subst}
+use Rattle.std.specs.Prelude.{◌↔◌, IsTrue, ⊤}
 use Rattle.kms_names.specs.declared.actions.Action.{Action}
 use Rattle.kms_names.specs.declared.principals.Principal.{Principal}
-use Rattle.kms_names.specs.declared.operations.GrantOp.{GrantOp}
 use Rattle.kms_names.specs.declared.operations.GrantOp.TheVariants as op
 use Rattle.kms_names.specs.GrantOps.{contains}
 use Rattle.kms_json.specs.declared.refusals.Refusal.{Refusal}
 use Rattle.kms_json.specs.declared.refusals.Refusal.TheVariants as refusal
 use Rattle.policy_doc.specs.declared.policies.Policy.{Policy}
 use Rattle.authority.specs.KeyPolicy.{policy_in}
-use Rattle.authority.specs.Setting.{Particulars, GrantSaid, is_root}
+use Rattle.authority.specs.Setting.{Particulars, is_root}
 use Rattle.authority.specs.declared.standings.Standing.{Standing}
 use Rattle.authority.specs.Allowed.{standing_of, settled, AreIdentityPolicies}
 use Rattle.authority.proofs.LawFacts.{allowed_by}
 use Rattle.authority.proofs.KindFacts.{kind_of_text}
 use Rattle.grant_table.specs.declared.rows.GrantRow.{GrantRow}
-use Rattle.grant_table.specs.Grants.{is_parent, is_child_of, IsChildOf, has_retiring, is_principal, permits, Permits}
+use Rattle.grant_table.specs.Grants.{has_retiring, is_principal}
 use Rattle.grant_table.specs.Principals.{same_principal}
-use Rattle.grant_table.proofs.PermitFacts.{principal_decides, permits_decides}
-use Rattle.grant_table.proofs.GrantFacts.{subset_decides}
-use Rattle.grant_table.specs.Constraints.{is_as_strict, IsAsStrict}
-use Rattle.grant_table.specs.declared.constraints.Constraint.{Constraint}
-use Rattle.grant_table.specs.declared.constraints.Constraint.TheVariants.{Free, Equals, Subset}
-use Rattle.enc_context.proofs.PairFacts.{includes_decides, same_pairs_decides}
-use Rattle.std.proofs.lemmas.Bool.Decides.{Decides-and}
+use Rattle.grant_table.proofs.PermitFacts.{principal_decides}
 use Rattle.key_states.specs.declared.rows.KeyRow.{KeyRow}
 use Rattle.account_steps.specs.View.{View}
 use Rattle.account_steps.specs.declared.stops.Stop.{Stop}
 use Rattle.account_steps.specs.declared.stops.Stop.TheVariants as stop
 use Rattle.account_steps.specs.Steps.{or_else, arn_of, Passes}
-use Rattle.account_steps.specs.Authority.{Question, on_key, on_other, retiring, setting_of, resource_of, action_of, asked_of, granted, granted_op, grant_op_of, may_on_key, may_on_other, may_retire, may, denied_at, denied_one, denied, MayRetire, MayAsk, IsParent, GrantedOp, IsGranted}
+use Rattle.account_steps.specs.Authority.{Question, on_key, on_other, retiring, setting_of, resource_of, action_of, asked_of, granted, may_on_key, may_on_other, may_retire, may, denied_at, denied_one, denied, MayRetire, MayAsk}
 
 -- ---- one question
 

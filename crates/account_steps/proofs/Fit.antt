@@ -1,7 +1,6 @@
 -- The state of a key, as the code asks for it.
 use Rattle.std.proofs.Common.{◌≡◌, Option, ap}
 use Rattle.kms_names.specs.declared.actions.Action.{Action}
-use Rattle.kms_json.specs.declared.refusals.Refusal.{Refusal}
 use Rattle.key_states.specs.declared.permissions.StateFault.{StateFault}
 use Rattle.key_states.specs.declared.rows.KeyRow.{KeyRow}
 use Rattle.key_states.specs.Permissions.{refusal_of, need_of}

@@ -2,6 +2,7 @@ pub mod Following
 pub mod KeyIds
 pub mod Openings
 pub mod Passing
+pub mod Done
 pub mod Fit
 pub mod Asking
 pub mod Referring

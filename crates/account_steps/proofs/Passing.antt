@@ -1,19 +1,13 @@
 -- A request that is served has passed every step, and one that passes every step is served.
-use Rattle.std.proofs.Common.{◌≡◌, List, length, Option, Some, None, Result, Ok, Err, refl, sym, ap, ◌∙◌, subst}
+use Rattle.std.proofs.Common.{◌≡◌, Option, Some, None, Result, Ok, Err, refl, sym, ap, ◌∙◌, subst}
 use Rattle.std.specs.Prelude.{ok_or}
-use Rattle.kms_json.specs.declared.asks.Ask.{Ask}
-use Rattle.kms_json.specs.declared.asks.AskBody.TheVariants as ask
-use Rattle.kms_json.specs.declared.asks.Reading.{Reading}
-use Rattle.kms_json.specs.declared.replies.Reply.{Reply}
-use Rattle.kms_json.specs.declared.replies.Reply.TheVariants.{Refused}
 use Rattle.kms_json.specs.declared.refusals.Refusal.{Refusal}
-use Rattle.account_steps.specs.declared.facts.RealmFacts.{RealmFacts}
-use Rattle.account_rows.specs.declared.entries.Entry.{Entry}
-use Rattle.account_steps.specs.Places.{Places}
-use Rattle.account_steps.specs.View.{View, view_of}
+use Rattle.account_steps.specs.View.{View}
 use Rattle.account_steps.specs.Steps.{unless, and_then, or_else}
 use Rattle.account_steps.specs.Authority.{denied}
-use Rattle.account_steps.specs.Parts.{Parts, Outcome, dead_token, unfit_state, limited, only_asked, cleared, outcome, decided_by, after}
+use Rattle.account_rows.specs.declared.entries.What.{What}
+use Rattle.account_steps.specs.declared.places.Uses.{Uses}
+use Rattle.account_steps.specs.Parts.{Parts, ReadParts, ChangeParts, Outcome, dead_token, unfit_state, spent, limited, only_asked, cleared, outcome, reads, changes}
 
 -- ---- one step
 
@@ -49,7 +43,7 @@ one_of_two None second next = refl
 -- ---- all steps
 
 -- each step passed, and the outcome is the operation's
-pub record Passed {F R : Type 0} (view : View) (parts : Parts F R) (o : Outcome) : Type 0 where
+pub record Passed {F R E : Type 0} (view : View) (parts : Parts F R) (limit : E → Option Refusal) (effect : F → R → E) (o : Outcome E) : Type 0 where
   pub found : F
   pub ready : R
   pub found_is : parts.found ≡ Ok found
@@ -57,15 +51,15 @@ pub record Passed {F R : Type 0} (view : View) (parts : Parts F R) (o : Outcome)
   pub tokens_live : dead_token view parts.tokens ≡ None
   pub states_fit : unfit_state view (parts.uses found) ≡ None
   pub own_is : parts.own found ≡ Ok ready
-  pub left : limited view (parts.effect found ready) ≡ None
+  pub left : limit (effect found ready) ≡ None
   pub in_earnest : only_asked parts.dry_run ≡ None
-  pub outcome_is : record { reply = parts.reply found ready; effect = parts.effect found ready } ≡ o
+  pub outcome_is : record { reply = parts.reply found ready; effect = effect found ready } ≡ o
 
-module _ {F R : Type 0} (view : View) (parts : Parts F R) where
-  abbrev given : F → R → Outcome
-  given found ready = record { reply = parts.reply found ready; effect = parts.effect found ready }
+module _ {F R E : Type 0} (view : View) (parts : Parts F R) (limit : E → Option Refusal) (effect : F → R → E) where
+  abbrev given : F → R → Outcome E
+  given found ready = record { reply = parts.reply found ready; effect = effect found ready }
 
-  abbrev asked : F × R → Result Outcome Refusal
+  abbrev asked : F × R → Result (Outcome E) Refusal
   asked passed = unless (only_asked parts.dry_run) (Ok (given passed.0 passed.1))
 
   abbrev own_of : F → Result (F × R) Refusal
@@ -77,18 +71,18 @@ module _ {F R : Type 0} (view : View) (parts : Parts F R) where
   abbrev live_of : F → Result (F × R) Refusal
   live_of found = unless (dead_token view parts.tokens) (fit_of found)
 
-  pub passed : (o : Outcome) → outcome view parts ≡ Ok o → Passed view parts o
+  pub passed : (o : Outcome E) → outcome view parts limit effect ≡ Ok o → Passed view parts limit effect o
   passed o e =
-      let all = found_of (cleared view parts) (λ (p : F × R). unless (limited view (parts.effect p.0 p.1)) (asked p)) o e in
+      let all = found_of (cleared view parts) (λ (p : F × R). unless (limit (effect p.0 p.1)) (asked p)) o e in
       let first = found_of parts.found (λ (found : F). unless (denied view (parts.questions found)) (live_of found)) all.value all.is in
       let second = next_of (denied view (parts.questions first.value)) (live_of first.value) all.value first.came in
       let third = next_of (dead_token view parts.tokens) (fit_of first.value) all.value second in
       let fourth = next_of (unfit_state view (parts.uses first.value)) (own_of first.value) all.value third in
       let own = found_of (parts.own first.value) (λ (ready : R). Ok (first.value, ready)) all.value fourth in
       let both : (first.value, own.value) ≡ all.value = ok_same (first.value, own.value) all.value own.came in
-      let last : unless (limited view (parts.effect first.value own.value)) (asked (first.value, own.value)) ≡ Ok o =
-      subst (λ (p : F × R). unless (limited view (parts.effect p.0 p.1)) (asked p) ≡ Ok o) (sym both) all.came in
-      let earnest = next_of (limited view (parts.effect first.value own.value)) (asked (first.value, own.value)) o last in
+      let last : unless (limit (effect first.value own.value)) (asked (first.value, own.value)) ≡ Ok o =
+      subst (λ (p : F × R). unless (limit (effect p.0 p.1)) (asked p) ≡ Ok o) (sym both) all.came in
+      let earnest = next_of (limit (effect first.value own.value)) (asked (first.value, own.value)) o last in
       record {
         found = first.value;
         ready = own.value;
@@ -97,15 +91,15 @@ module _ {F R : Type 0} (view : View) (parts : Parts F R) where
         tokens_live = none_of (dead_token view parts.tokens) (fit_of first.value) all.value second;
         states_fit = none_of (unfit_state view (parts.uses first.value)) (own_of first.value) all.value third;
         own_is = own.is;
-        left = none_of (limited view (parts.effect first.value own.value)) (asked (first.value, own.value)) o last;
+        left = none_of (limit (effect first.value own.value)) (asked (first.value, own.value)) o last;
         in_earnest = none_of (only_asked parts.dry_run) (Ok (given first.value own.value)) o earnest;
         outcome_is = ok_same (given first.value own.value) o (next_of (only_asked parts.dry_run) (Ok (given first.value own.value)) o earnest);
       }
 
-  pub goes_through : (found : F) (ready : R) → parts.found ≡ Ok found → denied view (parts.questions found) ≡ None → dead_token view parts.tokens ≡ None → unfit_state view (parts.uses found) ≡ None → parts.own found ≡ Ok ready → limited view (parts.effect found ready) ≡ None → only_asked parts.dry_run ≡ None
-      → outcome view parts ≡ Ok (record { reply = parts.reply found ready; effect = parts.effect found ready })
+  pub goes_through : (found : F) (ready : R) → parts.found ≡ Ok found → denied view (parts.questions found) ≡ None → dead_token view parts.tokens ≡ None → unfit_state view (parts.uses found) ≡ None → parts.own found ≡ Ok ready → limit (effect found ready) ≡ None → only_asked parts.dry_run ≡ None
+      → outcome view parts limit effect ≡ Ok (record { reply = parts.reply found ready; effect = effect found ready })
   goes_through found ready found_is allowed live fit own_is left in_earnest =
-      let rest : F × R → Result Outcome Refusal = λ p. unless (limited view (parts.effect p.0 p.1)) (asked p) in
+      let rest : F × R → Result (Outcome E) Refusal = λ p. unless (limit (effect p.0 p.1)) (asked p) in
       ap (λ (f : Result F Refusal). and_then (and_then f (λ (v : F). unless (denied view (parts.questions v)) (live_of v))) rest) found_is
       ∙ ap (λ (o : Option Refusal). and_then (unless o (live_of found)) rest) allowed
       ∙ ap (λ (o : Option Refusal). and_then (unless o (fit_of found)) rest) live
@@ -116,16 +110,30 @@ module _ {F R : Type 0} (view : View) (parts : Parts F R) where
 
   -- limits and DryRun, where all before has passed
   pub goes_by : (found : F) (ready : R) → cleared view parts ≡ Ok (found, ready)
-      → outcome view parts ≡ unless (or_else (limited view (parts.effect found ready)) (only_asked parts.dry_run)) (Ok (given found ready))
+      → outcome view parts limit effect ≡ unless (or_else (limit (effect found ready)) (only_asked parts.dry_run)) (Ok (given found ready))
   goes_by found ready clear =
-      ap (λ (c : Result (F × R) Refusal). and_then c (λ (p : F × R). unless (limited view (parts.effect p.0 p.1)) (asked p))) clear
-      ∙ one_of_two (limited view (parts.effect found ready)) (only_asked parts.dry_run) (Ok (given found ready))
+      ap (λ (c : Result (F × R) Refusal). and_then c (λ (p : F × R). unless (limit (effect p.0 p.1)) (asked p))) clear
+      ∙ one_of_two (limit (effect found ready)) (only_asked parts.dry_run) (Ok (given found ready))
 
   -- a key's state refuses
-  pub stops_at_state : (found : F) (why : Refusal) → parts.found ≡ Ok found → denied view (parts.questions found) ≡ None → dead_token view parts.tokens ≡ None → unfit_state view (parts.uses found) ≡ Some why → outcome view parts ≡ Err why
+  pub stops_at_state : (found : F) (why : Refusal) → parts.found ≡ Ok found → denied view (parts.questions found) ≡ None → dead_token view parts.tokens ≡ None → unfit_state view (parts.uses found) ≡ Some why → outcome view parts limit effect ≡ Err why
   stops_at_state found why found_is allowed live unfit =
-      let rest : F × R → Result Outcome Refusal = λ p. unless (limited view (parts.effect p.0 p.1)) (asked p) in
+      let rest : F × R → Result (Outcome E) Refusal = λ p. unless (limit (effect p.0 p.1)) (asked p) in
       ap (λ (f : Result F Refusal). and_then (and_then f (λ (v : F). unless (denied view (parts.questions v)) (live_of v))) rest) found_is
       ∙ ap (λ (o : Option Refusal). and_then (unless o (live_of found)) rest) allowed
       ∙ ap (λ (o : Option Refusal). and_then (unless o (fit_of found)) rest) live
       ∙ ap (λ (o : Option Refusal). and_then (unless o (own_of found)) rest) unfit
+
+-- ---- of the two kinds
+
+abbrev pub ReadPassed : {F R : Type 0} → View → ReadParts F R → Outcome Uses → Type 0
+ReadPassed view op o = Passed view op.parts (spent view.places) (λ found ready. op.takes) o
+
+pub read_passed : {F R : Type 0} (view : View) (op : ReadParts F R) (o : Outcome Uses) → reads view op ≡ Ok o → ReadPassed view op o
+read_passed view op o e = passed view op.parts (spent view.places) (λ found ready. op.takes) o e
+
+abbrev pub ChangePassed : {F R : Type 0} → View → ChangeParts F R → Outcome (Option What) → Type 0
+ChangePassed view op o = Passed view op.parts (limited view) op.does o
+
+pub change_passed : {F R : Type 0} (view : View) (op : ChangeParts F R) (o : Outcome (Option What)) → changes view op ≡ Ok o → ChangePassed view op o
+change_passed view op o e = passed view op.parts (limited view) op.does o e

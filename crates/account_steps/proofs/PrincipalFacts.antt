@@ -1,5 +1,5 @@
 -- The principal whose ARN a text is.
-use Rattle.std.proofs.Common.{◌≡◌, ◌≢◌, ◌⊎◌, List, ℕ, Option, Some, None, Result, Ok, Err, refl, sym, ap, ◌∙◌}
+use Rattle.std.proofs.Common.{◌≡◌, ◌≢◌, ◌⊎◌, List, ℕ, Option, Some, None, Result, Ok, Err, refl, sym, ◌∙◌}
 use Rattle.std.specs.Prelude.{IfOk, IfErr, ok_or}
 use Rattle.kms_names.specs.Principal.{IsPrincipal, principal_text}
 use Rattle.kms_names.specs.Reading.{principal_of}

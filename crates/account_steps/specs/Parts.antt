@@ -38,11 +38,6 @@ pub record Use : Type 0 where
   pub action : Action
   pub key : KeyRow
 
--- what a request that is served does: it takes words and initialization vectors of the pass, or it appends an entry
-pub data Effect : Type 0 where
-  takes : Uses → Effect
-  appends : Entry → Effect
-
 -- What an operation says of the steps: what its references name (F), and what comes of its own refusals (R).
 pub record Parts (F R : Type 0) : Type 0 where
   pub found : Result F Refusal
@@ -50,9 +45,18 @@ pub record Parts (F R : Type 0) : Type 0 where
   pub tokens : List (List ℕ)
   pub uses : F → List Use
   pub own : F → Result R Refusal
-  pub effect : F → R → Effect
   pub dry_run : Bool
   pub reply : F → R → Reply
+
+-- One that doesn't change the account: where it is served, it takes these words and initialization vectors of the pass.
+pub record ReadParts (F R : Type 0) : Type 0 where
+  pub parts : Parts F R
+  pub takes : Uses
+
+-- One that changes the account: where it is served, it does this, or there is nothing to do.
+pub record ChangeParts (F R : Type 0) : Type 0 where
+  pub parts : Parts F R
+  pub does : F → R → Option What
 
 -- ---- grant tokens
 
@@ -130,7 +134,7 @@ grants_full view key =
     else if nat_le 50000 (length view.grants) then Some (refusal.LimitExceeded limit.Grants)
     else None
 
--- what the entry would add to
+-- what an entry would add to
 abbrev pub full : View → What → Option Refusal
 full view (what.CreateKey key description policy) = keys_full (length view.keys)
 full view (what.Enable key) = None
@@ -160,9 +164,9 @@ bytes_full bytes size = if nat_lt most_bytes (bytes + size) then Some (refusal.L
 abbrev pub overfull : View → What → Option Refusal
 overfull view did = or_else (full view did) (or_else (entries_full view.place) (bytes_full view.bytes (size_of did)))
 
-abbrev pub limited : View → Effect → Option Refusal
-limited view (takes uses) = spent view.places uses
-limited view (appends entry) = overfull view entry.what
+abbrev pub limited : View → Option What → Option Refusal
+limited view None = None
+limited view (Some did) = overfull view did
 
 -- ---- the order
 
@@ -170,10 +174,10 @@ limited view (appends entry) = overfull view entry.what
 abbrev pub only_asked : Bool → Option Refusal
 only_asked dry_run = if dry_run then Some refusal.DryRun else None
 
--- what a request that is served answers, and does
-pub record Outcome : Type 0 where
+-- what a request that is served answers, and what it takes, or does
+pub record Outcome (E : Type 0) : Type 0 where
   pub reply : Reply
-  pub effect : Effect
+  pub effect : E
 
 -- references, authority, grant tokens, key states, the operation's own refusals
 abbrev pub cleared : {F R : Type 0} → View → Parts F R → Result (F × R) Refusal
@@ -185,11 +189,18 @@ cleared view parts =
     (and_then (parts.own found) (λ ready. Ok (found, ready))))))
 
 -- and then limits, DryRun and the reply
-abbrev pub outcome : {F R : Type 0} → View → Parts F R → Result Outcome Refusal
-outcome view parts =
+abbrev pub outcome : {F R E : Type 0} → View → Parts F R → (E → Option Refusal) → (F → R → E) → Result (Outcome E) Refusal
+outcome view parts limit effect =
     and_then (cleared view parts)
-    (λ passed. unless (limited view (parts.effect passed.0 passed.1))
-    (unless (only_asked parts.dry_run) (Ok (record { reply = parts.reply passed.0 passed.1; effect = parts.effect passed.0 passed.1 }))))
+    (λ passed. unless (limit (effect passed.0 passed.1))
+    (unless (only_asked parts.dry_run) (Ok (record { reply = parts.reply passed.0 passed.1; effect = effect passed.0 passed.1 }))))
+
+-- what is taken is limited by what the pass has left, and what is done by what the account has room for
+abbrev pub reads : {F R : Type 0} → View → ReadParts F R → Result (Outcome Uses) Refusal
+reads view op = outcome view op.parts (spent view.places) (λ found ready. op.takes)
+
+abbrev pub changes : {F R : Type 0} → View → ChangeParts F R → Result (Outcome (Option What)) Refusal
+changes view op = outcome view op.parts (limited view) op.does
 
 -- ---- what is decided
 
@@ -199,15 +210,23 @@ pub record Decided : Type 0 where
   pub entry : Option Entry
   pub places : Places
 
-abbrev pub entry_of : Effect → Option Entry
-entry_of (takes uses) = None
-entry_of (appends entry) = Some entry
+-- a refusal appends nothing and takes nothing
+abbrev pub refuses : Refusal → Places → Decided
+refuses why places = record { reply = Refused why; entry = None; places = places }
 
-abbrev pub after : Places → Effect → Places
-after places (takes uses) = record { number = places.number; words = places.words + uses.words; ivs = places.ivs + uses.ivs }
-after places (appends entry) = places
+-- a request that doesn't change the account appends nothing, and leaves the places behind what it takes
+abbrev pub after : Places → Uses → Places
+after places uses = record { number = places.number; words = places.words + uses.words; ivs = places.ivs + uses.ivs }
 
--- a refusal appends nothing and uses nothing
-abbrev pub decided_by : Result Outcome Refusal → Places → Decided
-decided_by (Err why) places = record { reply = Refused why; entry = None; places = places }
-decided_by (Ok outcome) places = record { reply = outcome.reply; entry = entry_of outcome.effect; places = after places outcome.effect }
+abbrev pub decided_read : Result (Outcome Uses) Refusal → Places → Decided
+decided_read (Err why) places = refuses why places
+decided_read (Ok outcome) places = record { reply = outcome.reply; entry = None; places = after places outcome.effect }
+
+-- one that does appends what it does, at the moment, and takes nothing
+abbrev pub entry_of : ℕ → Option What → Option Entry
+entry_of moment None = None
+entry_of moment (Some did) = Some (record { time = moment; what = did })
+
+abbrev pub decided_change : ℕ → Result (Outcome (Option What)) Refusal → Places → Decided
+decided_change moment (Err why) places = refuses why places
+decided_change moment (Ok outcome) places = record { reply = outcome.reply; entry = entry_of moment outcome.effect; places = places }

@@ -3,7 +3,6 @@ use authority::IdentityList;
 use kms_names::{AccountNumber, NoMemory, Text};
 
 /// What is constant for a run of the service.
-#[derive(Drop)]
 pub struct RealmFacts {
     /// The account of the service.
     pub account: AccountNumber,
@@ -16,6 +15,19 @@ pub struct RealmFacts {
     /// The principals with their own policies, which are of the kind `Identity`. Where a principal stands twice, the
     /// first counts. The account's root needs none: it may do everything.
     pub identities: IdentityList,
+}
+
+// Each crate that lets the facts go calls this one drop, and doesn't take them apart itself.
+impl Drop for RealmFacts {
+    fn drop(self) {
+        let RealmFacts {
+            account: _,
+            region: _,
+            root: _,
+            boot: _,
+            identities: _,
+        } = self;
+    }
 }
 
 impl RealmFacts {

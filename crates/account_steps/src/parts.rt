@@ -1,18 +1,20 @@
 // The steps of a decision in their order. Each operation says its own parts of them; the order is written
 // here alone.
-ghost use Rattle.std.specs.Prelude.{◌≡◌, IfOk, OnOk, OnErr, None, length};
+ghost use Rattle.std.specs.Prelude.{◌≡◌, IfOk, OnOk, OnErr, Option, None, Ok, length};
 ghost use Rattle.std.specs.List.{list_any};
 ghost use Rattle.account_steps.specs.Places.{places_of, line_at, IsLineOf, IsWithin};
 ghost use Rattle.account_steps.specs.View.{View as SeenView};
-ghost use Rattle.account_steps.specs.Steps.{Gives, Passes, or_else, stopping};
+ghost use Rattle.account_steps.specs.Steps.{Gives, Passes, unless, or_else, stopping};
 ghost use Rattle.account_steps.specs.Authority.{denied};
-ghost use Rattle.account_steps.specs.Parts.{Parts, takes, cleared, outcome, decided_by, spent, full, overfull, limited, only_asked, after, unfit_state, entries_full, bytes_full, rotations_full, keys_full, grant_id_of, grant_of_token, is_dead, dead_token, aliases_full, grants_full};
-ghost use Rattle.account_steps.specs.Settling.{Settles, Makes, effect_with};
+ghost use Rattle.account_steps.specs.Parts.{Parts, cleared, outcome, decided_read, spent, full, overfull, limited, only_asked, after, unfit_state, entries_full, bytes_full, rotations_full, keys_full, grant_id_of, grant_of_token, is_dead, dead_token, aliases_full, grants_full};
+ghost use Rattle.account_steps.specs.Settling.{Settles, Makes};
+ghost use Rattle.account_steps.specs.declared.places.Uses.{Uses as TakenUses};
+ghost use Rattle.account_rows.specs.declared.entries.What.{What as DoneWhat};
 
 use crate::places::{Places, Uses};
 use crate::stops::Stop;
 use crate::view::{LentGrant, View};
-use account_rows::{BYTES, ENTRIES, Entry, What};
+use account_rows::{BYTES, ENTRIES, What};
 use draw_lines::DrawLine;
 use kms_json::{Limit, Refusal, Reply};
 use kms_names::{AliasName, GrantId, KeyId, NoMemory, Text, read_grant_id};
@@ -78,11 +80,13 @@ pub trait Operation {
 
 /// An operation that doesn't change the account.
 pub trait Reads: Operation {
-    /// What it uses where it is served.
-    fn uses(&self) -> Uses
-        ensures { (found : Self.Found) (ready : Self.Ready) → (Self.parts self.now).effect found ready ≡ takes result };
+    ghost takes: { Self → TakenUses };
 
-    /// Its reply, where all steps have passed. It takes of the line what it uses; without memory at most so much.
+    /// What it takes of the pass where it is served.
+    fn uses(&self) -> Uses
+        ensures { result ≡ takes self.now };
+
+    /// Its reply, where all steps have passed. It takes of the line what it says; without memory at most so much.
     fn serve(
         &self,
         alloc: Global,
@@ -92,10 +96,10 @@ pub trait Reads: Operation {
     ) -> Result<Reply, NoMemory>
         requires line { IsLineOf (Self.seen self.now).facts line.old }
         requires places { (Self.seen self.now).places ≡ places_of line.old }
-        requires left { limited (Self.seen self.now) ((Self.parts self.now).effect found ready) ≡ None }
+        requires left { spent (Self.seen self.now).places (takes self.now) ≡ None }
         ensures reply { IfOk result (λ reply. reply ≡ (Self.parts self.now).reply found ready) }
-        ensures used { OnOk result (line.new ≡ line_at line.old (after (places_of line.old) ((Self.parts self.now).effect found ready))) }
-        ensures within { OnErr result (IsWithin line.old line.new (after (places_of line.old) ((Self.parts self.now).effect found ready))) };
+        ensures used { OnOk result (line.new ≡ line_at line.old (after (places_of line.old) (takes self.now))) }
+        ensures within { OnErr result (IsWithin line.old line.new (after (places_of line.old) (takes self.now))) };
 }
 
 /// What a request that changes the account comes to.
@@ -103,16 +107,18 @@ pub trait Reads: Operation {
 pub struct Made {
     /// Its reply.
     pub reply: Reply,
-    /// The entry that it appends, if any.
-    pub entry: Option<Entry>,
+    /// What it does to the account; None where there is nothing to do.
+    pub what: Option<What>,
 }
 
 /// An operation that changes the account.
 pub trait Changes: Operation {
-    /// Its reply and its entry, where all steps but the limits have passed.
+    ghost does: { Self → Self.Found → Self.Ready → Option DoneWhat };
+
+    /// Its reply and what it does, where all steps but the limits have passed.
     fn make(&self, alloc: Global, found: Self::Found, ready: Self::Ready) -> Result<Made, NoMemory>
         ensures reply { IfOk result (λ made. made.reply ≡ (Self.parts self.now).reply found ready) }
-        ensures entry { IfOk result (λ made. effect_with made.entry ≡ (Self.parts self.now).effect found ready) };
+        ensures does { IfOk result (λ made. made.what ≡ does self.now found ready) };
 }
 
 /// Stops at a refusal.
@@ -245,12 +251,12 @@ fn overfull(view: &View<'_>, what: &What) -> Option<Refusal>
     None
 }
 
-// The limits of a request that changes the account with this entry, or without one.
-fn limited(view: &View<'_>, entry: &Option<Entry>) -> Option<Refusal>
-    ensures { result ≡ limited view.now (effect_with entry.now) }
+// The limits of a request that changes the account, where there is something to do.
+fn limited(view: &View<'_>, what: &Option<What>) -> Option<Refusal>
+    ensures { result ≡ limited view.now what.now }
 {
-    match entry {
-        Some(entry) => overfull(view, &entry.what),
+    match what {
+        Some(what) => overfull(view, what),
         None => None,
     }
 }
@@ -271,7 +277,7 @@ fn clear<O: Operation>(alloc: Global, operation: &O) -> Result<(O::Found, O::Rea
 pub fn read<O: Reads>(alloc: Global, operation: &O, line: &mut DrawLine) -> Result<Reply, Stop>
     requires line { IsLineOf (O.seen operation.now).facts line.old }
     requires places { (O.seen operation.now).places ≡ places_of line.old }
-    ensures { Settles (decided_by (outcome (O.seen operation.now) (O.parts operation.now)) (places_of line.old)) line.old result line.new }
+    ensures { Settles (decided_read (outcome (O.seen operation.now) (O.parts operation.now) (spent (O.seen operation.now).places) (λ found ready. O.takes operation.now)) (places_of line.old)) line.old result line.new }
 {
     let (found, ready) = clear(alloc, operation)?;
     refuse(spent(operation.view().places(), operation.uses()))?;
@@ -279,22 +285,28 @@ pub fn read<O: Reads>(alloc: Global, operation: &O, line: &mut DrawLine) -> Resu
     Ok(operation.serve(alloc, found, ready, line)?)
 }
 
-// The limits of an entry, and then DryRun.
-fn let_pass<O: Operation>(operation: &O, entry: &Option<Entry>) -> Result<(), Stop>
-    ensures { Passes (or_else (limited (O.seen operation.now) (effect_with entry.now)) (only_asked (O.parts operation.now).dry_run)) result }
+// The limits of what is done, and then DryRun.
+fn pass<O: Operation>(operation: &O, what: &Option<What>) -> Result<(), Stop>
+    ensures { Passes (or_else (limited (O.seen operation.now) what.now) (only_asked (O.parts operation.now).dry_run)) result }
 {
-    refuse(limited(operation.view(), entry))?;
+    refuse(limited(operation.view(), what))?;
     refuse(only_asked(operation.dry_run()))
+}
+
+// What was made, where the limits and DryRun let it pass.
+fn let_pass<O: Operation>(operation: &O, made: Made) -> Result<Made, Stop>
+    ensures { Makes (unless (or_else (limited (O.seen operation.now) made.what) (only_asked (O.parts operation.now).dry_run)) (Ok (record { reply = made.reply; effect = made.what }))) result }
+{
+    match pass(operation, &made.what) {
+        Ok(()) => Ok(made),
+        Err(stop) => Err(stop),
+    }
 }
 
 /// What a request that changes the account comes to.
 pub fn change<O: Changes>(alloc: Global, operation: &O) -> Result<Made, Stop>
-    ensures { Makes (outcome (O.seen operation.now) (O.parts operation.now)) result }
+    ensures { Makes (outcome (O.seen operation.now) (O.parts operation.now) (limited (O.seen operation.now)) (O.does operation.now)) result }
 {
     let (found, ready) = clear(alloc, operation)?;
-    let made = operation.make(alloc, found, ready)?;
-    match let_pass(operation, &made.entry) {
-        Ok(()) => Ok(made),
-        Err(stop) => Err(stop),
-    }
+    let_pass(operation, operation.make(alloc, found, ready)?)
 }

@@ -5,7 +5,7 @@ ghost use Rattle.kms_io.specs.Doorway.{Doorway};
 use crate::Ear;
 
 /// What an opening did.
-#[derive(Clone, Copy, Debug)]
+#[derive(Clone, Copy)]
 pub enum Opened {
     /// The ears asked for stand at the end of the list, each new.
     Open,

@@ -2,7 +2,7 @@
 ghost use Rattle.kms_io.specs.Shelf.{Shelf};
 
 /// What a read of a file did.
-#[derive(Clone, Copy, Debug)]
+#[derive(Clone, Copy)]
 pub enum FileAnswer {
     /// The room holds the whole content, of at most 4,194,304 bytes, and nothing else.
     Read,

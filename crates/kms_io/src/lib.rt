@@ -21,8 +21,6 @@ mod system;
 mod tcp_door;
 mod tcp_ear;
 mod tcp_link;
-#[cfg(test)]
-mod tests;
 
 pub use clock::Clock;
 pub use door::{Door, Opened};

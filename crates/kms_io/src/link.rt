@@ -3,7 +3,7 @@ ghost use Rattle.std.specs.Prelude.{◌<◌, length};
 ghost use Rattle.kms_io.specs.Wire.{Wire};
 
 /// What a read did.
-#[derive(Clone, Copy, Debug, PartialEq, Eq)]
+#[derive(Clone, Copy)]
 pub enum Took {
     /// So many bytes stand at the front of the room: at least 1, at most the room's length.
     Got(usize),
@@ -14,7 +14,7 @@ pub enum Took {
 }
 
 /// What a write did.
-#[derive(Clone, Copy, Debug, PartialEq, Eq)]
+#[derive(Clone, Copy)]
 pub enum Put {
     /// So many bytes at the front of the piece were written: at least 1, at most the piece's length.
     Wrote(usize),

@@ -164,12 +164,21 @@ pub enum Reading {
 }
 
 /// An operation with its fields: one that changes the account, or one that reads it.
-#[derive(Drop)]
 pub enum AskBody {
     /// It changes the account.
     Change(Changing),
     /// It reads the account.
     Read(Reading),
+}
+
+// Each crate that lets a request go calls this one drop, and doesn't take the request apart itself.
+impl Drop for AskBody {
+    fn drop(self) {
+        match self {
+            AskBody::Change(body) => drop(body),
+            AskBody::Read(body) => drop(body),
+        }
+    }
 }
 
 /// A request as the account is asked it.

@@ -48,7 +48,7 @@ fn page(values: &mut VecDeque<Given>, default: u64) -> Page
     ensures page { result ≡ page_by default (first_of values.old.items) (first_of (drop 1 values.old.items)) }
     ensures rest { values.new.items ≡ drop 1 (drop 1 values.old.items) }
 {
-    let limit = number_or(&next(values), default);
+    let limit = number_or(next(values), default);
     let marker = text_if(next(values));
     Page { limit, marker }
 }

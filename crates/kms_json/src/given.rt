@@ -1,6 +1,6 @@
 // What a body gives to a field, by its form.
 ghost use Rattle.std.specs.Prelude.{◌≡◌, [], IfOk};
-ghost use Rattle.kms_json.specs.Given.{text_if, text_in, texts_in, bytes_in, context_in, pairs_in, constraint_in, number_in, number_or, flag_in, items_in, is_named, operations_named};
+ghost use Rattle.kms_json.specs.Given.{text_if, text_in, texts_in, bytes_in, context_in, pairs_in, constraint_in, number_in, number_or, flag_in, items_in, is_named, is_there, operations_named};
 
 use crate::asks::GrantConstraint;
 use enc_context::Context;
@@ -170,8 +170,8 @@ fn is_named(names: &[Text], op: GrantOp) -> bool
 }
 
 /// The set of the operations that are named.
-pub fn operations_in(value: &Given) -> GrantOps
-    ensures { result ≡ operations_named (texts_in value.now) }
+pub fn operations_in(value: Given) -> GrantOps
+    ensures { result ≡ operations_named (texts_in value) }
 {
     let names = value.texts();
     GrantOps {
@@ -221,35 +221,42 @@ pub fn context_in(alloc: Global, value: Given) -> Result<Context, NoMemory>
 }
 
 /// The number, or this one where it is none.
-pub fn number_or(value: &Given, default: u64) -> u64
-    ensures { result ≡ number_or value.now default }
+pub fn number_or(value: Given, default: u64) -> u64
+    ensures { result ≡ number_or value default }
 {
     match value {
-        Given::Whole(Some(number)) => *number,
+        Given::Whole(Some(number)) => number,
         _ => default,
     }
 }
 
 /// The number, or 0 where it is none.
-pub fn number_in(value: &Given) -> u64
-    ensures { result ≡ number_in value.now }
+pub fn number_in(value: Given) -> u64
+    ensures { result ≡ number_in value }
 {
     number_or(value, 0)
 }
 
+/// Whether the member is given.
+pub fn is_given(value: Given) -> bool
+    ensures { result ≡ is_there value }
+{
+    value.is_there()
+}
+
 /// The truth value, or false where it is none.
-pub fn flag_in(value: &Given) -> bool
-    ensures { result ≡ flag_in value.now }
+pub fn flag_in(value: Given) -> bool
+    ensures { result ≡ flag_in value }
 {
     match value {
-        Given::Flag(flag) => *flag,
+        Given::Flag(flag) => flag,
         _ => false,
     }
 }
 
 /// Whether it is a list of one or more items.
-pub fn items_in(value: &Given) -> bool
-    ensures { result ≡ items_in value.now }
+pub fn items_in(value: Given) -> bool
+    ensures { result ≡ items_in value }
 {
     matches!(value, Given::Items(true))
 }

@@ -24,7 +24,6 @@ use kms_io::{Clock, Gate, Link, Point};
 use kms_json::{Ask, AskBody, JsonFault, Refusal, Reply};
 use kms_names::{NoMemory, Principal, Text};
 use publish_pass::{Answered, Pass, Realm, Service, Unread, answer_with};
-use published_account::let_ask_go;
 use std::alloc::Global;
 use std::sync::Wait;
 
@@ -151,21 +150,6 @@ fn answer_ask<W: Wait, R: Realm, G: Gate>(
     answer_read(host.rt, host.alloc, pass, ask)
 }
 
-// The same of a request that is let go then.
-fn answer_owned<W: Wait, R: Realm, G: Gate>(
-    host: &Host<'_, W, R, G>,
-    pass: &mut Pass<R>,
-    ask: Ask,
-) -> Result<Answered, NoMemory>
-    requires { IsProper pass.old.facts ask }
-    ensures answer { IfOk result (λ a. Gives pass.old (asks ask) a pass.new) }
-    ensures wants { OnErr result (Wanting pass.old (asks ask) pass.new) }
-{
-    let answered = answer_ask(host, pass, &ask);
-    let_ask_go(ask);
-    answered
-}
-
 // Answers a request that asks nothing of the account.
 fn answer_refusal<R: Realm>(
     alloc: Global,
@@ -208,17 +192,9 @@ fn answer_body<W: Wait, R: Realm, G: Gate>(
                 moment: now,
                 after,
             };
-            answer_owned(host, pass, ask)
+            answer_ask(host, pass, &ask)
         }
-        After::Malformed => {
-            let_ask_go(Ask {
-                body,
-                caller,
-                moment: now,
-                after: None,
-            });
-            answer_malformed(host.alloc, pass)
-        }
+        After::Malformed => answer_malformed(host.alloc, pass),
     }
 }
 

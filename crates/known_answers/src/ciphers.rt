@@ -1,68 +1,57 @@
 //! The cases of AES-256, of GHASH and of AES-256-GCM.
 
-use crate::columns::{Columns, push_bytes, push_number, written, written_bytes};
+use crate::cases::Case;
 use aes_block::AesKey;
 use gcm_seal::{open, seal};
 use ghash_field::Ghash;
-use std::alloc::Global;
 
 /// How many bytes the texts and the additional data of GCM have at most.
 const LIMIT: usize = 1 << 20;
 
 /// What a call of the cipher answers.
-pub fn aes256(alloc: Global, columns: &mut Columns<'_>) -> Option<String> {
-    match columns.word()? {
-        "encrypt" => encrypt(alloc, columns),
-        _ => None,
+pub fn aes256(case: &mut Case<'_>) {
+    match case.word() {
+        "encrypt" => {
+            let key = AesKey::new(&case.array());
+            let block = key.encrypt(case.array());
+            case.put_bytes(&block);
+        }
+        _ => case.lose(),
     }
-}
-
-fn encrypt(alloc: Global, columns: &mut Columns<'_>) -> Option<String> {
-    let key = AesKey::new(&columns.array()?);
-    let block = key.encrypt(columns.array()?);
-    written_bytes(alloc, &block)
 }
 
 /// What a call of GHASH answers.
-pub fn ghash(alloc: Global, columns: &mut Columns<'_>) -> Option<String> {
-    match columns.word()? {
-        "hash" => hash(alloc, columns),
-        _ => None,
+pub fn ghash(case: &mut Case<'_>) {
+    match case.word() {
+        "hash" => {
+            let mut hash = Ghash::new(case.array());
+            let blocks = case.bytes();
+            for block in blocks.chunks(16) {
+                let block = <[u8; 16]>::try_from(block);
+                hash.update_block(case.kept_or(block, [0; 16]));
+            }
+            case.put_bytes(&hash.value());
+        }
+        _ => case.lose(),
     }
-}
-
-fn hash(alloc: Global, columns: &mut Columns<'_>) -> Option<String> {
-    let mut hash = Ghash::new(columns.array()?);
-    let blocks = columns.bytes(alloc)?;
-    for block in blocks.chunks(16) {
-        hash.update_block(block_of(block)?);
-    }
-    written_bytes(alloc, &hash.value())
-}
-
-/// The block that 16 bytes are.
-fn block_of(bytes: &[u8]) -> Option<[u8; 16]> {
-    if bytes.len() != 16 {
-        return None;
-    }
-    let mut block = [0; 16];
-    block.copy_from_slice(bytes);
-    Some(block)
 }
 
 /// What a call of GCM answers.
-pub fn gcm(alloc: Global, columns: &mut Columns<'_>) -> Option<String> {
-    match columns.word()? {
-        "seal" => sealed(alloc, Message::read(alloc, columns)?),
-        "open" => {
-            let message = Message::read(alloc, columns)?;
-            opened(alloc, &message, &columns.array()?)
-        }
-        "open_bits" => {
-            let message = Message::read(alloc, columns)?;
-            opened_by_others(alloc, &message, columns.array()?)
-        }
-        _ => None,
+pub fn gcm(case: &mut Case<'_>) {
+    let call = case.word();
+    let mut message = Message {
+        key: case.array(),
+        iv: case.array(),
+        aad: case.bytes(),
+        text: case.bytes(),
+    };
+    case.require(message.aad.len() <= LIMIT && message.text.len() <= LIMIT);
+    let given = case.kept_or(message.text.clone(), Vec::new(case.alloc));
+    match call {
+        "seal" => sealed(case, &mut message, &given),
+        "open" => opened(case, &mut message, &given),
+        "open_bits" => refused(case, &mut message, &given),
+        _ => case.lose(),
     }
 }
 
@@ -76,64 +65,56 @@ struct Message {
 }
 
 impl Message {
-    fn read(alloc: Global, columns: &mut Columns<'_>) -> Option<Message> {
-        let message = Message {
-            key: columns.array()?,
-            iv: columns.array()?,
-            aad: columns.bytes(alloc)?,
-            text: columns.bytes(alloc)?,
-        };
-        Some(message)
+    /// Seals the text in place and gives its tag, where neither it nor the additional data is too long.
+    fn seal(&mut self) -> Option<[u8; 16]> {
+        if self.aad.len() > LIMIT || self.text.len() > LIMIT {
+            return None;
+        }
+        Some(seal(&self.key, &self.iv, &self.aad, &mut self.text))
+    }
+
+    /// Opens the text in place, where the tag is its own and neither it nor the additional data is too long.
+    fn open(&mut self, tag: &[u8; 16]) -> bool {
+        if self.aad.len() > LIMIT || self.text.len() > LIMIT {
+            return false;
+        }
+        open(&self.key, &self.iv, &self.aad, &mut self.text, tag)
     }
 }
 
-/// The ciphertext and the tag of a text, or that they aren't opened to it again.
-fn sealed(alloc: Global, message: Message) -> Option<String> {
-    let Message {
-        key,
-        iv,
-        aad,
-        mut text,
-    } = message;
-    let plain = written_bytes(alloc, &text)?;
-    if aad.len() > LIMIT || text.len() > LIMIT {
-        return None;
+/// The ciphertext and the tag of a text, and `not opened again` where the tag doesn't open the one to the other.
+fn sealed(case: &mut Case<'_>, message: &mut Message, given: &[u8]) {
+    if let Some(tag) = case.found(message.seal()) {
+        case.put_bytes(&message.text);
+        case.put_bytes(&tag);
+        if !message.open(&tag) || message.text.as_slice() != given {
+            case.put("not opened again");
+        }
     }
-    let tag = seal(&key, &iv, &aad, &mut text);
-    let mut answer = written_bytes(alloc, &text)?;
-    push_bytes(alloc, &mut answer, &tag)?;
-    let message = Message { key, iv, aad, text };
-    if opened(alloc, &message, &tag)?.as_str() != plain.as_str() {
-        return written(alloc, "not opened again");
-    }
-    Some(answer)
 }
 
 /// The text that a tag opens a ciphertext to, or `refused`.
-fn opened(alloc: Global, message: &Message, tag: &[u8; 16]) -> Option<String> {
-    let mut text = message.text.clone().ok()?;
-    if message.aad.len() > LIMIT || text.len() > LIMIT {
-        return None;
+fn opened(case: &mut Case<'_>, message: &mut Message, given: &[u8]) {
+    if message.open(&case.array()) {
+        case.put_bytes(&message.text);
+    } else if message.text.as_slice() == given {
+        case.put("refused");
+    } else {
+        case.put("changed");
     }
-    if open(&message.key, &message.iv, &message.aad, &mut text, tag) {
-        return written_bytes(alloc, &text);
-    }
-    let is_kept = text.as_slice() == message.text.as_slice();
-    written(alloc, if is_kept { "refused" } else { "changed" })
 }
 
-/// How many of the tags that differ from this one in one bit are refused.
-fn opened_by_others(alloc: Global, message: &Message, tag: [u8; 16]) -> Option<String> {
+/// How many of the tags that differ from this one in one bit are refused, with the ciphertext as it was.
+fn refused(case: &mut Case<'_>, message: &mut Message, given: &[u8]) {
+    let tag = case.array();
     let mut refused = 0u64;
     for bit in 0..128usize {
-        let mut other = tag;
+        let mut other: [u8; 16] = tag;
         other[bit / 8] ^= 1 << (bit % 8);
-        if opened(alloc, message, &other)?.as_str() == "refused" {
+        if !message.open(&other) && message.text.as_slice() == given {
             refused = refused.saturating_add(1);
         }
     }
-    let mut answer = String::new(alloc);
-    push_number(alloc, &mut answer, refused)?;
-    answer.push_str(" refused").ok()?;
-    Some(answer)
+    case.put_number(refused);
+    case.put("refused");
 }

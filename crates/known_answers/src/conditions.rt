@@ -1,195 +1,198 @@
 //! The cases of conditions: their operators, the forms of values, and whether they hold of facts.
 
-use crate::columns::{Columns, push, texts_of, written, written_texts, written_truth};
+use crate::cases::Case;
 use cond_ops::{
     CompiledCondition, Condition, ConditionList, Fact, FactList, Operator, QualifiedOperator,
     Qualifier, RequestFacts, holds, is_value, read_operator, write_operator,
 };
 use kms_names::{AccountNumber, Action, Principal, Text, TextList};
-use std::alloc::Global;
 
 /// What a call of conditions answers.
-pub fn conditions(alloc: Global, columns: &mut Columns<'_>) -> Option<String> {
-    match columns.word()? {
-        "operator" => operator(alloc, columns.text()?),
-        "read_operator" => qualified(alloc, columns.text()?),
+pub fn conditions(case: &mut Case<'_>) {
+    match case.word() {
+        "operator" => operator(case),
+        "read_operator" => qualified(case),
         "write_operator" => {
-            let operator = read_parts(columns)?;
-            written(alloc, write_operator(alloc, &operator).ok()?.as_str())
+            let operator = read_parts(case);
+            case.put_made(" ", write_operator(case.alloc, &operator));
         }
-        "is_well_qualified" => written_truth(alloc, read_parts(columns)?.is_well_qualified()),
+        "is_well_qualified" => {
+            let operator = read_parts(case);
+            case.put_truth(operator.is_well_qualified());
+        }
         "is_value" => {
-            let operator = Operator::read(columns.word()?)?;
-            written_truth(alloc, is_value(operator, columns.text()?))
+            let operator = named_operator(case);
+            let text = case.text();
+            case.put_truth(is_value(operator, text));
         }
-        "holds" => {
-            let condition = read_condition(alloc, columns)?;
-            let request = request_of(alloc, facts_of(alloc, columns.word()?)?)?;
-            asked(alloc, &condition, &request)
+        "holds" => asked(case),
+        "condition" => copied_condition(case),
+        "facts" => copied_facts(case),
+        _ => case.lose(),
+    }
+}
+
+/// The name of an operator, what it compares values as, and whether it is a negation.
+fn operator(case: &mut Case<'_>) {
+    match Operator::read(case.text()) {
+        Some(operator) => {
+            let copied = case.kept_or(operator.copy(), operator);
+            let name = copied.name();
+            let kind = operator.kind();
+            let sign = if operator.is_negated() {
+                "negated"
+            } else {
+                "positive"
+            };
+            case.put_string(format!(in case.alloc; "{name} {kind:?} {sign}"));
         }
-        "condition" => copied_condition(alloc, columns),
-        "facts" => written_facts(alloc, &facts_of(alloc, columns.word()?)?.copy().ok()?),
-        _ => None,
+        None => case.put("none"),
+    }
+}
+
+/// The parts of an operator's text.
+fn qualified(case: &mut Case<'_>) {
+    match read_operator(case.text()) {
+        Some(found) => {
+            let qualifier = case.kept_or(found.qualifier.copy(), found.qualifier);
+            case.put(found.operator.name());
+            case.put(match qualifier {
+                Qualifier::Plain => "Plain",
+                Qualifier::AllValues => "AllValues",
+                Qualifier::AnyValue => "AnyValue",
+            });
+            case.put(if found.if_exists { "IfExists" } else { "-" });
+        }
+        None => case.put("none"),
+    }
+}
+
+/// The operator whose name is the next column.
+fn named_operator(case: &mut Case<'_>) -> Operator {
+    let operator = Operator::read(case.word());
+    case.found(operator).unwrap_or(Operator::NullIs)
+}
+
+/// An operator by its parts: the name, the prefix, and whether the suffix stands.
+fn read_parts(case: &mut Case<'_>) -> QualifiedOperator {
+    let operator = named_operator(case);
+    let qualifier = match case.word() {
+        "Plain" => Qualifier::Plain,
+        "AllValues" => Qualifier::AllValues,
+        "AnyValue" => Qualifier::AnyValue,
+        _ => {
+            case.lose();
+            Qualifier::Plain
+        }
+    };
+    let suffix = case.word();
+    case.require(suffix == "IfExists" || suffix == "-");
+    QualifiedOperator {
+        operator,
+        qualifier,
+        if_exists: suffix == "IfExists",
+    }
+}
+
+/// A condition: an operator's text, a key and the values.
+fn read_condition(case: &mut Case<'_>) -> Condition {
+    let found = read_operator(case.word());
+    let written = case.found(found).unwrap_or(QualifiedOperator {
+        operator: Operator::NullIs,
+        qualifier: Qualifier::Plain,
+        if_exists: false,
+    });
+    Condition {
+        operator: written.operator,
+        qualifier: written.qualifier,
+        if_exists: written.if_exists,
+        key: case.owned_text(),
+        values: case.texts(),
+    }
+}
+
+/// The facts of the next column, with `; ` between two: `-` are none. Each is a key, ` = ` and its values.
+pub fn read_facts(case: &mut Case<'_>) -> FactList {
+    let word = case.word();
+    let mut items = Vec::new(case.alloc);
+    if word != "-" {
+        for fact in word.split("; ") {
+            let (key, values) = case.found(fact.split_once(" = ")).unwrap_or(("", ""));
+            let fact = Fact {
+                key: case.owned(key),
+                values: case.texts_of(values),
+            };
+            case.require(items.push(fact).is_ok());
+        }
+    }
+    FactList::new(items)
+}
+
+/// Whether a condition holds of a request of the account's root with some facts.
+fn asked(case: &mut Case<'_>) {
+    if let Some(account) = case.found(AccountNumber::read("111122223333")) {
+        let condition = read_condition(case);
+        let request = RequestFacts {
+            caller: Principal::Root(account),
+            action: Action::Decrypt,
+            resource: case.owned("arn:aws:kms:eu-west-1:111122223333:key/1"),
+            facts: read_facts(case),
+        };
+        put_holds(case, &condition, &request);
     }
 }
 
 /// Whether a condition holds, or that it is answered otherwise where it is made ready to be asked.
-fn asked(alloc: Global, condition: &Condition, request: &RequestFacts) -> Option<String> {
+fn put_holds(case: &mut Case<'_>, condition: &Condition, request: &RequestFacts) {
     let answer = holds(condition, request);
-    let compiled = CompiledCondition::new(alloc, condition).ok()?.copy().ok()?;
-    if compiled.holds(request) != answer {
-        return written(alloc, "otherwise compiled");
-    }
-    written_truth(alloc, answer)
-}
-
-/// The name of an operator, what it compares values as, and whether it is a negation.
-fn operator(alloc: Global, text: &str) -> Option<String> {
-    let Some(operator) = Operator::read(text) else {
-        return written(alloc, "none");
-    };
-    let name = operator.copy().ok()?.name();
-    let kind = operator.kind();
-    let sign = if operator.is_negated() {
-        "negated"
-    } else {
-        "positive"
-    };
-    format!(in alloc; "{name} {kind:?} {sign}").ok()
-}
-
-/// The parts of an operator's text.
-fn qualified(alloc: Global, text: &str) -> Option<String> {
-    let Some(found) = read_operator(text) else {
-        return written(alloc, "none");
-    };
-    let name = found.operator.name();
-    let qualifier = qualifier_name(found.qualifier.copy().ok()?);
-    let suffix = if found.if_exists { "IfExists" } else { "-" };
-    format!(in alloc; "{name} {qualifier} {suffix}").ok()
-}
-
-fn qualifier_name(qualifier: Qualifier) -> &'static str {
-    match qualifier {
-        Qualifier::Plain => "Plain",
-        Qualifier::AllValues => "AllValues",
-        Qualifier::AnyValue => "AnyValue",
-    }
-}
-
-fn qualifier_of(word: &str) -> Option<Qualifier> {
-    match word {
-        "Plain" => Some(Qualifier::Plain),
-        "AllValues" => Some(Qualifier::AllValues),
-        "AnyValue" => Some(Qualifier::AnyValue),
-        _ => None,
-    }
-}
-
-/// An operator by its parts: the name, the prefix, and whether the suffix stands.
-fn read_parts(columns: &mut Columns<'_>) -> Option<QualifiedOperator> {
-    let operator = Operator::read(columns.word()?)?;
-    let qualifier = qualifier_of(columns.word()?)?;
-    let if_exists = match columns.word()? {
-        "IfExists" => true,
-        "-" => false,
-        _ => return None,
-    };
-    Some(QualifiedOperator {
-        operator,
-        qualifier,
-        if_exists,
-    })
-}
-
-/// A condition: an operator's text, a key and the values.
-fn read_condition(alloc: Global, columns: &mut Columns<'_>) -> Option<Condition> {
-    let written = read_operator(columns.word()?)?;
-    let key = Text::from_str(alloc, columns.text()?).ok()?;
-    let values = columns.texts(alloc)?;
-    Some(Condition {
-        operator: written.operator,
-        qualifier: written.qualifier,
-        if_exists: written.if_exists,
-        key,
-        values,
-    })
-}
-
-/// The fact that a word stands for: a key, ` = ` and its values.
-fn fact_of(alloc: Global, word: &str) -> Option<Fact> {
-    let (key, values) = word.split_once(" = ")?;
-    let key = Text::from_str(alloc, key).ok()?;
-    let values = texts_of(alloc, values)?;
-    Some(Fact { key, values })
-}
-
-/// The facts that a word stands for, with `; ` between two: `-` are none.
-pub fn facts_of(alloc: Global, word: &str) -> Option<FactList> {
-    let mut items = Vec::new(alloc);
-    if word != "-" {
-        for fact in word.split("; ") {
-            items.push(fact_of(alloc, fact)?).ok()?;
+    let made = CompiledCondition::new(case.alloc, condition);
+    if let Some(compiled) = case.kept(made) {
+        let copied = case.kept_or(compiled.copy(), compiled);
+        if copied.holds(request) == answer {
+            case.put_truth(answer);
+        } else {
+            case.put("otherwise compiled");
         }
     }
-    Some(FactList::new(items))
-}
-
-/// A request of the account's root with some facts.
-fn request_of(alloc: Global, facts: FactList) -> Option<RequestFacts> {
-    let caller = Principal::Root(AccountNumber::read("111122223333")?);
-    let resource = Text::from_str(alloc, "arn:aws:kms:eu-west-1:111122223333:key/1").ok()?;
-    Some(RequestFacts {
-        caller,
-        action: Action::Decrypt,
-        resource,
-        facts,
-    })
 }
 
 /// Puts a key and its values behind other words.
-fn push_values(
-    alloc: Global,
-    words: &mut String,
-    mark: &str,
-    key: &Text,
-    values: &TextList,
-) -> Option<()> {
-    push(words, mark, key.as_str())?;
-    words.push_str(" = ").ok()?;
-    words.push_str(written_texts(alloc, values)?.as_str()).ok()
+fn put_values(case: &mut Case<'_>, mark: &str, key: &Text, values: &TextList) {
+    case.put_after(mark, key.as_str());
+    case.write(" = ");
+    case.put_texts("", values);
 }
 
-fn written_facts(alloc: Global, facts: &FactList) -> Option<String> {
-    let mut words = String::new(alloc);
-    for fact in facts.as_slice() {
-        push_values(alloc, &mut words, "; ", &fact.key, &fact.values)?;
+/// The facts of a copy of a list.
+fn copied_facts(case: &mut Case<'_>) {
+    let facts = read_facts(case);
+    let copied = case.kept_or(facts.copy(), facts);
+    for fact in copied.as_slice() {
+        put_values(case, "; ", &fact.key, &fact.values);
     }
-    if words.is_empty() {
-        words.push('-').ok()?;
-    }
-    Some(words)
+    case.end_list();
 }
 
-/// A condition: its operator's text, the key, ` = ` and the values.
-pub fn written_condition(alloc: Global, condition: &Condition) -> Option<String> {
+/// Puts a condition behind other words: its operator's text, the key, ` = ` and the values.
+pub fn put_condition(case: &mut Case<'_>, condition: &Condition) {
     let operator = QualifiedOperator {
         operator: condition.operator,
         qualifier: condition.qualifier,
         if_exists: condition.if_exists,
     };
-    let mut words = written(alloc, write_operator(alloc, &operator).ok()?.as_str())?;
-    push_values(alloc, &mut words, " ", &condition.key, &condition.values)?;
-    Some(words)
+    case.put_made(" ", write_operator(case.alloc, &operator));
+    put_values(case, " ", &condition.key, &condition.values);
 }
 
 /// The condition of a copy of a list of one.
-fn copied_condition(alloc: Global, columns: &mut Columns<'_>) -> Option<String> {
-    let mut items = Vec::new(alloc);
-    items.push(read_condition(alloc, columns)?).ok()?;
-    let list = ConditionList::new(items).copy().ok()?;
-    match list.as_slice() {
-        [condition] => written_condition(alloc, condition),
-        _ => None,
+fn copied_condition(case: &mut Case<'_>) {
+    let mut items = Vec::new(case.alloc);
+    let pushed = items.push(read_condition(case));
+    case.require(pushed.is_ok());
+    let list = ConditionList::new(items);
+    let copied = case.kept_or(list.copy(), list);
+    match copied.as_slice() {
+        [condition] => put_condition(case, condition),
+        _ => case.lose(),
     }
 }

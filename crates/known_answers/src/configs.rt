@@ -1,92 +1,67 @@
 //! The cases of configurations.
 
-use crate::columns::{Columns, push, push_bytes, push_number, written};
+use crate::cases::Case;
 use kms_config::{Config, ConfigFault, read_config};
 use kms_names::write_principal;
-use std::alloc::Global;
 
 /// What a call of configurations answers.
-pub fn configs(alloc: Global, columns: &mut Columns<'_>) -> Option<String> {
-    match columns.word()? {
-        "read_config" => answer(alloc, columns.word()?.as_bytes()),
-        "padded" => padded(alloc, columns),
-        _ => None,
+pub fn configs(case: &mut Case<'_>) {
+    match case.word() {
+        "read_config" => {
+            let text = case.word();
+            answer(case, text.as_bytes());
+        }
+        "padded" => padded(case),
+        _ => case.lose(),
     }
 }
 
 // The text with spaces behind it, so that it has so many bytes.
-fn padded(alloc: Global, columns: &mut Columns<'_>) -> Option<String> {
-    let text = columns.word()?.as_bytes();
-    let spaces = columns.number()?.saturating_sub(text.len() as u64);
-    let mut bytes = Vec::new(alloc);
-    bytes.extend_from_slice(text).ok()?;
+fn padded(case: &mut Case<'_>) {
+    let text = case.word().as_bytes();
+    let spaces = case.number::<u64>().saturating_sub(text.len() as u64);
+    let mut bytes = Vec::new(case.alloc);
+    case.require(bytes.extend_from_slice(text).is_ok());
     for _ in 0..spaces {
-        bytes.push(b' ').ok()?;
+        case.require(bytes.push(b' ').is_ok());
     }
-    answer(alloc, &bytes)
+    answer(case, &bytes);
 }
 
-fn answer(alloc: Global, bytes: &[u8]) -> Option<String> {
-    match read_config(alloc, bytes) {
-        Ok(config) => written_config(alloc, &config),
-        Err(ConfigFault::At(place)) => written(alloc, place.as_str()),
-        Err(ConfigFault::NoMemory) => None,
+fn answer(case: &mut Case<'_>, bytes: &[u8]) {
+    match read_config(case.alloc, bytes) {
+        Ok(config) => put_config(case, &config),
+        Err(ConfigFault::At(place)) => case.put(place.as_str()),
+        Err(ConfigFault::NoMemory) => case.lose(),
     }
 }
 
-fn written_config(alloc: Global, config: &Config) -> Option<String> {
+// The facts; the credentials, each as its id, its secret and its principal's ARN; and the principals with policies,
+// each as its ARN and how many policies it has.
+fn put_config(case: &mut Case<'_>, config: &Config) {
     let facts = &config.facts;
-    let mut words = written(alloc, "ok")?;
-    push(&mut words, " ", facts.account.as_str())?;
-    push(&mut words, " ", facts.region.as_str())?;
-    push_bytes(alloc, &mut words, &facts.root)?;
-    push_number(alloc, &mut words, u64::from(facts.boot))?;
-    push(
-        &mut words,
-        "; ",
-        written_credentials(alloc, config)?.as_str(),
-    )?;
-    push(
-        &mut words,
-        "; ",
-        written_identities(alloc, config)?.as_str(),
-    )?;
-    Some(words)
-}
-
-// The credentials, each as its id, its secret and its principal's ARN.
-fn written_credentials(alloc: Global, config: &Config) -> Option<String> {
-    let mut words = String::new(alloc);
+    case.put("ok");
+    case.put(facts.account.as_str());
+    case.put(facts.region.as_str());
+    case.put_bytes(&facts.root);
+    case.put_number(u64::from(facts.boot));
+    let mut mark = "; ";
     for credential in config.credentials.as_slice() {
-        push(&mut words, ", ", credential.id.as_str())?;
-        push(&mut words, " ", credential.secret.as_str())?;
-        push(
-            &mut words,
-            " ",
-            write_principal(alloc, &credential.principal).ok()?.as_str(),
-        )?;
+        case.put_after(mark, credential.id.as_str());
+        case.put(credential.secret.as_str());
+        case.put_made(" ", write_principal(case.alloc, &credential.principal));
+        mark = ", ";
     }
-    or_none(words)
-}
-
-// The principals with policies, each as its ARN and how many policies it has.
-fn written_identities(alloc: Global, config: &Config) -> Option<String> {
-    let mut words = String::new(alloc);
-    for identity in config.facts.identities.as_slice() {
-        push(
-            &mut words,
-            ", ",
-            write_principal(alloc, &identity.principal).ok()?.as_str(),
-        )?;
-        push_number(alloc, &mut words, identity.policies.as_slice().len() as u64)?;
+    if config.credentials.as_slice().is_empty() {
+        case.put_after("; ", "-");
     }
-    or_none(words)
-}
-
-// The words of a list: `-` where it is empty.
-fn or_none(mut words: String) -> Option<String> {
-    if words.is_empty() {
-        words.push('-').ok()?;
+    mark = "; ";
+    for identity in facts.identities.as_slice() {
+        case.put_made(mark, write_principal(case.alloc, &identity.principal));
+        case.put_number(identity.policies.as_slice().len() as u64);
+        mark = ", ";
     }
-    Some(words)
+    if facts.identities.as_slice().is_empty() {
+        case.put_after("; ", "-");
+    }
 }

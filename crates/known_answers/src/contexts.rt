@@ -2,101 +2,102 @@
 
 ghost use Rattle.enc_context.specs.Pairs.{HasDistinctKeys};
 
-use crate::columns::{Columns, push, push_bytes, push_number, written, written_truth};
+use crate::cases::Case;
 use enc_context::{Context, ContextFault, Pair};
-use kms_names::Text;
-use std::alloc::Global;
 
 /// What a call of a context answers.
-pub fn contexts(alloc: Global, columns: &mut Columns<'_>) -> Option<String> {
-    match columns.word()? {
-        "encode" => encode(alloc, columns),
-        "pairs" => pairs(alloc, columns),
-        "copy" => copy(alloc, columns),
-        "includes" => {
-            let held = read_context(alloc, columns)?;
-            let asked = read_context(alloc, columns)?;
-            written_truth(alloc, held.includes(&asked))
-        }
-        "equal" => {
-            let left = read_context(alloc, columns)?;
-            let right = read_context(alloc, columns)?;
-            written_truth(alloc, left.equal(&right))
-        }
-        _ => None,
+pub fn contexts(case: &mut Case<'_>) {
+    let call = case.word();
+    match context_of(case) {
+        Ok(context) => answer(case, call, &context),
+        Err(ContextFault::TooLong) if call == "encode" => case.put("TooLong"),
+        Err(_) => case.lose(),
     }
+}
+
+/// What a call of a context that is read answers.
+fn answer(case: &mut Case<'_>, call: &str, context: &Context) {
+    match call {
+        "encode" => put_encoding(case, context),
+        "pairs" => put_pairs(case, context),
+        "copy" => {
+            let copied = case.kept(context.copy());
+            of_two(case, call, context, copied);
+        }
+        "includes" | "equal" => {
+            let other = read_context(case);
+            of_two(case, call, context, other);
+        }
+        _ => case.lose(),
+    }
+}
+
+/// What a call of a context and of another one, or of its copy, answers.
+fn of_two(case: &mut Case<'_>, call: &str, context: &Context, other: Option<Context>) {
+    if let Some(other) = other {
+        match call {
+            "includes" => case.put_truth(context.includes(&other)),
+            "equal" => case.put_truth(context.equal(&other)),
+            _ if other.equal(context) => put_pairs(case, &other),
+            _ => case.put("not equal"),
+        }
+    }
+}
+
+/// The context of the pairs of the next column, with `, ` between two: `-` are none.
+fn context_of(case: &mut Case<'_>) -> Result<Context, ContextFault> {
+    let word = case.word();
+    let mut pairs = Vec::new(case.alloc);
+    if word != "-" {
+        for pair in word.split(", ") {
+            add(case, &mut pairs, pair);
+        }
+    }
+    Context::from_pairs(case.alloc, pairs)
 }
 
 /// Adds the pair that a word stands for, a key, `=` and a value, where its key is new.
-fn add(alloc: Global, pairs: &mut Vec<Pair>, word: &str) -> Option<()>
+fn add(case: &mut Case<'_>, pairs: &mut Vec<Pair>, word: &str)
     requires { HasDistinctKeys pairs.old.items }
     ensures { HasDistinctKeys pairs.new.items }
 {
-    let (key, value) = word.split_once('=')?;
-    let key = Text::from_str(alloc, key).ok()?;
-    let value = Text::from_str(alloc, value).ok()?;
-    if pairs.iter().any(|pair| pair.key == key) {
-        return None;
+    let (key, value) = case.found(word.split_once('=')).unwrap_or(("", ""));
+    let pair = Pair {
+        key: case.owned(key),
+        value: case.owned(value),
+    };
+    if pairs.iter().any(|other| other.key == pair.key) {
+        case.lose();
+    } else {
+        case.require(pairs.push(pair).is_ok());
     }
-    pairs.push(Pair { key, value }).ok()
-}
-
-/// The context of the pairs that a word stands for, with `, ` between two: `-` are none.
-fn context_of(alloc: Global, word: &str) -> Option<Result<Context, ContextFault>> {
-    let mut pairs = Vec::new(alloc);
-    if word != "-" {
-        for pair in word.split(", ") {
-            add(alloc, &mut pairs, pair)?;
-        }
-    }
-    Some(Context::from_pairs(alloc, pairs))
 }
 
 /// The context that the next column stands for.
-pub fn read_context(alloc: Global, columns: &mut Columns<'_>) -> Option<Context> {
-    context_of(alloc, columns.word()?)?.ok()
+pub fn read_context(case: &mut Case<'_>) -> Option<Context> {
+    let context = context_of(case);
+    case.kept(context)
 }
 
 /// The size of an encoding and the encoding, behind the bytes of `head` that stood there before.
-fn encode(alloc: Global, columns: &mut Columns<'_>) -> Option<String> {
-    let context = match context_of(alloc, columns.word()?)? {
-        Ok(context) => context,
-        Err(ContextFault::TooLong) => return written(alloc, "TooLong"),
-        Err(ContextFault::NoMemory) => return None,
-    };
-    let mut out = Vec::from_slice(alloc, b"head").ok()?;
-    context.encode_into(&mut out).ok()?;
-    let encoding = out.strip_prefix(b"head")?;
-    let mut answer = String::new(alloc);
-    push_number(alloc, &mut answer, context.encoded_len() as u64)?;
-    push_bytes(alloc, &mut answer, encoding)?;
-    Some(answer)
+fn put_encoding(case: &mut Case<'_>, context: &Context) {
+    let mut out = Vec::new(case.alloc);
+    case.require(out.extend_from_slice(b"head").is_ok());
+    case.require(context.encode_into(&mut out).is_ok());
+    case.put_number(context.encoded_len() as u64);
+    if let Some(encoding) = case.found(out.strip_prefix(b"head")) {
+        case.put_bytes(encoding);
+    }
 }
 
 /// The pairs of a context in their order.
-fn written_pairs(alloc: Global, context: &Context) -> Option<String> {
-    let mut words = String::new(alloc);
+fn put_pairs(case: &mut Case<'_>, context: &Context) {
     for pair in context.pairs() {
-        let pair = pair.copy().ok()?;
-        push(&mut words, ", ", pair.key.as_str())?;
-        words.push('=').ok()?;
-        words.push_str(pair.value.as_str()).ok()?;
+        if let Some(pair) = case.kept(pair.copy()) {
+            case.put_after(", ", pair.key.as_str());
+            case.write("=");
+            case.write(pair.value.as_str());
+        }
     }
-    if words.is_empty() {
-        words.push('-').ok()?;
-    }
-    Some(words)
-}
-
-fn pairs(alloc: Global, columns: &mut Columns<'_>) -> Option<String> {
-    written_pairs(alloc, &read_context(alloc, columns)?)
-}
-
-fn copy(alloc: Global, columns: &mut Columns<'_>) -> Option<String> {
-    let context = read_context(alloc, columns)?;
-    let copied = context.copy().ok()?;
-    if !copied.equal(&context) {
-        return written(alloc, "not equal");
-    }
-    written_pairs(alloc, &copied)
+    case.end_list();
 }

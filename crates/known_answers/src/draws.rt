@@ -1,8 +1,7 @@
 //! The cases of lines of draws.
 
-use crate::columns::{Columns, push, push_bytes, push_number};
+use crate::cases::Case;
 use draw_lines::{DrawLine, Drawn};
-use std::alloc::Global;
 
 /// How many words, and how many vectors, a line gives.
 const LIMIT: u64 = 1 << 48;
@@ -11,80 +10,72 @@ const LIMIT: u64 = 1 << 48;
 const MAX_DRAW: usize = 1024;
 
 /// What a call of a line answers.
-pub fn draws(alloc: Global, columns: &mut Columns<'_>) -> Option<String> {
-    match columns.word()? {
-        "draws" => drawn(alloc, columns),
-        "vectors" => vectors(alloc, columns),
-        "new" => new_line(alloc, columns),
-        _ => None,
+pub fn draws(case: &mut Case<'_>) {
+    let call = case.word();
+    let seed = case.array();
+    match call {
+        "draws" => drawn(case, &seed),
+        "vectors" => vectors(case, &seed),
+        "new" => new_line(case, &seed),
+        _ => case.lose(),
     }
+}
+
+/// The next column as how many words or vectors a line has given.
+fn read_given(case: &mut Case<'_>) -> u64 {
+    let given = case.number();
+    case.require(given <= LIMIT);
+    given
 }
 
 /// Puts what a draw of a size gives behind other words.
-fn push_draw(alloc: Global, words: &mut String, line: &mut DrawLine, size: usize) -> Option<()> {
-    if size > MAX_DRAW {
-        return None;
+fn put_draw(case: &mut Case<'_>, line: &mut DrawLine, size: &str) {
+    let size: usize = case.number_of(size);
+    case.require(size <= MAX_DRAW);
+    let mut room = [0xee; MAX_DRAW];
+    let out = &mut room[..size.min(MAX_DRAW)];
+    match line.draw(out) {
+        Drawn::Done => case.put_bytes(out),
+        Drawn::Spent if out.iter().all(|byte| *byte == 0xee) => case.put("spent"),
+        Drawn::Spent => case.put("changed"),
     }
-    let mut room = vec![in alloc; 0xee; size].ok()?;
-    if room.len() > MAX_DRAW {
-        return None;
-    }
-    match line.draw(&mut room) {
-        Drawn::Done => push_bytes(alloc, words, &room),
-        Drawn::Spent if room.iter().all(|byte| *byte == 0xee) => push(words, " ", "spent"),
-        Drawn::Spent => push(words, " ", "changed"),
-    }
-}
-
-fn drawn(alloc: Global, columns: &mut Columns<'_>) -> Option<String> {
-    let seed = columns.array()?;
-    let given = columns.number()?;
-    if given > LIMIT {
-        return None;
-    }
-    let mut line = DrawLine::resume(&seed, 7, 9, given, 0);
-    let mut answer = String::new(alloc);
-    for size in columns.word()?.split(' ') {
-        push_draw(alloc, &mut answer, &mut line, size.parse().ok()?)?;
-    }
-    push_number(alloc, &mut answer, line.words())?;
-    Some(answer)
 }
 
 /// Puts the next vector behind other words.
-fn push_vector(alloc: Global, words: &mut String, line: &mut DrawLine) -> Option<()> {
+fn put_vector(case: &mut Case<'_>, line: &mut DrawLine) {
     match line.next_iv() {
-        Some(iv) => push_bytes(alloc, words, &iv),
-        None => push(words, " ", "none"),
+        Some(iv) => case.put_bytes(&iv),
+        None => case.put("none"),
     }
 }
 
-fn vectors(alloc: Global, columns: &mut Columns<'_>) -> Option<String> {
-    let seed = columns.array()?;
-    let boot = columns.short_number()?;
-    let pass_number = columns.word()?.parse().ok()?;
-    let given = columns.number()?;
-    if given > LIMIT {
-        return None;
+fn drawn(case: &mut Case<'_>, seed: &[u8; 32]) {
+    let given = read_given(case).min(LIMIT);
+    let mut line = DrawLine::resume(seed, 7, 9, given, 0);
+    for size in case.word().split(' ') {
+        put_draw(case, &mut line, size);
     }
-    let mut line = DrawLine::resume(&seed, boot, pass_number, 0, given);
-    let mut answer = String::new(alloc);
-    for _ in 0..columns.short_number()? {
-        push_vector(alloc, &mut answer, &mut line)?;
-    }
-    push_number(alloc, &mut answer, line.ivs())?;
-    Some(answer)
+    case.put_number(line.words());
 }
 
-fn new_line(alloc: Global, columns: &mut Columns<'_>) -> Option<String> {
-    let seed = columns.array()?;
-    let boot = columns.short_number()?;
-    let pass_number = columns.word()?.parse().ok()?;
-    let mut line = DrawLine::new(&seed, boot, pass_number);
-    let mut answer = String::new(alloc);
-    push_draw(alloc, &mut answer, &mut line, columns.word()?.parse().ok()?)?;
-    push_vector(alloc, &mut answer, &mut line)?;
-    push_number(alloc, &mut answer, line.words())?;
-    push_number(alloc, &mut answer, line.ivs())?;
-    Some(answer)
+fn vectors(case: &mut Case<'_>, seed: &[u8; 32]) {
+    let boot = case.number();
+    let pass_number = case.number();
+    let given = read_given(case).min(LIMIT);
+    let mut line = DrawLine::resume(seed, boot, pass_number, 0, given);
+    for _ in 0..case.number::<u32>() {
+        put_vector(case, &mut line);
+    }
+    case.put_number(line.ivs());
+}
+
+fn new_line(case: &mut Case<'_>, seed: &[u8; 32]) {
+    let boot = case.number();
+    let pass_number = case.number();
+    let mut line = DrawLine::new(seed, boot, pass_number);
+    let size = case.word();
+    put_draw(case, &mut line, size);
+    put_vector(case, &mut line);
+    case.put_number(line.words());
+    case.put_number(line.ivs());
 }

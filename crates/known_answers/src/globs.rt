@@ -2,77 +2,62 @@
 
 ghost use Rattle.std.specs.Prelude.{◌≡◌, ◌<◌};
 
-use crate::columns::{Columns, push_number, written_truth};
+use crate::cases::Case;
 use kms_names::{Pattern, Steps, glob, glob_nocase};
-use std::alloc::Global;
 use std::marker::Brand;
 use std::sync::ledger::{Blank, Ledger};
 
 /// What a call of patterns answers.
-pub fn globs(alloc: Global, columns: &mut Columns<'_>) -> Option<String> {
-    match columns.word()? {
-        "glob" => {
-            let question = Question::read(columns)?;
-            written_truth(alloc, exact(&question))
+pub fn globs(case: &mut Case<'_>) {
+    let call = case.word();
+    if call == "size_of_steps" {
+        case.put_number(size_of::<Steps<Brand>>() as u64);
+    } else {
+        let question = Question {
+            pattern: case.text(),
+            text: case.text(),
+            ignores_case: call == "glob_nocase",
+        };
+        match call {
+            "glob" | "glob_nocase" => case.put_truth(matches(&question)),
+            "pattern" => prepared(case, &question),
+            _ => case.lose(),
         }
-        "glob_nocase" => {
-            let question = Question::read(columns)?;
-            written_truth(alloc, nocase(&question))
-        }
-        "pattern" => {
-            let question = Question::read(columns)?;
-            let pattern = Pattern::new(alloc, question.pattern).ok()?.copy().ok()?;
-            written_truth(alloc, pattern.matches(question.text))
-        }
-        "size_of_steps" => {
-            let mut answer = String::new(alloc);
-            push_number(alloc, &mut answer, size_of::<Steps<Brand>>() as u64)?;
-            Some(answer)
-        }
-        _ => None,
     }
 }
 
-/// A pattern and a text.
+/// A pattern and a text, and whether they are compared without ASCII case.
 #[derive(Clone, Copy)]
 struct Question<'a> {
     pattern: &'a str,
     text: &'a str,
+    ignores_case: bool,
 }
 
-impl<'a> Question<'a> {
-    fn read(columns: &mut Columns<'a>) -> Option<Question<'a>> {
-        let pattern = columns.text()?;
-        let text = columns.text()?;
-        Some(Question { pattern, text })
+/// What a copy of a pattern that is made ready answers.
+fn prepared(case: &mut Case<'_>, question: &Question<'_>) {
+    let made = Pattern::new(case.alloc, question.pattern);
+    if let Some(pattern) = case.kept(made) {
+        let copied = case.kept_or(pattern.copy(), pattern);
+        case.put_truth(copied.matches(question.text));
     }
 }
 
-fn exact_from<L: Ledger>(question: &Question<'_>, blank: Blank) -> bool
+fn matches_from<L: Ledger>(question: &Question<'_>, blank: Blank) -> bool
     requires name { blank.name ≡ L.name }
     requires parts { blank.parts ≡ L.parts }
     requires some { 0 < blank.parts }
 {
     let (book, share) = blank.open::<L>();
     let mut steps = Steps::new(book, share);
-    glob(question.pattern, question.text, &mut steps)
+    if question.ignores_case {
+        steps.tick();
+        glob_nocase(question.pattern, question.text, &mut steps)
+    } else {
+        glob(question.pattern, question.text, &mut steps)
+    }
 }
 
-fn nocase_from<L: Ledger>(question: &Question<'_>, blank: Blank) -> bool
-    requires name { blank.name ≡ L.name }
-    requires parts { blank.parts ≡ L.parts }
-    requires some { 0 < blank.parts }
-{
-    let (book, share) = blank.open::<L>();
-    let mut steps = Steps::new(book, share);
-    steps.tick();
-    glob_nocase(question.pattern, question.text, &mut steps)
-}
-
-fn exact(question: &Question<'_>) -> bool {
-    exact_from::<Brand>(question, Blank::new(1))
-}
-
-fn nocase(question: &Question<'_>) -> bool {
-    nocase_from::<Brand>(question, Blank::new(1))
+fn matches(question: &Question<'_>) -> bool {
+    matches_from::<Brand>(question, Blank::new(1))
 }

@@ -1,108 +1,100 @@
 //! Key states.
-ghost use Rattle.std.specs.Prelude.{◌≢◌, IfSome};
+ghost use Rattle.std.specs.Prelude.{◌≢◌};
 ghost use Rattle.key_states.specs.declared.states.State.{State};
 
-use crate::columns::{Columns, written, written_truth};
+use crate::cases::Case;
+use crate::names::read_action;
 use key_states::{KeyRow, State, StateFault, Stored, VersionList, permits};
-use kms_names::{Action, KeyId, Text};
-use std::alloc::Global;
+use kms_names::KeyId;
 
-// The state that a word stores.
-fn stored_of(word: &str) -> Option<Stored> {
-    match word {
-        "enabled" => Some(Stored::Enabled),
-        "disabled" => Some(Stored::Disabled),
-        _ => {
-            let (date, days) = word.strip_prefix("pending ")?.split_once(' ')?;
-            Some(Stored::Pending {
-                date: date.parse().ok()?,
-                days: days.parse().ok()?,
-            })
+/// The state of a key at a moment, whether its rotation is due, and what its state permits.
+pub fn keys(case: &mut Case<'_>) {
+    match case.word() {
+        "state_at" => state_at(case),
+        "due" => due(case),
+        "permits" => permitted(case),
+        _ => case.lose(),
+    }
+}
+
+// The state that the next column stores.
+fn read_stored(case: &mut Case<'_>) -> Stored {
+    match case.word() {
+        "enabled" => Stored::Enabled,
+        "disabled" => Stored::Disabled,
+        word => {
+            let times = case.found(word.strip_prefix("pending ")).unwrap_or("");
+            let (date, days) = case.found(times.split_once(' ')).unwrap_or(("", ""));
+            Stored::Pending {
+                date: case.number_of(date),
+                days: case.number_of(days),
+            }
         }
     }
 }
 
 // A copy of a row with these; nothing is asked of what else it holds.
-fn row(alloc: Global, stored: Stored, period: Option<u32>, next: u64) -> Option<KeyRow> {
+fn row(case: &mut Case<'_>, stored: Stored, period: Option<u32>, next: u64) -> KeyRow {
     let row = KeyRow {
         key: KeyId::new([7; 16]),
         born: 3,
         made: 1_700_000_000,
-        description: Text::from_str(alloc, "d").ok()?,
-        policy: Text::from_str(alloc, "p").ok()?,
+        description: case.owned("d"),
+        policy: case.owned("p"),
         stored,
-        versions: VersionList::new(Vec::new(alloc)),
+        versions: VersionList::new(Vec::new(case.alloc)),
         period,
         next,
         on_demand: 1,
     };
-    row.copy().ok()
+    case.kept_or(row.copy(), row)
 }
 
-fn state_name(state: State) -> &'static str {
-    match state {
+fn state_at(case: &mut Case<'_>) {
+    let stored = read_stored(case);
+    let moment = case.number();
+    let row = row(case, stored, None, 0);
+    case.put(match row.state_at(moment) {
         State::Enabled => "Enabled",
         State::Disabled => "Disabled",
         State::PendingDeletion => "PendingDeletion",
         State::Gone => "Gone",
-    }
+    });
+}
+
+fn due(case: &mut Case<'_>) {
+    let stored = read_stored(case);
+    let period = match case.word() {
+        "-" => None,
+        word => Some(case.number_of(word)),
+    };
+    let next = case.number();
+    let moment = case.number();
+    let row = row(case, stored, period, next);
+    case.put_truth(row.due(moment));
 }
 
 // The state of a key that is there.
-fn state_of(word: &str) -> Option<State>
-    ensures { IfSome result (λ state. state ≢ State.Gone) }
+fn read_state(case: &mut Case<'_>) -> State
+    ensures { result ≢ State.Gone }
 {
-    match word {
-        "Enabled" => Some(State::Enabled),
-        "Disabled" => Some(State::Disabled),
-        "PendingDeletion" => Some(State::PendingDeletion),
-        _ => None,
+    match case.word() {
+        "Enabled" => State::Enabled,
+        "Disabled" => State::Disabled,
+        "PendingDeletion" => State::PendingDeletion,
+        _ => {
+            case.lose();
+            State::Enabled
+        }
     }
 }
 
-fn action_of(word: &str) -> Option<Action> {
-    Action::ALL
-        .iter()
-        .find(|action| action.name() == word)
-        .copied()
-}
-
-fn state_at(alloc: Global, columns: &mut Columns<'_>) -> Option<String> {
-    let row = row(alloc, stored_of(columns.word()?)?, None, 0)?;
-    let moment = columns.number()?;
-    written(alloc, state_name(row.state_at(moment)))
-}
-
-fn due(alloc: Global, columns: &mut Columns<'_>) -> Option<String> {
-    let stored = stored_of(columns.word()?)?;
-    let word = columns.word()?;
-    let period = if word == "-" {
-        None
-    } else {
-        Some(word.parse().ok()?)
-    };
-    let row = row(alloc, stored, period, columns.number()?)?;
-    let moment = columns.number()?;
-    written_truth(alloc, row.due(moment))
-}
-
-fn permitted(alloc: Global, columns: &mut Columns<'_>) -> Option<String> {
-    let action = action_of(columns.word()?)?;
-    let state = state_of(columns.word()?)?;
-    let name = match permits(action, state) {
+fn permitted(case: &mut Case<'_>) {
+    let action = read_action(case);
+    let state = read_state(case);
+    case.put(match permits(action, state) {
         None => "none",
         Some(StateFault::Disabled) => "Disabled",
         Some(StateFault::InvalidState) => "InvalidState",
-    };
-    written(alloc, name)
-}
-
-/// The state of a key at a moment, whether its rotation is due, and what its state permits.
-pub fn keys(alloc: Global, columns: &mut Columns<'_>) -> Option<String> {
-    match columns.word()? {
-        "state_at" => state_at(alloc, columns),
-        "due" => due(alloc, columns),
-        "permits" => permitted(alloc, columns),
-        _ => None,
-    }
+    });
 }

@@ -6,8 +6,8 @@
 #![tactic(auto)]
 
 mod blobs;
+mod cases;
 mod ciphers;
-mod columns;
 mod conditions;
 mod configs;
 mod contexts;

@@ -1,356 +1,375 @@
 //! The cases of names: accounts, principals, keys, grants, aliases, references and operations.
 
-use crate::columns::{
-    Columns, push, push_bytes, written, written_bytes, written_text, written_texts, written_truth,
-};
+use crate::cases::Case;
 use kms_names::{
     AccountNumber, Action, ActionSet, Bytes, GrantId, GrantOp, GrantOps, KeyId, KeyRef, NameFault,
     Principal, Text, alias_arn, grant_text, grant_text_into, is_alias_name, is_region, key_arn,
     key_text, key_text_into, principal_len, read_alias, read_grant_id, read_key_id, read_key_ref,
     read_principal, write_principal,
 };
-use std::alloc::Global;
 use std::cmp::Ordering;
 
 /// What a call of names answers.
-pub fn names(alloc: Global, columns: &mut Columns<'_>) -> Option<String> {
-    match columns.word()? {
-        "account" => account(alloc, columns.text()?),
-        "is_region" => written_truth(alloc, is_region(columns.text()?)),
-        "is_alias_name" => written_truth(alloc, is_alias_name(columns.text()?)),
-        "read_alias" => alias(alloc, columns.text()?),
-        "read_key_ref" => reference(alloc, columns),
-        "read_principal" => principal(alloc, columns.text()?),
-        "write_principal" => principal_text(alloc, columns),
-        "principal_len" => length(alloc, columns),
-        "account_of" => {
-            let principal = read_parts(alloc, columns)?;
-            written(alloc, principal.account().as_str())
+pub fn names(case: &mut Case<'_>) {
+    let call = case.word();
+    match call {
+        "account" => account(case),
+        "is_region" => {
+            let text = case.text();
+            case.put_truth(is_region(text));
         }
-        "key_arn" => arn_of_key(alloc, columns),
-        "alias_arn" => arn_of_alias(alloc, columns),
-        call => ids(alloc, call, columns),
+        "is_alias_name" => {
+            let text = case.text();
+            case.put_truth(is_alias_name(text));
+        }
+        "read_alias" => alias(case),
+        "read_key_ref" => reference(case),
+        "read_principal" => principal(case),
+        "write_principal" | "principal_len" | "account_of" => of_parts(case, call),
+        "key_arn" | "alias_arn" => arn(case, call),
+        _ => ids(case, call),
     }
 }
 
 /// What a call of ids answers.
-fn ids(alloc: Global, call: &str, columns: &mut Columns<'_>) -> Option<String> {
+fn ids(case: &mut Case<'_>, call: &str) {
     match call {
-        "read_key_id" => key_id(alloc, columns.text()?),
-        "key_text" => text_of_key(alloc, &KeyId::new(columns.array()?)),
+        "read_key_id" => match read_key_id(case.text()) {
+            Some(key) => {
+                let copied = case.kept_or(key.copy(), key);
+                case.put_bytes(copied.as_bytes());
+            }
+            None => case.put("none"),
+        },
+        "key_text" => {
+            let key = KeyId::new(case.array());
+            case.put_made(" ", key_text(case.alloc, &key));
+        }
         "key_text_into" => {
-            let key = KeyId::new(columns.array()?);
-            written(alloc, key_text_into(&key, &mut [0; 36]))
+            let key = KeyId::new(case.array());
+            case.put(key_text_into(&key, &mut [0; 36]));
         }
-        "read_grant_id" => grant_id(alloc, columns.text()?),
-        "grant_text" => text_of_grant(alloc, &GrantId::new(columns.array()?)),
+        "read_grant_id" => match read_grant_id(case.text()) {
+            Some(grant) => {
+                let copied = case.kept_or(grant.copy(), grant);
+                case.put_bytes(copied.as_bytes());
+            }
+            None => case.put("none"),
+        },
+        "grant_text" => {
+            let grant = GrantId::new(case.array());
+            case.put_made(" ", grant_text(case.alloc, &grant));
+        }
         "grant_text_into" => {
-            let grant = GrantId::new(columns.array()?);
-            written(alloc, grant_text_into(&grant, &mut [0; 64]))
+            let grant = GrantId::new(case.array());
+            case.put(grant_text_into(&grant, &mut [0; 64]));
         }
-        _ => operations(alloc, call, columns),
+        _ => operations(case, call),
     }
 }
 
 /// What a call of operations answers.
-fn operations(alloc: Global, call: &str, columns: &mut Columns<'_>) -> Option<String> {
+fn operations(case: &mut Case<'_>, call: &str) {
     match call {
-        "action" => action(alloc, columns.number()?),
-        "grant_op" => grant_op(alloc, columns.text()?),
+        "action" => action(case),
+        "grant_op" => match GrantOp::read(case.text()) {
+            Some(op) => {
+                case.put(op.name());
+                case.put(op.action().name());
+            }
+            None => case.put("none"),
+        },
         "grant_ops" => {
-            let set = read_set(columns.word()?)?;
-            written_set(alloc, &set.copy().ok()?)
+            let set = read_set(case);
+            put_set(case, &set);
         }
         "is_subset" => {
-            let inner = read_set(columns.word()?)?;
-            let outer = read_set(columns.word()?)?;
-            written_truth(alloc, inner.is_subset(&outer))
+            let inner = read_set(case);
+            let outer = read_set(case);
+            case.put_truth(inner.is_subset(&outer));
         }
-        _ => action_sets(alloc, call, columns),
+        _ => action_sets(case, call),
+    }
+}
+
+/// What a call of sets of actions answers.
+fn action_sets(case: &mut Case<'_>, call: &str) {
+    match call {
+        "actions_like" => {
+            let patterns = case.texts();
+            put_actions(case, &ActionSet::like(&patterns));
+        }
+        "is_like" => {
+            let pattern = case.text();
+            let action = read_action(case);
+            case.put_truth(action.is_like(pattern));
+        }
+        "complement" => {
+            let set = read_actions(case);
+            put_actions(case, &set.complement());
+        }
+        "union" => {
+            let left = read_actions(case);
+            let right = read_actions(case);
+            put_actions(case, &left.union(right));
+        }
+        _ => values(case, call),
     }
 }
 
 /// What a call of texts, of bytes and of lists of texts answers.
-fn values(alloc: Global, call: &str, columns: &mut Columns<'_>) -> Option<String> {
+fn values(case: &mut Case<'_>, call: &str) {
     match call {
-        "text" => copied_text(alloc, columns.text()?),
-        "bytes" => copied_bytes(alloc, columns.bytes(alloc)?),
-        "texts" => written_texts(alloc, &columns.texts(alloc)?.copy().ok()?),
-        "order" => order(alloc, columns),
-        _ => None,
+        "text" => {
+            let text = case.owned_text();
+            let copied = case.kept_text(text.copy());
+            if copied == text {
+                case.put_text(" ", copied.as_str());
+            } else {
+                case.put("another copy");
+            }
+        }
+        "bytes" => copied_bytes(case),
+        "texts" => {
+            let list = case.texts();
+            let copied = case.kept_or(list.copy(), list);
+            case.put_texts(" ", &copied);
+        }
+        "order" => order(case),
+        _ => case.lose(),
     }
 }
 
-/// The name of a fault, but for want of memory.
-fn fault_name(fault: NameFault) -> Option<&'static str> {
+fn put_fault(case: &mut Case<'_>, fault: NameFault) {
     match fault {
-        NameFault::BadArn => Some("BadArn"),
-        NameFault::BadAlias => Some("BadAlias"),
-        NameFault::BadId => Some("BadId"),
-        NameFault::NoMemory => None,
+        NameFault::BadArn => case.put("BadArn"),
+        NameFault::BadAlias => case.put("BadAlias"),
+        NameFault::BadId => case.put("BadId"),
+        NameFault::NoMemory => case.lose(),
     }
 }
 
-fn written_fault(alloc: Global, fault: NameFault) -> Option<String> {
-    written(alloc, fault_name(fault)?)
-}
-
-fn account(alloc: Global, text: &str) -> Option<String> {
-    match AccountNumber::read(text) {
-        Some(account) => written(alloc, account.copy().ok()?.as_str()),
-        None => written(alloc, "none"),
+fn account(case: &mut Case<'_>) {
+    match AccountNumber::read(case.text()) {
+        Some(account) => {
+            let copied = case.kept_or(account.copy(), account);
+            case.put(copied.as_str());
+        }
+        None => case.put("none"),
     }
 }
 
-fn alias(alloc: Global, text: &str) -> Option<String> {
-    match read_alias(alloc, text) {
-        Ok(alias) => written(alloc, alias.copy().ok()?.as_str()),
-        Err(fault) => written_fault(alloc, fault),
+fn alias(case: &mut Case<'_>) {
+    match read_alias(case.alloc, case.text()) {
+        Ok(alias) => {
+            let copied = case.kept_or(alias.copy(), alias);
+            case.put(copied.as_str());
+        }
+        Err(fault) => put_fault(case, fault),
+    }
+}
+
+/// The account whose number is the next column.
+fn read_account(case: &mut Case<'_>) -> Option<AccountNumber> {
+    let account = AccountNumber::read(case.word());
+    case.found(account)
+}
+
+fn reference(case: &mut Case<'_>) {
+    let text = case.text();
+    let account = read_account(case);
+    let region = case.word();
+    if let Some(account) = account {
+        match read_key_ref(case.alloc, text, &account, region) {
+            Ok(reference) => {
+                let copied = case.kept_or(reference.copy(), KeyRef::Elsewhere);
+                if copied == reference {
+                    put_reference(case, &copied);
+                } else {
+                    case.put("another copy");
+                }
+            }
+            Err(fault) => put_fault(case, fault),
+        }
     }
 }
 
 /// A reference: `key` and the id's bytes, `alias` and the name, or `elsewhere`.
-fn written_reference(alloc: Global, reference: &KeyRef) -> Option<String> {
+fn put_reference(case: &mut Case<'_>, reference: &KeyRef) {
     match reference {
         KeyRef::Key(key) => {
-            let mut answer = written(alloc, "key")?;
-            push_bytes(alloc, &mut answer, key.as_bytes())?;
-            Some(answer)
+            case.put("key");
+            case.put_bytes(key.as_bytes());
         }
         KeyRef::Alias(alias) => {
-            let mut answer = written(alloc, "alias")?;
-            push(&mut answer, " ", alias.as_str())?;
-            Some(answer)
+            case.put("alias");
+            case.put(alias.as_str());
         }
-        KeyRef::Elsewhere => written(alloc, "elsewhere"),
+        KeyRef::Elsewhere => case.put("elsewhere"),
     }
 }
 
-fn reference(alloc: Global, columns: &mut Columns<'_>) -> Option<String> {
-    let text = columns.text()?;
-    let account = AccountNumber::read(columns.word()?)?;
-    match read_key_ref(alloc, text, &account, columns.word()?) {
-        Ok(reference) => copied_reference(alloc, &reference),
-        Err(fault) => written_fault(alloc, fault),
-    }
-}
-
-fn copied_reference(alloc: Global, reference: &KeyRef) -> Option<String> {
-    let copied = reference.copy().ok()?;
-    if copied != *reference {
-        return written(alloc, "another copy");
-    }
-    written_reference(alloc, &copied)
-}
-
-/// The principal of a kind, an account and a path and name: `root` has none of these.
-pub fn read_parts(alloc: Global, columns: &mut Columns<'_>) -> Option<Principal> {
-    let kind = columns.word()?;
-    let account = AccountNumber::read(columns.word()?)?;
-    match kind {
-        "root" => Some(Principal::Root(account)),
-        "user" => Some(Principal::User(account, Text::from_str(alloc, columns.text()?).ok()?)),
-        "role" => Some(Principal::Role(account, Text::from_str(alloc, columns.text()?).ok()?)),
-        _ => None,
+fn principal(case: &mut Case<'_>) {
+    match read_principal(case.alloc, case.text()) {
+        Ok(principal) => {
+            let copied = case.kept_or(principal.copy(), principal);
+            put_parts(case, &copied);
+        }
+        Err(fault) => put_fault(case, fault),
     }
 }
 
 /// The kind of a principal, its account, and its path and name.
-fn written_parts(alloc: Global, principal: &Principal) -> Option<String> {
+fn put_parts(case: &mut Case<'_>, principal: &Principal) {
     let (kind, account, name) = match principal {
         Principal::Root(account) => ("root", account, ""),
         Principal::User(account, name) => ("user", account, name.as_str()),
         Principal::Role(account, name) => ("role", account, name.as_str()),
     };
-    let mut answer = written(alloc, kind)?;
-    push(&mut answer, " ", account.as_str())?;
+    case.put(kind);
+    case.put(account.as_str());
     if !name.is_empty() {
-        push(&mut answer, " ", name)?;
-    }
-    Some(answer)
-}
-
-fn principal(alloc: Global, text: &str) -> Option<String> {
-    match read_principal(alloc, text) {
-        Ok(principal) => written_parts(alloc, &principal.copy().ok()?),
-        Err(fault) => written_fault(alloc, fault),
+        case.put(name);
     }
 }
 
-fn principal_text(alloc: Global, columns: &mut Columns<'_>) -> Option<String> {
-    let principal = read_parts(alloc, columns)?;
-    written(alloc, write_principal(alloc, &principal).ok()?.as_str())
-}
-
-fn length(alloc: Global, columns: &mut Columns<'_>) -> Option<String> {
-    let principal = read_parts(alloc, columns)?;
-    (principal_len(&principal) as u64).to_string(alloc).ok()
-}
-
-fn key_id(alloc: Global, text: &str) -> Option<String> {
-    match read_key_id(text) {
-        Some(key) => written_bytes(alloc, key.copy().ok()?.as_bytes()),
-        None => written(alloc, "none"),
+/// The principal of a kind, an account and a path and name: `root` has none of these.
+fn read_parts(case: &mut Case<'_>) -> Option<Principal> {
+    let kind = case.word();
+    let account = read_account(case)?;
+    match kind {
+        "root" => Some(Principal::Root(account)),
+        "user" => Some(Principal::User(account, case.owned_text())),
+        "role" => Some(Principal::Role(account, case.owned_text())),
+        _ => {
+            case.lose();
+            None
+        }
     }
 }
 
-fn text_of_key(alloc: Global, key: &KeyId) -> Option<String> {
-    written(alloc, key_text(alloc, key).ok()?.as_str())
-}
-
-fn grant_id(alloc: Global, text: &str) -> Option<String> {
-    match read_grant_id(text) {
-        Some(grant) => written_bytes(alloc, grant.copy().ok()?.as_bytes()),
-        None => written(alloc, "none"),
+/// What a call of a principal answers that is given by its parts.
+fn of_parts(case: &mut Case<'_>, call: &str) {
+    if let Some(principal) = read_parts(case) {
+        match call {
+            "write_principal" => case.put_made(" ", write_principal(case.alloc, &principal)),
+            "principal_len" => case.put_number(principal_len(&principal) as u64),
+            _ => case.put(principal.account().as_str()),
+        }
     }
 }
 
-fn text_of_grant(alloc: Global, grant: &GrantId) -> Option<String> {
-    written(alloc, grant_text(alloc, grant).ok()?.as_str())
+/// The ARN of a key or of an alias.
+fn arn(case: &mut Case<'_>, call: &str) {
+    let account = read_account(case);
+    let region = case.word();
+    if let Some(account) = account {
+        if call == "key_arn" {
+            let key = KeyId::new(case.array());
+            case.put_made(" ", key_arn(case.alloc, &account, region, &key));
+        } else {
+            let alias = read_alias(case.alloc, case.word());
+            if let Some(alias) = case.kept(alias) {
+                case.put_made(" ", alias_arn(case.alloc, &account, region, &alias));
+            }
+        }
+    }
 }
 
-fn arn_of_key(alloc: Global, columns: &mut Columns<'_>) -> Option<String> {
-    let account = AccountNumber::read(columns.word()?)?;
-    let region = columns.word()?;
-    let key = KeyId::new(columns.array()?);
-    written(alloc, key_arn(alloc, &account, region, &key).ok()?.as_str())
-}
-
-fn arn_of_alias(alloc: Global, columns: &mut Columns<'_>) -> Option<String> {
-    let account = AccountNumber::read(columns.word()?)?;
-    let region = columns.word()?;
-    let alias = read_alias(alloc, columns.word()?).ok()?;
-    written(
-        alloc,
-        alias_arn(alloc, &account, region, &alias).ok()?.as_str(),
-    )
+/// The name of the action at a place, and the text that globs are matched with.
+fn action(case: &mut Case<'_>) {
+    let place = case.number();
+    let action = Action::ALL.iter().find(|action| action.number() == place);
+    if let Some(action) = case.found(action) {
+        case.put(action.name());
+        case.put(action.text());
+    }
 }
 
 /// The action of a name.
-pub fn action_of(name: &str) -> Option<Action> {
+fn action_of(name: &str) -> Option<Action> {
     Action::ALL
         .iter()
         .find(|action| action.name() == name)
         .copied()
 }
 
-/// The name of the action at a place, and the text that globs are matched with.
-fn action(alloc: Global, place: u64) -> Option<String> {
-    let action = Action::ALL
-        .iter()
-        .find(|action| u64::from(action.number()) == place)?;
-    let mut answer = written(alloc, action.name())?;
-    push(&mut answer, " ", action.text())?;
-    Some(answer)
+/// The action whose name is the next column.
+pub fn read_action(case: &mut Case<'_>) -> Action {
+    let action = action_of(case.word());
+    case.found(action).unwrap_or(Action::Decrypt)
 }
 
-/// The set of some actions, with `, ` between two: `-` are none.
-fn read_actions(word: &str) -> Option<ActionSet> {
+/// The set of the actions of the next column, with `, ` between two: `-` are none.
+fn read_actions(case: &mut Case<'_>) -> ActionSet {
+    let word = case.word();
     let mut set = ActionSet::new();
     if word != "-" {
         for name in word.split(", ") {
-            set.insert(action_of(name)?);
+            if let Some(action) = case.found(action_of(name)) {
+                set.insert(action);
+            }
         }
     }
-    Some(set)
+    set
 }
 
 /// The actions of a copy of a set in order: `-` are none.
-fn written_actions(alloc: Global, set: &ActionSet) -> Option<String> {
-    let set = set.copy().ok()?;
-    let mut words = String::new(alloc);
+fn put_actions(case: &mut Case<'_>, set: &ActionSet) {
+    let copied = case.kept_or(set.copy(), *set);
     for action in Action::ALL {
-        if set.contains(action) {
-            push(&mut words, ", ", action.name())?;
+        if copied.contains(action) {
+            case.put_after(", ", action.name());
         }
     }
-    if words.is_empty() {
-        words.push('-').ok()?;
-    }
-    Some(words)
+    case.end_list();
 }
 
-/// What a call of sets of actions answers.
-fn action_sets(alloc: Global, call: &str, columns: &mut Columns<'_>) -> Option<String> {
-    match call {
-        "actions_like" => written_actions(alloc, &ActionSet::like(&columns.texts(alloc)?)),
-        "is_like" => {
-            let pattern = columns.text()?;
-            written_truth(alloc, action_of(columns.word()?)?.is_like(pattern))
-        }
-        "complement" => written_actions(alloc, &read_actions(columns.word()?)?.complement()),
-        "union" => {
-            let left = read_actions(columns.word()?)?;
-            let right = read_actions(columns.word()?)?;
-            written_actions(alloc, &left.union(right))
-        }
-        _ => values(alloc, call, columns),
-    }
-}
-
-/// The name of an operation of grants and of its action.
-fn grant_op(alloc: Global, text: &str) -> Option<String> {
-    let Some(op) = GrantOp::read(text) else {
-        return written(alloc, "none");
-    };
-    let mut answer = written(alloc, op.name())?;
-    push(&mut answer, " ", op.action().name())?;
-    Some(answer)
-}
-
-/// The set of some operations, with `, ` between two: `-` are none.
-fn read_set(word: &str) -> Option<GrantOps> {
+/// The set of the operations of the next column, with `, ` between two: `-` are none.
+fn read_set(case: &mut Case<'_>) -> GrantOps {
+    let word = case.word();
     let mut set = GrantOps::new();
     if word != "-" {
         for name in word.split(", ") {
-            set.insert(GrantOp::read(name)?);
+            if let Some(op) = case.found(GrantOp::read(name)) {
+                set.insert(op);
+            }
         }
     }
-    Some(set)
+    set
 }
 
-/// The operations of a set in order: `-` are none.
-fn written_set(alloc: Global, set: &GrantOps) -> Option<String> {
-    if set.is_empty() {
-        return written(alloc, "-");
-    }
-    let mut words = String::new(alloc);
+/// The operations of a copy of a set in order: `-` are none.
+fn put_set(case: &mut Case<'_>, set: &GrantOps) {
+    let copied = case.kept_or(set.copy(), *set);
     for op in GrantOp::ALL {
-        if set.contains(op) {
-            push(&mut words, ", ", op.name())?;
+        if copied.contains(op) {
+            case.put_after(", ", op.name());
         }
     }
-    Some(words)
-}
-
-fn copied_text(alloc: Global, text: &str) -> Option<String> {
-    let text = Text::from_str(alloc, text).ok()?;
-    let copied = text.copy().ok()?;
-    if copied != text {
-        return written(alloc, "another copy");
+    if copied.is_empty() {
+        case.put("-");
     }
-    written_text(alloc, copied.as_str())
 }
 
-fn copied_bytes(alloc: Global, items: Vec<u8>) -> Option<String> {
-    let bytes = Bytes::new(items);
-    let copied = Bytes::from_slice(alloc, bytes.copy().ok()?.as_slice()).ok()?;
-    if copied != bytes {
-        return written(alloc, "another copy");
+fn copied_bytes(case: &mut Case<'_>) {
+    let bytes = Bytes::new(case.bytes());
+    let copied = case.kept_bytes(bytes.copy());
+    let again = case.kept_bytes(Bytes::from_slice(case.alloc, copied.as_slice()));
+    if again == bytes {
+        case.put_bytes(again.as_slice());
+    } else {
+        case.put("another copy");
     }
-    written_bytes(alloc, copied.as_slice())
 }
 
-fn order(alloc: Global, columns: &mut Columns<'_>) -> Option<String> {
-    let left = Text::from_str(alloc, columns.text()?).ok()?;
-    let right = Text::from_string(written(alloc, columns.text()?)?);
-    written(alloc, order_name(left.cmp(&right)))
-}
-
-fn order_name(order: Ordering) -> &'static str {
-    match order {
+fn order(case: &mut Case<'_>) {
+    let left = case.owned_text();
+    let right = String::from_str(case.alloc, case.text());
+    let right = Text::from_string(case.kept_or(right, String::new(case.alloc)));
+    case.put(match left.cmp(&right) {
         Ordering::Less => "less",
         Ordering::Equal => "equal",
         Ordering::Greater => "greater",
-    }
+    });
 }

@@ -1,11 +1,10 @@
 //! The parts whose answers are known.
 
-use crate::columns::Columns;
+use crate::cases::Case;
 use crate::{
     blobs, ciphers, conditions, configs, contexts, draws, globs, keys, macs, names, policies,
     signatures, verdicts,
 };
-use std::alloc::Global;
 
 /// A part, with a file of cases.
 #[derive(Clone, Copy)]
@@ -68,25 +67,24 @@ impl Part {
         }
     }
 
-    /// What the call of a case answers, as it is written in its last column; None where the case can't
-    /// be read or memory was refused.
-    pub fn answer(self, alloc: Global, columns: &mut Columns<'_>) -> Option<String> {
+    /// Makes the call of a case, and writes what it answers as it stands in the last column.
+    pub fn answer(self, case: &mut Case<'_>) {
         match self {
-            Part::Aes256 => ciphers::aes256(alloc, columns),
-            Part::Ghash => ciphers::ghash(alloc, columns),
-            Part::Gcm => ciphers::gcm(alloc, columns),
-            Part::Hmac => macs::hmac(alloc, columns),
-            Part::Draws => draws::draws(alloc, columns),
-            Part::Contexts => contexts::contexts(alloc, columns),
-            Part::Blobs => blobs::blobs(alloc, columns),
-            Part::Names => names::names(alloc, columns),
-            Part::Globs => globs::globs(alloc, columns),
-            Part::Conditions => conditions::conditions(alloc, columns),
-            Part::Policies => policies::policies(alloc, columns),
-            Part::Verdicts => verdicts::verdicts(alloc, columns),
-            Part::KeyStates => keys::keys(alloc, columns),
-            Part::Signatures => signatures::signatures(alloc, columns),
-            Part::Configs => configs::configs(alloc, columns),
+            Part::Aes256 => ciphers::aes256(case),
+            Part::Ghash => ciphers::ghash(case),
+            Part::Gcm => ciphers::gcm(case),
+            Part::Hmac => macs::hmac(case),
+            Part::Draws => draws::draws(case),
+            Part::Contexts => contexts::contexts(case),
+            Part::Blobs => blobs::blobs(case),
+            Part::Names => names::names(case),
+            Part::Globs => globs::globs(case),
+            Part::Conditions => conditions::conditions(case),
+            Part::Policies => policies::policies(case),
+            Part::Verdicts => verdicts::verdicts(case),
+            Part::KeyStates => keys::keys(case),
+            Part::Signatures => signatures::signatures(case),
+            Part::Configs => configs::configs(case),
         }
     }
 }

@@ -1,6 +1,6 @@
 //! What is written of a file of cases.
 
-use crate::columns::Columns;
+use crate::cases::Case;
 use crate::parts::Part;
 use std::alloc::Global;
 use std::rt::Files;
@@ -22,30 +22,21 @@ enum Outcome {
     NotRead,
 }
 
-/// Whether a line is a case, and no comment and not empty.
-fn is_case(line: &str) -> bool {
-    !line.is_empty() && !line.starts_with('#')
-}
-
 /// What becomes of the case that a line is: its last column is the answer that is wanted.
 fn outcome_of(alloc: Global, part: Part, line: &str) -> Outcome {
     let Some((front, wanted)) = line.rsplit_once(" | ") else {
         return Outcome::NotRead;
     };
-    let mut columns = Columns::new(front);
-    match part.answer(alloc, &mut columns) {
-        Some(answer) if columns.is_empty() => {
-            if answer.as_str() == wanted {
-                Outcome::AsWanted
-            } else {
-                Outcome::Other(answer)
-            }
-        }
-        _ => Outcome::NotRead,
+    let mut case = Case::new(alloc, front);
+    part.answer(&mut case);
+    match case.into_answer() {
+        None => Outcome::NotRead,
+        Some(answer) if answer.as_str() == wanted => Outcome::AsWanted,
+        Some(answer) => Outcome::Other(answer),
     }
 }
 
-/// Goes through a line, and writes what is wrong with it.
+/// Goes through a line, and writes what is wrong with it. A comment and an empty line are no case.
 fn check_line(
     rt: &(impl Print + AllocGlobal),
     part: Part,
@@ -53,7 +44,7 @@ fn check_line(
     line: &str,
 ) -> io::Result<()> {
     tally.lines = tally.lines.saturating_add(1);
-    if !is_case(line) {
+    if line.is_empty() || line.starts_with('#') {
         return Ok(());
     }
     tally.cases = tally.cases.saturating_add(1);

@@ -1,112 +1,81 @@
 //! The cases of signed messages.
 
-ghost use Rattle.http_front.specs.Message.{Message, CutsOff};
-
-use crate::columns::{Columns, written, written_bytes};
-use http_front::{Cut, Step, next_message};
-use kms_names::{Text, read_principal, write_principal};
+use crate::cases::Case;
+use http_front::{Step, next_message};
+use kms_names::{read_principal, write_principal};
 use sigv4_check::{AuthFault, Credential, CredentialList, check, signing_key};
-use std::alloc::Global;
 
 /// What a call of signatures answers.
-pub fn signatures(alloc: Global, columns: &mut Columns<'_>) -> Option<String> {
-    match columns.word()? {
-        "signing_key" => key(alloc, columns),
-        "check" => signer(alloc, columns),
-        _ => None,
+pub fn signatures(case: &mut Case<'_>) {
+    match case.word() {
+        "signing_key" => {
+            let secret = case.text();
+            let date = case.text();
+            let region = case.text();
+            let service = case.text();
+            let key = signing_key(case.alloc, secret, date, region, service);
+            let key = case.kept_or(key, [0; 32]);
+            case.put_bytes(&key);
+        }
+        "check" => signer(case),
+        _ => case.lose(),
     }
 }
 
-fn key(alloc: Global, columns: &mut Columns<'_>) -> Option<String> {
-    let secret = columns.text()?;
-    let date = columns.text()?;
-    let region = columns.text()?;
-    let service = columns.text()?;
-    written_bytes(
-        alloc,
-        &signing_key(alloc, secret, date, region, service).ok()?,
-    )
-}
-
-fn signer(alloc: Global, columns: &mut Columns<'_>) -> Option<String> {
-    let message = message_of(alloc, columns.word()?)?;
-    let credentials = credentials_of(alloc, columns.word()?)?;
-    let region = columns.text()?;
-    let clock = columns.number()?;
+fn signer(case: &mut Case<'_>) {
+    let message = read_message(case);
+    let credentials = read_credentials(case);
+    let region = case.text();
+    let clock = case.number();
     let buffer = message.as_bytes();
+    let list = credentials.as_slice();
     match next_message(buffer) {
-        Step::Message(cut) => signed(alloc, &cut, buffer, &credentials, region, clock),
-        _ => None,
+        Step::Message(cut) => match check(case.alloc, &cut, buffer, list, region, clock) {
+            Ok(signer) => case.put_made(" ", write_principal(case.alloc, &signer)),
+            Err(why) => put_fault(case, why),
+        },
+        _ => case.lose(),
     }
 }
 
-fn signed(
-    alloc: Global,
-    cut: &Cut,
-    buffer: &[u8],
-    credentials: &CredentialList,
-    region: &str,
-    clock: u64,
-) -> Option<String>
-    requires { (m : Message) × CutsOff buffer.now cut.now m }
-{
-    match check(alloc, cut, buffer, credentials.as_slice(), region, clock) {
-        Ok(signer) => written(alloc, write_principal(alloc, &signer).ok()?.as_str()),
-        Err(why) => written(alloc, fault_name(why)?),
-    }
-}
-
-fn fault_name(why: AuthFault) -> Option<&'static str> {
+fn put_fault(case: &mut Case<'_>, why: AuthFault) {
     match why {
-        AuthFault::NoAuth => Some("NoAuth"),
-        AuthFault::Incomplete => Some("Incomplete"),
-        AuthFault::UnknownKey => Some("UnknownKey"),
-        AuthFault::Expired => Some("Expired"),
-        AuthFault::BadSignature => Some("BadSignature"),
-        AuthFault::NoMemory => None,
+        AuthFault::NoAuth => case.put("NoAuth"),
+        AuthFault::Incomplete => case.put("Incomplete"),
+        AuthFault::UnknownKey => case.put("UnknownKey"),
+        AuthFault::Expired => case.put("Expired"),
+        AuthFault::BadSignature => case.put("BadSignature"),
+        AuthFault::NoMemory => case.lose(),
     }
 }
 
-/// The credentials of a column: each its id, its secret and its principal's ARN, with a space between two.
-fn credentials_of(alloc: Global, word: &str) -> Option<CredentialList> {
-    let mut credentials = CredentialList::empty(alloc);
-    for item in word.split(", ") {
-        let (id, rest) = item.split_once(' ')?;
-        let (secret, arn) = rest.split_once(' ')?;
-        if credentials.has_id(id) {
-            return None;
-        }
-        let id = Text::from_str(alloc, id).ok()?;
-        let secret = Text::from_str(alloc, secret).ok()?;
-        let principal = read_principal(alloc, arn).ok()?;
-        credentials
-            .insert(Credential {
-                id,
-                secret,
+/// The credentials of the next column: each its id, its secret and its principal's ARN, with a space between two.
+fn read_credentials(case: &mut Case<'_>) -> CredentialList {
+    let mut credentials = CredentialList::empty(case.alloc);
+    for item in case.word().split(", ") {
+        let (id, rest) = case.found(item.split_once(' ')).unwrap_or(("", ""));
+        let (secret, arn) = case.found(rest.split_once(' ')).unwrap_or(("", ""));
+        let principal = read_principal(case.alloc, arn);
+        if let Some(principal) = case.kept(principal) {
+            let credential = Credential {
+                id: case.owned(id),
+                secret: case.owned(secret),
                 principal,
-            })
-            .ok()?;
-    }
-    Some(credentials)
-}
-
-/// The message of a column, in which `\n` stands for a CR and a LF, and `\t` for a tab.
-fn message_of(alloc: Global, word: &str) -> Option<String> {
-    let mut message = String::new(alloc);
-    let mut is_escaped = false;
-    for character in word.chars() {
-        match character {
-            '\\' => is_escaped = true,
-            'n' if is_escaped => {
-                message.push_str("\r\n").ok()?;
-                is_escaped = false;
+            };
+            if credentials.has_id(credential.id.as_str()) {
+                case.lose();
+            } else {
+                case.require(credentials.insert(credential).is_ok());
             }
-            't' if is_escaped => {
-                message.push('\t').ok()?;
-                is_escaped = false;
-            }
-            _ => message.push(character).ok()?,
         }
     }
-    Some(message)
+    credentials
+}
+
+/// The message of the next column, in which `\n` stands for a CR and a LF, and `\t` for a tab.
+fn read_message(case: &mut Case<'_>) -> String {
+    let lines = case.word().replace(case.alloc, "\\n", "\r\n");
+    let lines = case.kept_or(lines, String::new(case.alloc));
+    let message = lines.as_str().replace(case.alloc, "\\t", "\t");
+    case.kept_or(message, String::new(case.alloc))
 }

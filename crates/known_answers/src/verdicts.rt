@@ -1,51 +1,43 @@
 //! The cases of verdicts of policies.
 
-use crate::columns::{Columns, written, written_truth};
-use crate::conditions::facts_of;
-use crate::names::action_of;
-use crate::policies::read_kind;
+use crate::cases::Case;
+use crate::conditions::read_facts;
+use crate::names::read_action;
+use crate::policies::{policy_of, read_kind};
 use cond_ops::RequestFacts;
-use kms_names::{Text, read_principal};
-use policy_doc::read_policy;
+use kms_names::read_principal;
 use policy_eval::{Compiled, Verdict};
-use std::alloc::Global;
 
 /// What a call of policies that are asked answers.
-pub fn verdicts(alloc: Global, columns: &mut Columns<'_>) -> Option<String> {
-    let call = columns.word()?;
-    let kind = read_kind(columns)?;
-    let document = columns.text()?;
-    let policy = read_policy(alloc, kind, document.as_bytes()).ok()?;
-    let compiled = Compiled::new(alloc, &policy).ok()?.copy().ok()?;
-    match call {
-        "verdict" => {
-            let request = read_request(alloc, columns)?;
-            written(alloc, verdict_name(compiled.verdict(&request)))
+pub fn verdicts(case: &mut Case<'_>) {
+    let call = case.word();
+    let kind = read_kind(case);
+    let policy = policy_of(case, kind);
+    if let Some(compiled) = case.kept(Compiled::new(case.alloc, &policy)) {
+        let copied = case.kept_or(compiled.copy(), compiled);
+        match call {
+            "verdict" => verdict(case, &copied),
+            "asks_facts" => case.put_truth(copied.asks_facts()),
+            _ => case.lose(),
         }
-        "asks_facts" => written_truth(alloc, compiled.asks_facts()),
-        _ => None,
     }
 }
 
-/// A request: the caller's ARN, the action's name, the resource and the facts.
-fn read_request(alloc: Global, columns: &mut Columns<'_>) -> Option<RequestFacts> {
-    let caller = read_principal(alloc, columns.word()?).ok()?;
-    let action = action_of(columns.word()?)?;
-    let resource = Text::from_str(alloc, columns.text()?).ok()?;
-    let facts = facts_of(alloc, columns.word()?)?;
-    Some(RequestFacts {
-        caller,
-        action,
-        resource,
-        facts,
-    })
-}
-
-fn verdict_name(verdict: Verdict) -> &'static str {
-    match verdict {
-        Verdict::Deny => "Deny",
-        Verdict::Direct => "Direct",
-        Verdict::ByRoot => "ByRoot",
-        Verdict::Silent => "Silent",
+/// The verdict on a request: the caller's ARN, the action's name, the resource and the facts.
+fn verdict(case: &mut Case<'_>, compiled: &Compiled) {
+    let caller = read_principal(case.alloc, case.word());
+    if let Some(caller) = case.kept(caller) {
+        let request = RequestFacts {
+            caller,
+            action: read_action(case),
+            resource: case.owned_text(),
+            facts: read_facts(case),
+        };
+        case.put(match compiled.verdict(&request) {
+            Verdict::Deny => "Deny",
+            Verdict::Direct => "Direct",
+            Verdict::ByRoot => "ByRoot",
+            Verdict::Silent => "Silent",
+        });
     }
 }

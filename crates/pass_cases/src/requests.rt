@@ -8,7 +8,6 @@ use kms_io::Gate;
 use kms_json::{Ask, JsonFault, read_ask};
 use kms_names::{NoMemory, Principal, Text};
 use publish_pass::{Answered, Pass, Realm, Service, Unread};
-use published_account::let_ask_go;
 use std::alloc::{AllocError, Global};
 use std::io;
 use std::sync::Wait;
@@ -161,20 +160,6 @@ fn change_or_read<R: Realm, W: Wait, G: Gate>(
     read(host.rt, host.alloc, pass, ask)
 }
 
-// The same of a request that is let go then.
-fn answer_owned<R: Realm, W: Wait, G: Gate>(
-    host: &Host<'_, W, R>,
-    pass: &mut Pass<R>,
-    ask: Ask,
-    gate: &G,
-) -> Result<Answered, NoMemory>
-    requires { IsProper R.facts ask }
-{
-    let answered = change_or_read(host, pass, &ask, gate);
-    let_ask_go(ask);
-    answered
-}
-
 /// What a pass answers to a request.
 pub fn answer<R: Realm, W: Wait, G: Gate>(
     host: &Host<'_, W, R>,
@@ -185,7 +170,7 @@ pub fn answer<R: Realm, W: Wait, G: Gate>(
     requires { host.now.facts.now ≡ R.facts }
 {
     let ask = ask(host.alloc, host.facts, request)?;
-    let answered = answer_owned(host, pass, ask, gate)?;
+    let answered = change_or_read(host, pass, &ask, gate)?;
     Ok(answered)
 }
 

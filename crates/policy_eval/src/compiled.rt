@@ -16,12 +16,23 @@ use std::alloc::Global;
 use std::marker::Model;
 
 /// A policy made ready to be asked about many requests. Contracts see it as the policy that it was made of.
-#[derive(Drop)]
 pub struct Compiled {
     kind: PolicyKind,
     effects: Vec<bool>,
     denies: Group,
     allows: Group,
+}
+
+// Each crate that lets a compiled policy go calls this one drop, and doesn't take it apart itself.
+impl Drop for Compiled {
+    fn drop(self) {
+        let Compiled {
+            kind: _,
+            effects: _,
+            denies: _,
+            allows: _,
+        } = self;
+    }
 }
 
 impl Model for Compiled {

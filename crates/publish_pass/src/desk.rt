@@ -15,9 +15,7 @@ use account_rows::Entry;
 use kms_io::{Gate, Point};
 use kms_json::{Ask, Reply};
 use kms_names::NoMemory;
-use published_account::{
-    Answered, Copies, Head, Line, Published, Realm, Whole, answer_with, let_reply_go, show,
-};
+use published_account::{Answered, Copies, Head, Line, Published, Realm, Whole, answer_with, show};
 use std::alloc::Global;
 use std::marker::{Model, PhantomData};
 use std::sync::ledger::Book;
@@ -197,16 +195,9 @@ impl<R: Realm> Desk<R> {
         ensures whole { IfOk result (λ both. arc_value both.0 ≡ record { facts = R.facts; passes = R.passes; pairs = self.now ++ (entry.now, pass.now.number) ∷ [] }) }
         ensures answer { IfOk result (λ both. (both.1.front ≡ length (self.now ++ (entry.now, pass.now.number) ∷ [])) × (answer_in both.1 ≡ answer_of reply)) }
     {
-        match self.prepare(alloc, pass, entry) {
-            Ok(whole) => {
-                let answered = answer_with(alloc, whole.len(), reply)?;
-                Ok((whole, answered))
-            }
-            Err(NoMemory) => {
-                let_reply_go(reply);
-                Err(NoMemory)
-            }
-        }
+        let whole = self.prepare(alloc, pass, entry)?;
+        let answered = answer_with(alloc, whole.len(), reply)?;
+        Ok((whole, answered))
     }
 
     // Publishes the entry of a request. The answer is made before.

@@ -184,8 +184,9 @@ fn equip<R: Realm>(
     ensures region { IfOk result (λ made. made.1 ≡ R.facts.region) }
 {
     let facts = writer.published().whole().account().facts().copy()?;
+    let region = facts.region.copy()?;
     let passes = make_passes(alloc, writer, &facts, line, share, passes)?;
-    Ok((passes, facts.region))
+    Ok((passes, region))
 }
 
 /// Opens a service: what the passes share, and the passes, with the numbers 1 to n in order. They have seen

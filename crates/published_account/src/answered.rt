@@ -2,7 +2,7 @@
 ghost use Rattle.std.specs.Prelude.{◌≡◌, IfOk};
 ghost use Rattle.published_account.specs.Answers.{answer_of, answer_in};
 
-use kms_json::{Ask, Reply, write_reply};
+use kms_json::{Reply, write_reply};
 use kms_names::{Bytes, NoMemory};
 use std::alloc::Global;
 
@@ -41,18 +41,9 @@ impl From<NoMemory> for Unread {
 pub fn answer_with(alloc: Global, front: u64, reply: Reply) -> Result<Answered, NoMemory>
     ensures { IfOk result (λ a. (a.front ≡ front) × (answer_in a ≡ answer_of reply)) }
 {
-    let status = reply.status();
-    let body = write_reply(alloc, &reply);
-    let_reply_go(reply);
     Ok(Answered {
         front,
-        status,
-        body: body?,
+        status: reply.status(),
+        body: write_reply(alloc, &reply)?,
     })
 }
-
-/// Lets a reply go. Its drop is long, and is proved here alone.
-pub fn let_reply_go(_reply: Reply) {}
-
-/// Lets a request go. Its drop is as long.
-pub fn let_ask_go(_ask: Ask) {}

@@ -15,7 +15,7 @@ mod showing;
 mod threads;
 mod whole;
 
-pub use answered::{Answered, Unread, answer_with, let_ask_go, let_reply_go};
+pub use answered::{Answered, Unread, answer_with};
 pub use entrance::{Entrance, Found};
 pub use line::{Glimpse, Head, Line, Unnamed};
 pub use published::Published;

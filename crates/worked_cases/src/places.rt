@@ -13,7 +13,6 @@ use draw_lines::DrawLine;
 use kms_json::{Ask, JsonFault, Reply, read_ask, write_reply};
 use kms_names::{NoMemory, Principal};
 use mac_sha::Mac;
-use published_account::{let_ask_go, let_reply_go};
 use std::alloc::{AllocError, Global};
 
 const MOST: u64 = 0x1_0000_0000_0000;
@@ -77,15 +76,6 @@ impl Asked {
         self.account.decide_read(alloc, ask, &mut self.line)
     }
 
-    // The same of a request that is let go then.
-    fn answer_owned(&mut self, alloc: Global, ask: Ask) -> Result<Reply, NoMemory>
-        requires { IsProper self.old.account.facts ask }
-    {
-        let reply = self.answer(alloc, &ask);
-        let_ask_go(ask);
-        reply
-    }
-
     // Answers a request that changes the account, and appends its entry.
     fn change(&mut self, alloc: Global, ask: &Ask) -> Result<Reply, NoMemory>
         requires proper { IsProper self.old.account.facts ask.now }
@@ -93,11 +83,7 @@ impl Asked {
     {
         match self.account.decide_change(alloc, ask)? {
             Decision::Change(entry, reply) => {
-                let Ok(next) = self.account.apply(alloc, &entry) else {
-                    let_reply_go(reply);
-                    return Err(NoMemory);
-                };
-                self.account = next;
+                self.account = self.account.apply(alloc, &entry)?;
                 Ok(reply)
             }
             Decision::Refused(reply) | Decision::Served(reply) => Ok(reply),
@@ -124,8 +110,8 @@ impl Asked {
             return Ok(false);
         };
         let ask = ask(alloc, facts, caller, operation.as_str(), body.as_str())?;
-        let reply = self.answer_owned(alloc, ask)?;
-        let holds = self.gives(alloc, reply, wanted)?;
+        let reply = self.answer(alloc, &ask)?;
+        let holds = self.is_wanted(alloc, &reply, wanted)?;
         Ok(holds)
     }
 
@@ -137,13 +123,6 @@ impl Asked {
                 && self.account.entries() == wanted.front
                 && body.as_slice() == wanted.body.as_bytes(),
         )
-    }
-
-    // The same of a reply that is let go then.
-    fn gives(&self, alloc: Global, reply: Reply, wanted: &Wanted) -> Result<bool, NoMemory> {
-        let holds = self.is_wanted(alloc, &reply, wanted);
-        let_reply_go(reply);
-        holds
     }
 }
 

@@ -7,7 +7,9 @@ ghost use Rattle.kms_json.specs.CryptographyFields.{encrypt_fields, decrypt_fiel
 
 use super::next;
 use crate::asks::{DataKey, Decrypt, Encrypt, ReEncrypt, Reading};
-use crate::given::{Given, bytes_in, context_in, flag_in, number_in, text_if, text_in, texts_in};
+use crate::given::{
+    Given, bytes_in, context_in, flag_in, is_given, number_in, text_if, text_in, texts_in,
+};
 use kms_names::NoMemory;
 use std::alloc::Global;
 use std::collections::VecDeque;
@@ -21,7 +23,7 @@ pub fn encrypt(alloc: Global, values: &mut VecDeque<Given>) -> Result<Reading, N
     let context = context_in(alloc, next(values))?;
     let grant_tokens = texts_in(alloc, next(values));
     let algorithm = text_if(next(values));
-    let dry_run = flag_in(&next(values));
+    let dry_run = flag_in(next(values));
     Ok(Reading::Encrypt(Encrypt {
         key_id,
         plaintext,
@@ -41,8 +43,8 @@ pub fn decrypt(alloc: Global, values: &mut VecDeque<Given>) -> Result<Reading, N
     let grant_tokens = texts_in(alloc, next(values));
     let key_id = text_if(next(values));
     let algorithm = text_if(next(values));
-    let recipient = next(values).is_there();
-    let dry_run = flag_in(&next(values));
+    let recipient = is_given(next(values));
+    let dry_run = flag_in(next(values));
     Ok(Reading::Decrypt(Decrypt {
         blob,
         context,
@@ -66,7 +68,7 @@ pub fn re_encrypt(alloc: Global, values: &mut VecDeque<Given>) -> Result<Reading
     let source_algorithm = text_if(next(values));
     let algorithm = text_if(next(values));
     let grant_tokens = texts_in(alloc, next(values));
-    let dry_run = flag_in(&next(values));
+    let dry_run = flag_in(next(values));
     Ok(Reading::ReEncrypt(ReEncrypt {
         blob,
         source_context,
@@ -88,8 +90,8 @@ fn size_of_spec(spec: &str) -> u64
 }
 
 // The size of a data key by its spec, where that is given, or by its number of bytes.
-fn data_key_size(spec: &Given, number: &Given) -> u64
-    ensures { result ≡ asked.data_key_size spec.now number.now }
+fn data_key_size(spec: Given, number: Given) -> u64
+    ensures { result ≡ asked.data_key_size spec number }
 {
     if spec.is_absent() {
         number_in(number)
@@ -105,10 +107,10 @@ pub fn generate_data_key(alloc: Global, values: &mut VecDeque<Given>) -> Result<
     let key_id = text_in(alloc, next(values));
     let context = context_in(alloc, next(values))?;
     let number = next(values);
-    let size = data_key_size(&next(values), &number);
+    let size = data_key_size(next(values), number);
     let grant_tokens = texts_in(alloc, next(values));
-    let recipient = next(values).is_there();
-    let dry_run = flag_in(&next(values));
+    let recipient = is_given(next(values));
+    let dry_run = flag_in(next(values));
     let key = DataKey {
         key_id,
         context,
@@ -126,9 +128,9 @@ pub fn seal_data_key(alloc: Global, values: &mut VecDeque<Given>) -> Result<Read
     let key_id = text_in(alloc, next(values));
     let context = context_in(alloc, next(values))?;
     let spec = next(values);
-    let size = data_key_size(&spec, &next(values));
+    let size = data_key_size(spec, next(values));
     let grant_tokens = texts_in(alloc, next(values));
-    let dry_run = flag_in(&next(values));
+    let dry_run = flag_in(next(values));
     Ok(Reading::GenerateDataKeyWithoutPlaintext(DataKey {
         key_id,
         context,
@@ -142,9 +144,9 @@ pub fn seal_data_key(alloc: Global, values: &mut VecDeque<Given>) -> Result<Read
 pub fn generate_random(values: &mut VecDeque<Given>) -> Reading
     ensures { result ≡ asked.generate_random (held generate_random_fields values.old.items) }
 {
-    let size = number_in(&next(values));
-    let custom_key_store = next(values).is_there();
-    let recipient = next(values).is_there();
+    let size = number_in(next(values));
+    let custom_key_store = is_given(next(values));
+    let recipient = is_given(next(values));
     Reading::GenerateRandom {
         size,
         custom_key_store,

@@ -17,11 +17,11 @@ pub fn create_grant(alloc: Global, values: &mut VecDeque<Given>) -> Changing
     let key_id = text_in(alloc, next(values));
     let grantee = text_in(alloc, next(values));
     let retiring = text_if(next(values));
-    let operations = operations_in(&next(values));
+    let operations = operations_in(next(values));
     let constraint = constraint_in(next(values));
     let grant_tokens = texts_in(alloc, next(values));
     let name = text_if(next(values));
-    let dry_run = flag_in(&next(values));
+    let dry_run = flag_in(next(values));
     Changing::CreateGrant(CreateGrant {
         key_id,
         grantee,
@@ -56,7 +56,7 @@ pub fn retire_grant(alloc: Global, values: &mut VecDeque<Given>) -> Changing
     let key_id = next(values);
     let grant_id = next(values);
     let grant = retired(alloc, token, key_id, grant_id);
-    let dry_run = flag_in(&next(values));
+    let dry_run = flag_in(next(values));
     Changing::RetireGrant { grant, dry_run }
 }
 
@@ -66,7 +66,7 @@ pub fn revoke_grant(alloc: Global, values: &mut VecDeque<Given>) -> Changing
 {
     let key_id = text_in(alloc, next(values));
     let grant_id = text_in(alloc, next(values));
-    let dry_run = flag_in(&next(values));
+    let dry_run = flag_in(next(values));
     Changing::RevokeGrant {
         key_id,
         grant_id,

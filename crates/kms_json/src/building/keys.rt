@@ -6,7 +6,7 @@ ghost use Rattle.kms_json.specs.KeyFields.{create_key_fields, update_key_descrip
 
 use super::{next, page};
 use crate::asks::{Changing, CreateKey, Reading};
-use crate::given::{Given, flag_in, items_in, text_if, text_in, texts_in};
+use crate::given::{Given, flag_in, is_given, items_in, text_if, text_in, texts_in};
 use std::alloc::Global;
 use std::collections::VecDeque;
 
@@ -21,11 +21,11 @@ pub fn create_key(alloc: Global, values: &mut VecDeque<Given>) -> Changing
         customer_master_key_spec: text_if(next(values)),
         key_spec: text_if(next(values)),
         origin: text_if(next(values)),
-        custom_key_store_id: next(values).is_there(),
-        bypass_lockout_check: flag_in(&next(values)),
-        tags: items_in(&next(values)),
-        multi_region: flag_in(&next(values)),
-        xks_key_id: next(values).is_there(),
+        custom_key_store_id: is_given(next(values)),
+        bypass_lockout_check: flag_in(next(values)),
+        tags: items_in(next(values)),
+        multi_region: flag_in(next(values)),
+        xks_key_id: is_given(next(values)),
     })
 }
 

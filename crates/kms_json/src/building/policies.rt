@@ -18,7 +18,7 @@ pub fn put_key_policy(alloc: Global, values: &mut VecDeque<Given>) -> Changing
     let key_id = text_in(alloc, next(values));
     let _policy_name = next(values);
     let policy = text_in(alloc, next(values));
-    let bypass_lockout_check = flag_in(&next(values));
+    let bypass_lockout_check = flag_in(next(values));
     Changing::PutKeyPolicy {
         key_id,
         policy,

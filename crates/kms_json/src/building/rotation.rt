@@ -19,7 +19,7 @@ pub fn enable_key_rotation(alloc: Global, values: &mut VecDeque<Given>) -> Chang
     ensures { result ≡ asked.enable_key_rotation (held enable_key_rotation_fields values.old.items) }
 {
     let key_id = text_in(alloc, next(values));
-    let period = number_or(&next(values), PERIOD);
+    let period = number_or(next(values), PERIOD);
     Changing::EnableKeyRotation { key_id, period }
 }
 

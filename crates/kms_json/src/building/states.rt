@@ -19,7 +19,7 @@ pub fn schedule_key_deletion(alloc: Global, values: &mut VecDeque<Given>) -> Cha
     ensures { result ≡ asked.schedule_key_deletion (held schedule_key_deletion_fields values.old.items) }
 {
     let key_id = text_in(alloc, next(values));
-    let days = number_or(&next(values), WAITING_DAYS);
+    let days = number_or(next(values), WAITING_DAYS);
     Changing::ScheduleKeyDeletion { key_id, days }
 }
 

@@ -1,4 +1,4 @@
-use Rattle.std.proofs.Common.{◌≡◌, ◌≢◌, sym, ◌∙◌, ap, ap₂, subst, rules, Option, Some, None, Bool, true, false, List, ℕ, length, ◌<◌, ◌++◌, ◌∷◌, []}
+use Rattle.std.proofs.Common.{◌≡◌, ◌≢◌, sym, ◌∙◌, subst, rules, Some, None, ℕ, length, ◌<◌, ◌++◌, ◌∷◌, []}
 use Rattle.account_lists.specs.Pages.{rows_behind}
 use Rattle.account_lists.proofs.PageFacts.{at_first, one_taken, one_passed, full_rows, full_next, last_rows, no_next, shorter, Gathered}
 use Rattle.account_lists.proofs.pages.part_behind.Goals as goal

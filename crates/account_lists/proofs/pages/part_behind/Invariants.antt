@@ -1,6 +1,4 @@
-use Rattle.std.proofs.Common.{◌≡◌, ◌≤◌, ◌<◌, ℕ, List, Bool, AllPairs, filter, map, ◌++◌, length, Option, None}
-use Rattle.std.specs.Prelude.{option_map}
-use Rattle.std.specs.List.{last_or}
+use Rattle.std.proofs.Common.{length}
 use Rattle.account_lists.specs.Pages.{rows_behind}
 use Rattle.account_lists.proofs.PageFacts.{Gathered}
 use Rattle.account_lists.proofs.pages.part_behind.Given as goal

@@ -1,5 +1,5 @@
 use Rattle.std.proofs.Common.{◌≡◌, ◌∙◌, subst, ap, List, ℕ, Ok, Err}
-use Rattle.kms_names.specs.declared.faults.NameFault.TheVariants.{BadArn, BadAlias, BadId}
+use Rattle.kms_names.specs.declared.faults.NameFault.TheVariants.{BadArn}
 use Rattle.kms_json.specs.declared.refusals.Refusal.TheVariants as refusal
 use Rattle.account_steps.specs.Given.{principal_in}
 use Rattle.account_steps.proofs.PrincipalFacts.{principal_found, no_principal}

@@ -1,6 +1,4 @@
-use Rattle.std.proofs.Common.{◌≡◌, ap, ◌∙◌, sym, subst, List, ◌++◌, ◌∷◌, []}
-use Rattle.account_rows.specs.declared.entries.Entry.{Entry}
-use Rattle.account_rows.specs.History.{IsFitting}
+use Rattle.std.proofs.Common.{sym, subst}
 use Rattle.account_core.specs.Account.{Account}
 use Rattle.account_core.specs.Decide.{IsNext}
 use Rattle.account_core.proofs.Histories.{lawful_more}

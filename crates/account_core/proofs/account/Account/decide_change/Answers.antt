@@ -3,9 +3,9 @@ use Rattle.kms_json.specs.Asks.{IsSized}
 use Rattle.kms_json.proofs.Sizes.{asked_sized}
 use Rattle.account_core.specs.Account.{Account}
 use Rattle.account_steps.specs.Places.{no_places}
-use Rattle.account_steps.specs.Parts.{decided_by}
-use Rattle.account_core.specs.Decide.{lacking}
-use Rattle.account_core.proofs.Decisions.{refused_first, by_change, made_refusal, refuses, makes}
+use Rattle.account_steps.specs.Parts.{decided_change, entry_of}
+use Rattle.account_core.specs.Decide.{lacking, decision_by}
+use Rattle.account_core.proofs.Decisions.{refused_first, by_change, made_refusal, stops_with, makes}
 use Rattle.account_core.proofs.account.Account.decide_change.Goals as goal
 
 pub change_body-requires : goal.change_body-requires
@@ -19,7 +19,7 @@ returns-in-Some c =
     let x = c.args.ask.now in
     let number : c.entries.result ≡ length a.entries = c.entries.ensures.number ∙ ap (λ (s : Account). length s.entries) c.self.view_is in
     let short = c.in-Some.ensures ∙ ap (λ (n : ℕ). lacking n x.after) number in
-    refuses a.facts a.entries x c.in-Some.refusal (sym (refused_first a.facts a.entries x no_places c.in-Some.refusal short))
+    stops_with a.facts a.entries x c.in-Some.refusal (sym (refused_first a.facts a.entries x no_places c.in-Some.refusal short))
 
 pub returns-in-Ok : goal.returns-in-Ok
 returns-in-Ok c =
@@ -28,7 +28,9 @@ returns-in-Ok c =
     let number : c.entries.result ≡ length a.entries = c.entries.ensures.number ∙ ap (λ (s : Account). length s.entries) c.self.view_is in
     let enough = c.in_default.ensures ∙ ap (λ (n : ℕ). lacking n x.after) number in
     let is = by_change a.facts a.entries x no_places c.in_ok-view.view c.in-Change.body enough c.in-Change.is c.in_ok-view.ensures in
-    c.decision_from.ensures ∙ makes a.facts a.entries x c.in-Ok.made (sym (ap (λ o. decided_by o no_places) c.in-Ok.ensures) ∙ is)
+    let moment = c.in_ok-view.view.moment in
+    c.decision_from.ensures ∙ ap (λ (t : ℕ). decision_by c.in-Ok.made.reply (entry_of t c.in-Ok.made.what)) c.moment-moment.ensures.moment
+    ∙ makes a.facts a.entries x moment c.in-Ok.made (sym (ap (λ o. decided_change moment o no_places) c.in-Ok.ensures) ∙ is)
 
 pub returns-in-Err-Refused : goal.returns-in-Err-Refused
 returns-in-Err-Refused c =
@@ -38,4 +40,4 @@ returns-in-Err-Refused c =
     let enough = c.in_default.ensures ∙ ap (λ (n : ℕ). lacking n x.after) number in
     let is = by_change a.facts a.entries x no_places c.in_ok-view.view c.in-Change.body enough c.in-Change.is c.in_ok-view.ensures in
     let refused = made_refusal _ c.in-Err-Refused.field-0 c.in-Err-Refused.refusal c.in-Err-Refused.field-0-is c.in-Err-Refused.ensures in
-    refuses a.facts a.entries x c.in-Err-Refused.refusal (sym (ap (λ o. decided_by o no_places) refused) ∙ is)
+    stops_with a.facts a.entries x c.in-Err-Refused.refusal (sym (ap (λ o. decided_change c.in_ok-view.view.moment o no_places) refused) ∙ is)

@@ -1,5 +1,4 @@
-use Rattle.std.proofs.Common.{◌≡◌, ◌<◌, ℕ, subst, sym, arith}
-use Rattle.account_rows.specs.History.{latest_of}
+use Rattle.std.proofs.Common.{◌<◌, ℕ, subst, sym, arith}
 use Rattle.account_core.proofs.Fitting.{laws_of}
 use Rattle.account_core.proofs.account.Account.view.Goals as goal
 

@@ -1,4 +1,4 @@
-use Rattle.std.proofs.Common.{ℕ, List, Option, refl, ap, ◌∙◌, sym, subst}
+use Rattle.std.proofs.Common.{Option, refl, subst}
 use Rattle.kms_json.specs.declared.refusals.Refusal.{Refusal}
 use Rattle.account_steps.specs.Steps.{Passes}
 use Rattle.account_steps.specs.Authority.{on_other}

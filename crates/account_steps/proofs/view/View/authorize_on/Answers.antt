@@ -1,4 +1,4 @@
-use Rattle.std.proofs.Common.{◌≡◌, Option, refl, ap, ap₂, ◌∙◌, sym, subst}
+use Rattle.std.proofs.Common.{Option, refl, ap, ap₂, ◌∙◌, subst}
 use Rattle.policy_doc.specs.declared.policies.Policy.{Policy}
 use Rattle.kms_json.specs.declared.refusals.Refusal.{Refusal}
 use Rattle.key_states.specs.declared.rows.KeyRow.{KeyRow}

@@ -1,5 +1,4 @@
-use Rattle.std.proofs.Common.{◌≡◌, ℕ, List, ap, ap₂, ◌∙◌, sym, Option, Some, None}
-use Rattle.kms_json.specs.declared.refusals.Refusal.{Refusal}
+use Rattle.std.proofs.Common.{◌≡◌, ℕ, List, ap, ap₂, ◌∙◌, sym, Some, None}
 use Rattle.kms_json.specs.declared.refusals.Refusal.TheVariants as refusal
 use Rattle.key_states.specs.declared.permissions.StateFault.{StateFault}
 use Rattle.key_states.specs.declared.permissions.StateFault.TheVariants as fault
@@ -7,7 +6,7 @@ use Rattle.key_states.specs.declared.rows.KeyRow.{KeyRow}
 use Rattle.key_states.specs.Permissions.{refusal_of, need_of}
 use Rattle.key_states.specs.States.{state_of}
 use Rattle.account_steps.specs.Steps.{arn_of}
-use Rattle.account_steps.specs.Parts.{refused_state, told_state}
+use Rattle.account_steps.specs.Parts.{told_state}
 use Rattle.account_steps.proofs.Fit.{fits_by}
 use Rattle.account_steps.proofs.view.View.fit.Goals as goal
 

@@ -1,7 +1,6 @@
-use Rattle.std.proofs.Common.{◌≡◌, ◌∙◌, sym, ap, Bool, Some}
+use Rattle.std.proofs.Common.{◌∙◌, sym, ap, Bool, Some}
 use Rattle.authority.specs.Setting.{Setting}
 use Rattle.authority.specs.Allowed.{standing_of}
-use Rattle.authority.specs.declared.standings.Standing.{Standing}
 use Rattle.authority.specs.declared.standings.Standing.TheVariants.{Denied, Allowed, IfGranted}
 use Rattle.account_steps.specs.Authority.{asked_of}
 use Rattle.account_steps.proofs.Following.{ok_where}
