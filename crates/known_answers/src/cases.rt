@@ -5,8 +5,8 @@ use std::alloc::{AllocError, Global};
 use std::str::FromStr;
 
 /// A case. Its columns are read from the first on, with ` | ` between two, and its answer is written word by
-/// word. It is lost where a column can't be read or memory is refused: then it has no answer, and reading goes
-/// on with what is empty or 0.
+/// word. It is lost where a column can't be read or memory is refused: then it has no answer, and what is read
+/// from there on is empty or 0.
 #[derive(Drop)]
 pub struct Case<'a> {
     /// What memory is taken from.
@@ -36,15 +36,16 @@ impl<'a> Case<'a> {
         }
     }
 
-    /// Loses the case.
+    /// Loses the case, with the columns that are left.
     pub fn lose(&mut self) {
         self.is_lost = true;
+        self.columns = None;
     }
 
     /// Loses the case where something doesn't hold.
     pub fn require(&mut self, holds: bool) {
         if !holds {
-            self.is_lost = true;
+            self.lose();
         }
     }
 

@@ -127,40 +127,50 @@ fn replies_at<W: Wait + Clock>(
     }
 }
 
-// Shows a scene of two workers: what each answered, and what came of it.
-fn show_pair<W: rt::Runtime + Threads + Wait + Sync>(
+// Puts an ear for what one worker is sent behind the others.
+fn add_ear<'a, W: Wait + Clock>(
+    alloc: Global,
+    door: &mut LateDoor<'a, W>,
+    stage: &'a Stage<'a, W>,
+    sent: &Sent<'_>,
+) -> Result<(), NoMemory> {
+    door.add(ear_of(alloc, sent.messages, 0)?, stage, sent.after)
+}
+
+// Shows what each of two workers answered, and what came of it.
+fn show_end<W: rt::Runtime + Wait>(
     world: &World<'_, W>,
-    scene: &Pair<'_>,
+    what: &str,
+    door: &LateDoor<'_, W>,
+    outcome: Outcome,
 ) -> Result<(), Failure> {
-    let alloc = world.alloc;
-    let stage = Stage::new(world.rt, scene.held, scene.until);
-    let mut door = LateDoor::new(alloc);
-    door.add(
-        ear_of(alloc, scene.one.messages, 0)?,
-        &stage,
-        scene.one.after,
-    )?;
-    door.add(
-        ear_of(alloc, scene.two.messages, 0)?,
-        &stage,
-        scene.two.after,
-    )?;
-    let outcome = world.serve(2, 1, NOW, &mut door, &stage)?;
-    if stage.is_late() {
-        return Err(Failure::Unlike);
-    }
-    let what = scene.what;
-    let one = replies_at(alloc, &door, 0)?;
-    let two = replies_at(alloc, &door, 1)?;
-    let end = outcome_text(alloc, outcome)?;
+    let one = replies_at(world.alloc, door, 0)?;
+    let two = replies_at(world.alloc, door, 1)?;
+    let end = outcome_text(world.alloc, outcome)?;
     println!(world.rt; "{what}: worker 1 has {one}; worker 2 has {two}; {end}")?;
     Ok(())
 }
 
+// Shows a scene of two workers.
+fn show_pair<W: rt::Runtime + Threads + Wait + Sync>(
+    world: &World<'_, W>,
+    scene: &Pair<'_>,
+) -> Result<(), Failure> {
+    let stage = Stage::new(world.rt, scene.held, scene.until);
+    let mut door = LateDoor::new(world.alloc);
+    add_ear(world.alloc, &mut door, &stage, &scene.one)?;
+    add_ear(world.alloc, &mut door, &stage, &scene.two)?;
+    let outcome = world.serve(2, 1, NOW, &mut door, &stage)?;
+    if stage.is_late() {
+        return Err(Failure::Unlike);
+    }
+    show_end(world, scene.what, &door, outcome)
+}
+
 /// Two workers beside one another.
 pub fn beside<W: rt::Runtime + Threads + Wait + Sync>(world: &World<'_, W>) -> Result<(), Failure> {
-    for scene in [HELD_AT_DESK, AT_ONCE, POSTED, STILL_OPEN] {
-        show_pair(world, &scene)?;
+    for scene in &[HELD_AT_DESK, AT_ONCE, POSTED, STILL_OPEN] {
+        show_pair(world, scene)?;
     }
     Ok(())
 }
@@ -257,7 +267,7 @@ fn show_single<W: rt::Runtime + Threads + Wait + Sync>(
 
 /// One worker.
 pub fn alone<W: rt::Runtime + Threads + Wait + Sync>(world: &World<'_, W>) -> Result<(), Failure> {
-    for scene in [
+    for scene in &[
         ONE_KEY,
         ROTATED,
         SECOND_LACKS,
@@ -266,7 +276,7 @@ pub fn alone<W: rt::Runtime + Threads + Wait + Sync>(world: &World<'_, W>) -> Re
         SHUT,
         FEWER_EARS,
     ] {
-        show_single(world, &scene)?;
+        show_single(world, scene)?;
     }
     Ok(())
 }
