@@ -1,13 +1,13 @@
 // Who may ask in a case.
-ghost use Rattle.std.specs.Prelude.{◌≡◌, All, IfOk, IfSome};
+ghost use Rattle.std.specs.Prelude.{◌≡◌, All, IfOk};
 ghost use Rattle.account_core.specs.Decide.{account_of};
 ghost use Rattle.sigv4_check.specs.declared.credentials.Credential.{Credential as AKey};
 ghost use Rattle.kms_session.specs.Callers.{IsOfAccount};
 
-use crate::cases::{Case, KnownKey};
-use crate::identities::principal_of;
-use account_steps::RealmFacts;
-use kms_names::{AccountNumber, NoMemory, Principal, Text};
+use crate::cases::Case;
+use crate::failures::Failure;
+use crate::lines::Line;
+use kms_names::{AccountNumber, Principal, Text, read_principal};
 use kms_session::Trust;
 use sigv4_check::{Credential, CredentialList, are_distinct};
 use std::alloc::Global;
@@ -23,68 +23,67 @@ fn account_in(principal: &Principal) -> AccountNumber
 }
 
 /// Who asks, if a text names a principal of the account.
-pub fn caller_of(
-    alloc: Global,
-    facts: &RealmFacts,
-    text: &str,
-) -> Result<Option<Principal>, NoMemory>
-    ensures { IfOk result (λ found. IfSome found (λ caller. account_of caller ≡ facts.now.account)) }
+pub fn caller_of(alloc: Global, account: AccountNumber, text: &str) -> Result<Principal, Failure>
+    ensures { IfOk result (λ caller. account_of caller ≡ account) }
 {
-    match principal_of(alloc, text)? {
-        Some(caller) if account_in(&caller) == facts.account => Ok(Some(caller)),
-        _ => Ok(None),
+    let caller = read_principal(alloc, text)?;
+    if account_in(&caller) == account {
+        Ok(caller)
+    } else {
+        Err(Failure::Unfit)
     }
 }
 
 fn credential_of(
     alloc: Global,
-    facts: &RealmFacts,
-    key: &KnownKey,
-) -> Result<Option<Credential>, NoMemory>
-    ensures { IfOk result (λ found. IfSome found (λ (key : AKey). account_of key.principal ≡ facts.now.account)) }
+    account: AccountNumber,
+    id: &str,
+    secret: &str,
+    principal: &str,
+) -> Result<Credential, Failure>
+    ensures { IfOk result (λ (key : AKey). account_of key.principal ≡ account) }
 {
-    let Some(principal) = caller_of(alloc, facts, key.principal.as_str())? else {
-        return Ok(None);
-    };
-    Ok(Some(Credential {
-        id: Text::from_str(alloc, key.id.as_str())?,
-        secret: Text::from_str(alloc, key.secret.as_str())?,
-        principal,
-    }))
+    Ok(Credential {
+        id: Text::from_str(alloc, id)?,
+        secret: Text::from_str(alloc, secret)?,
+        principal: caller_of(alloc, account, principal)?,
+    })
 }
 
 // The credentials, if each one's principal is of the account and no two have one id.
 fn credentials_of(
     alloc: Global,
-    facts: &RealmFacts,
-    keys: &[KnownKey],
-) -> Result<Option<CredentialList>, NoMemory>
-    ensures { IfOk result (λ found. IfSome found (λ list. All (λ (key : AKey). account_of key.principal ≡ facts.now.account) list)) }
+    account: AccountNumber,
+    case: &Case<'_>,
+) -> Result<CredentialList, Failure>
+    ensures { IfOk result (λ list. All (λ (key : AKey). account_of key.principal ≡ account) list) }
 {
     let mut all = Vec::new(alloc);
-    for key in keys {
-        let Some(credential) = credential_of(alloc, facts, key)? else {
-            return Ok(None);
-        };
-        all.push(credential)?;
+    for line in case.lines {
+        if let Line::Credential {
+            id,
+            secret,
+            principal,
+        } = line
+        {
+            all.push(credential_of(alloc, account, id, secret, principal)?)?;
+        }
     }
     if are_distinct(&all) {
-        Ok(Some(CredentialList::new(all)))
+        Ok(CredentialList::new(all))
     } else {
-        Ok(None)
+        Err(Failure::Unfit)
     }
 }
 
 /// Whom the session of a case trusts: whoever signs with one of its credentials, or its caller where it
 /// has none; if they are of the account.
-pub fn trust_of(alloc: Global, facts: &RealmFacts, case: &Case) -> Result<Option<Trust>, NoMemory>
-    ensures { IfOk result (λ found. IfSome found (IsOfAccount facts.now.account)) }
+pub fn trust_of(alloc: Global, account: AccountNumber, case: &Case<'_>) -> Result<Trust, Failure>
+    ensures { IfOk result (IsOfAccount account) }
 {
-    if !case.credentials.is_empty() {
-        return Ok(credentials_of(alloc, facts, &case.credentials)?.map(Trust::Signed));
-    }
-    match caller_of(alloc, facts, case.caller.as_str())? {
-        Some(caller) => Ok(Some(Trust::Word(caller))),
-        None => Ok(None),
+    if case.has_credentials {
+        Ok(Trust::Signed(credentials_of(alloc, account, case)?))
+    } else {
+        Ok(Trust::Word(caller_of(alloc, account, case.caller)?))
     }
 }

@@ -1,142 +1,143 @@
 // A case: the session that it stands for, and what is wanted of it.
+use crate::lines::{Line, Places, Span, Wanted};
+use crate::texts::is_escaped;
 use std::alloc::{AllocError, Global};
 
-/// An answer of the clock, in seconds since 1970, with the text of its date.
-#[derive(Drop)]
-pub struct Moment {
-    pub second: u64,
-    pub date: String,
-}
-
 /// Some bytes of the input.
-#[derive(Drop)]
-pub enum Request {
+#[derive(Clone, Copy)]
+pub enum Request<'a> {
     /// A message by which this caller asks the operation for this, with a body.
     Ask {
-        caller: String,
-        operation: String,
-        body: String,
+        caller: &'a str,
+        operation: &'a str,
+        body: &'a str,
     },
-    /// Bytes as they stand.
-    Raw(Vec<u8>),
+    /// Bytes as they stand, but for their escapes.
+    Raw(&'a str),
 }
 
-/// A reply.
-#[derive(Drop)]
-pub struct Wanted {
-    pub closes: bool,
-    pub status: u16,
-    pub front: u64,
-    pub body: String,
-}
-
-impl Request {
-    /// The same request.
-    pub fn copy(&self, alloc: Global) -> Result<Request, AllocError> {
-        Ok(match self {
-            Request::Ask {
-                caller,
-                operation,
-                body,
-            } => Request::Ask {
-                caller: String::from_str(alloc, caller.as_str())?,
-                operation: String::from_str(alloc, operation.as_str())?,
-                body: String::from_str(alloc, body.as_str())?,
-            },
-            Request::Raw(bytes) => Request::Raw(bytes.as_slice().to_vec(alloc)?),
-        })
-    }
-}
-
-impl Wanted {
-    /// The same reply.
-    pub fn copy(&self, alloc: Global) -> Result<Wanted, AllocError> {
-        Ok(Wanted {
-            closes: self.closes,
-            status: self.status,
-            front: self.front,
-            body: String::from_str(alloc, self.body.as_str())?,
-        })
-    }
-}
-
-/// A range of numbers, from the first to the last.
+/// A case: what it shows, what its lines set, how many requests and replies they have, and the lines.
 #[derive(Clone, Copy)]
-pub struct Span {
-    pub first: usize,
-    pub last: usize,
-}
-
-/// How many words and initialization vectors a pass has given.
-#[derive(Clone, Copy, PartialEq, Eq)]
-pub struct Places {
-    pub words: u64,
-    pub ivs: u64,
-}
-
-/// A policy of a principal, both as texts.
-#[derive(Drop)]
-pub struct OwnPolicy {
-    pub principal: String,
-    pub text: String,
-}
-
-/// A credential of a caller: its id, its secret, and the ARN of its principal.
-#[derive(Drop)]
-pub struct KnownKey {
-    pub id: String,
-    pub secret: String,
-    pub principal: String,
-}
-
-/// How a case ends.
-#[derive(Drop)]
-pub enum Ending {
-    /// The session ends so, after all replies, or after so many and a front of the next.
-    Session { end: String, whole: Option<usize> },
-    /// The pass has given so many words and vectors.
-    Left(Places),
-}
-
-/// A case. The caller is the one of its next request.
-#[derive(Drop)]
-pub struct Case {
-    pub what: String,
-    pub caller: String,
-    pub policies: Vec<OwnPolicy>,
-    pub credentials: Vec<KnownKey>,
+pub struct Case<'a> {
+    pub what: &'a str,
+    /// Who asks the next request.
+    pub caller: &'a str,
+    pub has_credentials: bool,
     pub boot: u32,
-    pub clock: Vec<Moment>,
     pub pieces: Span,
     pub cut: Option<Span>,
-    pub failing_reads: Vec<u64>,
-    pub failing_writes: Vec<u64>,
     pub spent: Option<Places>,
-    pub requests: Vec<Request>,
-    pub replies: Vec<Wanted>,
-    pub ending: Option<Ending>,
+    pub requests: usize,
+    pub replies: usize,
+    pub has_ended: bool,
+    /// All its lines, once the last one has come, which says how it ends.
+    pub lines: &'a [Line<'a>],
 }
 
 const ROOT: &str = "arn:aws:iam::111122223333:root";
 
-impl Case {
+impl<'a> Case<'a> {
     /// A case that shows this, of which nothing else is said yet.
-    pub fn new(alloc: Global, what: &str) -> Result<Case, AllocError> {
-        Ok(Case {
-            what: String::from_str(alloc, what)?,
-            caller: String::from_str(alloc, ROOT)?,
-            policies: Vec::new(alloc),
-            credentials: Vec::new(alloc),
+    pub fn new(what: &'a str) -> Case<'a> {
+        Case {
+            what,
+            caller: ROOT,
+            has_credentials: false,
             boot: 1,
-            clock: Vec::new(alloc),
             pieces: Span { first: 0, last: 0 },
             cut: None,
-            failing_reads: Vec::new(alloc),
-            failing_writes: Vec::new(alloc),
             spent: None,
-            requests: Vec::new(alloc),
-            replies: Vec::new(alloc),
-            ending: None,
-        })
+            requests: 0,
+            replies: 0,
+            has_ended: false,
+            lines: &[],
+        }
     }
+
+    /// Takes what a line sets, or one of the case's turns. It is false where the line says nothing there.
+    pub fn take(&mut self, line: &Line<'a>) -> bool {
+        let has_asked = self.requests != 0;
+        match *line {
+            Line::Clock { .. } | Line::FailingRead(_) | Line::FailingWrite(_) => {}
+            Line::Policy { .. } => return !has_asked,
+            Line::Credential { .. } => {
+                self.has_credentials = true;
+                return !has_asked;
+            }
+            Line::Caller(caller) => {
+                self.caller = caller;
+                return self.spent.is_some() || !has_asked;
+            }
+            Line::Boot(boot) => self.boot = boot,
+            Line::Pieces(pieces) => self.pieces = pieces,
+            Line::Cut(cut) => self.cut = Some(cut),
+            Line::Spent(places) => self.spent = Some(places),
+            _ => return self.take_turn(line),
+        }
+        true
+    }
+
+    // The same of the lines that are a turn, or the end.
+    fn take_turn(&mut self, line: &Line<'a>) -> bool {
+        match *line {
+            Line::Ask { .. } => self.requests = self.requests.saturating_add(1),
+            Line::Raw(text) => {
+                self.requests = self.requests.saturating_add(1);
+                return is_escaped(text);
+            }
+            Line::Reply(_) => self.replies = self.replies.saturating_add(1),
+            Line::Again(count) => {
+                let has_turn = self.requests != 0 && self.replies != 0;
+                self.requests = self.requests.saturating_add(count);
+                self.replies = self.replies.saturating_add(count);
+                return has_turn;
+            }
+            Line::End { .. } | Line::Left(_) => self.has_ended = true,
+            _ => return false,
+        }
+        true
+    }
+
+    /// The requests, those that are said again too.
+    pub fn all_requests(&self, alloc: Global) -> Result<Vec<Request<'a>>, AllocError> {
+        let mut caller = ROOT;
+        let mut requests = Vec::new(alloc);
+        for line in self.lines {
+            match *line {
+                Line::Caller(next) => caller = next,
+                Line::Ask { operation, body } => requests.push(Request::Ask {
+                    caller,
+                    operation,
+                    body,
+                })?,
+                Line::Raw(text) => requests.push(Request::Raw(text))?,
+                Line::Again(count) => add_again(&mut requests, count)?,
+                _ => {}
+            }
+        }
+        Ok(requests)
+    }
+
+    /// The replies, those that are said again too.
+    pub fn all_replies(&self, alloc: Global) -> Result<Vec<Wanted<'a>>, AllocError> {
+        let mut replies = Vec::new(alloc);
+        for line in self.lines {
+            match *line {
+                Line::Reply(reply) => replies.push(reply)?,
+                Line::Again(count) => add_again(&mut replies, count)?,
+                _ => {}
+            }
+        }
+        Ok(replies)
+    }
+}
+
+// Adds the last item so many more times.
+fn add_again<T: Copy>(items: &mut Vec<T>, count: usize) -> Result<(), AllocError> {
+    if let Some(last) = items.last().copied() {
+        for _ in 0..count {
+            items.push(last)?;
+        }
+    }
+    Ok(())
 }

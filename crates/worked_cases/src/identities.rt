@@ -1,61 +1,26 @@
 // The principals of a case with their own policies.
-use crate::cases::{Case, OwnPolicy};
+use crate::cases::Case;
+use crate::failures::Failure;
+use crate::lines::Line;
 use authority::{Identity, IdentityList, PolicyList};
-use kms_names::{NameFault, NoMemory, Principal, read_principal};
-use policy_doc::{Policy, PolicyFault, PolicyKind, read_policy};
+use kms_names::{Principal, read_principal};
+use policy_doc::{PolicyKind, read_policy};
 use std::alloc::Global;
 
-/// The principal that a text names, if it names one.
-pub fn principal_of(alloc: Global, text: &str) -> Result<Option<Principal>, NoMemory> {
-    match read_principal(alloc, text) {
-        Ok(principal) => Ok(Some(principal)),
-        Err(NameFault::NoMemory) => Err(NoMemory),
-        Err(_) => Ok(None),
-    }
-}
-
-// The policy of a principal that a text is, if it is one.
-fn policy_of(alloc: Global, text: &str) -> Result<Option<Policy>, NoMemory> {
-    match read_policy(alloc, PolicyKind::Identity, text.as_bytes()) {
-        Ok(policy) => Ok(Some(policy)),
-        Err(PolicyFault::NoMemory) => Err(NoMemory),
-        Err(_) => Ok(None),
-    }
-}
-
-// All policies that a case gives to one principal, if each can be read.
-fn policies_of(
-    alloc: Global,
-    own: &[OwnPolicy],
-    principal: &str,
-) -> Result<Option<PolicyList>, NoMemory> {
+// All policies that a case gives to one principal.
+fn policies_of(alloc: Global, case: &Case<'_>, principal: &str) -> Result<PolicyList, Failure> {
     let mut policies = Vec::new(alloc);
-    for line in own {
-        if line.principal.as_str() == principal {
-            let Some(policy) = policy_of(alloc, line.text.as_str())? else {
-                return Ok(None);
-            };
-            policies.push(policy)?;
+    for line in case.lines {
+        if let Line::Policy {
+            principal: own,
+            text,
+        } = line
+            && *own == principal
+        {
+            policies.push(read_policy(alloc, PolicyKind::Identity, text.as_bytes())?)?;
         }
     }
-    Ok(Some(PolicyList::new(policies)))
-}
-
-fn identity_of(
-    alloc: Global,
-    own: &[OwnPolicy],
-    principal: &str,
-) -> Result<Option<Identity>, NoMemory> {
-    let (Some(policies), Some(principal)) = (
-        policies_of(alloc, own, principal)?,
-        principal_of(alloc, principal)?,
-    ) else {
-        return Ok(None);
-    };
-    Ok(Some(Identity {
-        principal,
-        policies,
-    }))
+    Ok(PolicyList::new(policies))
 }
 
 fn has_principal(identities: &[Identity], principal: &Principal) -> bool {
@@ -64,16 +29,31 @@ fn has_principal(identities: &[Identity], principal: &Principal) -> bool {
         .any(|identity| identity.principal == *principal)
 }
 
-/// The principals of a case, each once and with all its policies, if each can be read.
-pub fn identities_of(alloc: Global, case: &Case) -> Result<Option<IdentityList>, NoMemory> {
+// Adds a principal with all its policies, if it isn't there yet.
+fn add_identity(
+    alloc: Global,
+    case: &Case<'_>,
+    name: &str,
+    identities: &mut Vec<Identity>,
+) -> Result<(), Failure> {
+    let policies = policies_of(alloc, case, name)?;
+    let principal = read_principal(alloc, name)?;
+    if !has_principal(identities, &principal) {
+        identities.push(Identity {
+            principal,
+            policies,
+        })?;
+    }
+    Ok(())
+}
+
+/// The principals of a case, each once and with all its policies.
+pub fn identities_of(alloc: Global, case: &Case<'_>) -> Result<IdentityList, Failure> {
     let mut identities = Vec::new(alloc);
-    for line in case.policies.iter() {
-        let Some(identity) = identity_of(alloc, &case.policies, line.principal.as_str())? else {
-            return Ok(None);
-        };
-        if !has_principal(&identities, &identity.principal) {
-            identities.push(identity)?;
+    for line in case.lines {
+        if let Line::Policy { principal, .. } = line {
+            add_identity(alloc, case, principal, &mut identities)?;
         }
     }
-    Ok(Some(IdentityList::new(identities)))
+    Ok(IdentityList::new(identities))
 }

@@ -1,17 +1,40 @@
 // The lines of a script.
-use crate::cases::{Places, Span};
+use crate::texts::has_name;
+use std::str::FromStr;
+
+/// A range of numbers, from the first to the last.
+#[derive(Clone, Copy)]
+pub struct Span {
+    pub first: usize,
+    pub last: usize,
+}
+
+/// How many words and initialization vectors a pass has given.
+#[derive(Clone, Copy, PartialEq, Eq)]
+pub struct Places {
+    pub words: u64,
+    pub ivs: u64,
+}
+
+/// A reply: whether it closes, its status, the number of entries, the exception's name where it is a
+/// refusal, and its body or its message.
+#[derive(Clone, Copy)]
+pub struct Wanted<'a> {
+    pub closes: bool,
+    pub status: u16,
+    pub exception: Option<&'a str>,
+    pub front: u64,
+    pub text: &'a str,
+}
 
 /// What a line says.
 #[derive(Clone, Copy)]
 pub enum Line<'a> {
     Nothing,
+    Unreadable,
     Text {
         name: &'a str,
-        text: &'a str,
-    },
-    Copies {
-        name: &'a str,
-        count: usize,
+        copies: usize,
         text: &'a str,
     },
     Case(&'a str),
@@ -41,11 +64,7 @@ pub enum Line<'a> {
         body: &'a str,
     },
     Raw(&'a str),
-    Served(Answer<'a>),
-    Refused {
-        answer: Answer<'a>,
-        name: &'a str,
-    },
+    Reply(Wanted<'a>),
     End {
         end: &'a str,
         whole: Option<usize>,
@@ -53,162 +72,177 @@ pub enum Line<'a> {
     Left(Places),
 }
 
-/// A reply: whether it closes, its status, the number of entries, and its text.
-#[derive(Clone, Copy)]
-pub struct Answer<'a> {
-    pub closes: bool,
-    pub status: u16,
-    pub front: u64,
-    pub text: &'a str,
+// What hasn't been read of a line, and whether something in it couldn't be read.
+#[derive(Drop)]
+struct Words<'a> {
+    rest: &'a str,
+    is_faulty: bool,
 }
 
-// One number, or the first and the last of a range.
-fn read_span(text: &str) -> Option<Span> {
-    match text.split_once(' ') {
-        Some((first, last)) => Some(Span {
-            first: first.parse().ok()?,
-            last: last.parse().ok()?,
-        }),
-        None => {
-            let only = text.parse().ok()?;
-            Some(Span {
-                first: only,
-                last: only,
-            })
+impl<'a> Words<'a> {
+    // The next word, behind which a space stands.
+    fn word(&mut self) -> &'a str {
+        match self.rest.split_once(' ') {
+            Some((word, rest)) => {
+                self.rest = rest;
+                word
+            }
+            None => {
+                self.is_faulty = true;
+                ""
+            }
+        }
+    }
+
+    // The number that a text is.
+    fn number_in<N: FromStr<Err: Drop> + Default>(&mut self, text: &str) -> N {
+        match text.parse() {
+            Ok(number) => number,
+            Err(_) => {
+                self.is_faulty = true;
+                N::default()
+            }
+        }
+    }
+
+    // The number that the next word is.
+    fn number<N: FromStr<Err: Drop> + Default>(&mut self) -> N {
+        let word = self.word();
+        self.number_in(word)
+    }
+
+    // The number that all the rest is.
+    fn last_number<N: FromStr<Err: Drop> + Default>(&mut self) -> N {
+        self.number_in(self.rest)
+    }
+
+    // One number, or the first and the last of a range.
+    fn span(&mut self) -> Span {
+        let (first, last) = self.rest.split_once(' ').unwrap_or((self.rest, self.rest));
+        Span {
+            first: self.number_in(first),
+            last: self.number_in(last),
+        }
+    }
+
+    fn places(&mut self) -> Places {
+        Places {
+            words: self.number(),
+            ivs: self.last_number(),
         }
     }
 }
 
-fn read_places(text: &str) -> Option<Places> {
-    let (words, ivs) = text.split_once(' ')?;
-    Some(Places {
-        words: words.parse().ok()?,
-        ivs: ivs.parse().ok()?,
-    })
-}
-
-fn read_copies(text: &str) -> Option<Line<'_>> {
-    let (name, rest) = text.split_once(' ')?;
-    let (count, text) = rest.split_once(' ')?;
-    Some(Line::Copies {
-        name,
-        count: count.parse().ok()?,
-        text,
-    })
-}
-
-fn read_credential(text: &str) -> Option<Line<'_>> {
-    let (id, rest) = text.split_once(' ')?;
-    let (secret, principal) = rest.split_once(' ')?;
-    Some(Line::Credential {
-        id,
-        secret,
-        principal,
-    })
-}
-
-fn read_failing(text: &str) -> Option<Line<'_>> {
-    match text.split_once(' ')? {
-        ("read", number) => Some(Line::FailingRead(number.parse().ok()?)),
-        ("write", number) => Some(Line::FailingWrite(number.parse().ok()?)),
-        _ => None,
+fn read_failing<'a>(words: &mut Words<'a>) -> Line<'a> {
+    match words.word() {
+        "read" => Line::FailingRead(words.last_number()),
+        "write" => Line::FailingWrite(words.last_number()),
+        _ => Line::Unreadable,
     }
 }
 
-fn read_ask(text: &str) -> Option<Line<'_>> {
-    let (operation, body) = text.split_once(' ')?;
+fn read_ask<'a>(words: &mut Words<'a>) -> Line<'a> {
+    let operation = words.word();
+    let body = words.rest;
     if operation == "raw" {
-        Some(Line::Raw(body))
+        Line::Raw(body)
     } else {
-        Some(Line::Ask { operation, body })
+        Line::Ask { operation, body }
     }
 }
 
 // A status of 200 with the whole body, or another with the exception's name and its message.
-fn read_answer(text: &str) -> Option<Line<'_>> {
-    let (closes, text) = match text.strip_prefix("close ") {
-        Some(rest) => (true, rest),
-        None => (false, text),
+fn read_reply<'a>(words: &mut Words<'a>) -> Line<'a> {
+    let after = words.rest.strip_prefix("close ");
+    words.rest = after.unwrap_or(words.rest);
+    let status = words.number();
+    let exception = if status == 200 {
+        None
+    } else {
+        Some(words.word())
     };
-    let (status, rest) = text.split_once(' ')?;
-    let status = status.parse().ok()?;
-    if status == 200 {
-        let (front, text) = rest.split_once(' ')?;
-        return Some(Line::Served(Answer {
-            closes,
-            status,
-            front: front.parse().ok()?,
-            text,
-        }));
-    }
-    let (name, rest) = rest.split_once(' ')?;
-    let (front, text) = rest.split_once(' ')?;
-    Some(Line::Refused {
-        answer: Answer {
-            closes,
-            status,
-            front: front.parse().ok()?,
-            text,
-        },
-        name,
+    Line::Reply(Wanted {
+        closes: after.is_some(),
+        status,
+        exception,
+        front: words.number(),
+        text: words.rest,
     })
 }
 
-fn read_end(text: &str) -> Option<Line<'_>> {
-    match text.split_once(' ') {
-        Some((end, whole)) => Some(Line::End {
+fn read_end<'a>(words: &mut Words<'a>) -> Line<'a> {
+    match words.rest.split_once(' ') {
+        Some((end, whole)) => Line::End {
             end,
-            whole: Some(whole.parse().ok()?),
-        }),
-        None => Some(Line::End {
-            end: text,
+            whole: Some(words.number_in(whole)),
+        },
+        None => Line::End {
+            end: words.rest,
             whole: None,
-        }),
+        },
     }
 }
 
-fn read_setting<'a>(word: &str, rest: &'a str) -> Option<Line<'a>> {
+fn read_setting<'a>(word: &str, words: &mut Words<'a>) -> Line<'a> {
     match word {
-        "clock" => {
-            let (second, date) = rest.split_once(' ')?;
-            Some(Line::Clock {
-                second: second.parse().ok()?,
-                date,
-            })
-        }
-        "as" => Some(Line::Caller(rest)),
-        "policy" => {
-            let (principal, text) = rest.split_once(' ')?;
-            Some(Line::Policy { principal, text })
-        }
-        "credential" => read_credential(rest),
-        "boot" => Some(Line::Boot(rest.parse().ok()?)),
-        "pieces" => Some(Line::Pieces(read_span(rest)?)),
-        "cut" => Some(Line::Cut(read_span(rest)?)),
-        "again" => Some(Line::Again(rest.parse().ok()?)),
-        "fail" => read_failing(rest),
-        "spent" => Some(Line::Spent(read_places(rest)?)),
-        "left" => Some(Line::Left(read_places(rest)?)),
-        _ => None,
+        "clock" => Line::Clock {
+            second: words.number(),
+            date: words.rest,
+        },
+        "as" => Line::Caller(words.rest),
+        "policy" => Line::Policy {
+            principal: words.word(),
+            text: words.rest,
+        },
+        "credential" => Line::Credential {
+            id: words.word(),
+            secret: words.word(),
+            principal: words.rest,
+        },
+        "boot" => Line::Boot(words.last_number()),
+        "pieces" => Line::Pieces(words.span()),
+        "cut" => Line::Cut(words.span()),
+        "again" => Line::Again(words.last_number()),
+        "fail" => read_failing(words),
+        "spent" => Line::Spent(words.places()),
+        _ => Line::Unreadable,
     }
 }
 
-/// What a line says, if it can be read.
-pub fn read_line(line: &str) -> Option<Line<'_>> {
+fn read_words<'a>(words: &mut Words<'a>) -> Line<'a> {
+    match words.word() {
+        "text" => Line::Text {
+            name: words.word(),
+            copies: 1,
+            text: words.rest,
+        },
+        "copies" => Line::Text {
+            name: words.word(),
+            copies: words.number(),
+            text: words.rest,
+        },
+        "case" => Line::Case(words.rest),
+        ">" => read_ask(words),
+        "<" => read_reply(words),
+        "end" => read_end(words),
+        "left" => Line::Left(words.places()),
+        word => read_setting(word, words),
+    }
+}
+
+/// What a line says. One in which a name stands that has no text can't be read.
+pub fn read_line(line: &str) -> Line<'_> {
     if line.is_empty() || line.starts_with('#') {
-        return Some(Line::Nothing);
+        return Line::Nothing;
     }
-    let (word, rest) = line.split_once(' ')?;
-    match word {
-        "text" => {
-            let (name, text) = rest.split_once(' ')?;
-            Some(Line::Text { name, text })
-        }
-        "copies" => read_copies(rest),
-        "case" => Some(Line::Case(rest)),
-        ">" => read_ask(rest),
-        "<" => read_answer(rest),
-        "end" => read_end(rest),
-        _ => read_setting(word, rest),
+    let mut words = Words {
+        rest: line,
+        is_faulty: has_name(line),
+    };
+    let said = read_words(&mut words);
+    if words.is_faulty {
+        Line::Unreadable
+    } else {
+        said
     }
 }

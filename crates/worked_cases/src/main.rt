@@ -4,6 +4,7 @@
 
 mod callers;
 mod cases;
+mod failures;
 mod identities;
 mod lines;
 mod places;
@@ -13,14 +14,16 @@ mod sessions;
 mod texts;
 
 use cases::Case;
-use kms_names::NoMemory;
+use failures::Failure;
+use lines::Line;
 use places::hold_places;
-use scripts::{Piece, read_script};
-use sessions::{Outcome, hold_session};
+use scripts::{Piece, Reader, read_lines};
+use sessions::hold_session;
 use std::alloc::Global;
 use std::process::ExitCode;
 use std::sync::Wait;
 use std::{fs, io, rt};
+use texts::expanded;
 
 // The scripts, each with the cases that show one thing.
 const SCRIPTS: [&str; 20] = [
@@ -53,47 +56,59 @@ struct Tally {
     failed: u64,
 }
 
-impl Tally {
-    fn add(&mut self, outcome: &Outcome) {
-        match outcome {
-            Outcome::Holds => self.passed = self.passed.saturating_add(1),
-            Outcome::Differs(_) => self.failed = self.failed.saturating_add(1),
+// Holds a case: how many replies it has, or why it doesn't hold.
+fn hold<W: Wait>(rt: &W, alloc: Global, case: &Case<'_>) -> Result<usize, &'static str> {
+    let held = match case.spent {
+        Some(spent) => hold_places(alloc, case, spent),
+        None => hold_session(rt, alloc, case),
+    };
+    match held {
+        Ok(()) => Ok(case.replies),
+        Err(Failure::Unfit) if case.spent.is_some() => Err("can't be asked"),
+        Err(failure) => Err(failure.words()),
+    }
+}
+
+// Shows what came of a piece of a script, which the line of this number ends.
+fn show<R: rt::Runtime<A = Global> + Wait>(
+    rt: &R,
+    script: &str,
+    line: usize,
+    piece: &Piece<'_>,
+    tally: &mut Tally,
+) -> io::Result<()> {
+    let (what, held) = match piece {
+        Piece::Case(case) => (case.what, hold(rt, rt.alloc(), case)),
+        Piece::Unreadable => ("the line", Err("can't be read")),
+        Piece::Empty => ("the script", Err("has no case")),
+    };
+    match held {
+        Ok(replies) => {
+            tally.passed = tally.passed.saturating_add(1);
+            println!(rt; "{script}: {what} ({replies})")
+        }
+        Err(why) => {
+            tally.failed = tally.failed.saturating_add(1);
+            println!(rt; "{script}:{line}: FAILED: {what} {why}")
         }
     }
 }
 
-fn hold<W: Wait>(rt: &W, alloc: Global, case: &Case) -> Outcome {
-    let outcome = if case.spent.is_some() {
-        hold_places(alloc, case)
-    } else {
-        hold_session(rt, alloc, case)
-    };
-    match outcome {
-        Ok(outcome) => outcome,
-        Err(NoMemory) => Outcome::Differs("wants memory"),
+fn run_lines<R: rt::Runtime<A = Global> + Wait>(
+    rt: &R,
+    script: &str,
+    lines: &[Line<'_>],
+    tally: &mut Tally,
+) -> io::Result<()> {
+    let mut reader = Reader::new(lines);
+    for line in lines {
+        if let Some(piece) = reader.take(line) {
+            show(rt, script, reader.number(), &piece, tally)?;
+        }
     }
-}
-
-fn outcome_of<W: Wait>(rt: &W, alloc: Global, piece: &Piece) -> Outcome {
-    match piece {
-        Piece::Case(case) => hold(rt, alloc, case),
-        Piece::Unreadable => Outcome::Differs("can't be read"),
-        Piece::Empty => Outcome::Differs("has no case"),
-    }
-}
-
-fn replies_in(piece: &Piece) -> usize {
-    match piece {
-        Piece::Case(case) => case.replies.len(),
-        Piece::Unreadable | Piece::Empty => 0,
-    }
-}
-
-fn what(piece: &Piece) -> &str {
-    match piece {
-        Piece::Case(case) => case.what.as_str(),
-        Piece::Unreadable => "the line",
-        Piece::Empty => "the script",
+    match reader.end() {
+        Some(piece) => show(rt, script, reader.number(), &piece, tally),
+        None => Ok(()),
     }
 }
 
@@ -103,17 +118,9 @@ fn run_script<R: rt::Runtime<A = Global> + Wait>(
     tally: &mut Tally,
 ) -> io::Result<()> {
     let text = fs::read_to_string(rt, script)?;
-    for (line, piece) in read_script(rt.alloc(), text.as_str())?.iter() {
-        let outcome = outcome_of(rt, rt.alloc(), piece);
-        let what = what(piece);
-        let replies = replies_in(piece);
-        match outcome {
-            Outcome::Holds => println!(rt; "{script}: {what} ({replies})")?,
-            Outcome::Differs(why) => println!(rt; "{script}:{line}: FAILED: {what} {why}")?,
-        }
-        tally.add(&outcome);
-    }
-    Ok(())
+    let texts = expanded(rt.alloc(), text.as_str())?;
+    let lines = read_lines(rt.alloc(), &texts)?;
+    run_lines(rt, script, &lines, tally)
 }
 
 fn main(rt: HostRuntime) -> io::Result<ExitCode> {

@@ -5,15 +5,19 @@ ghost use Rattle.account_steps.specs.Places.{IsLineOf};
 ghost use Rattle.account_core.specs.Decide.{IsProper, account_of};
 
 use crate::callers::caller_of;
-use crate::cases::{Case, Ending, Places, Request, Wanted};
-use crate::sessions::{Outcome, facts_of};
+use crate::cases::{Case, Request};
+use crate::failures::Failure;
+use crate::lines::{Line, Places, Wanted};
+use crate::replies::body_text;
+use crate::sessions::{account_number, facts_of};
 use account_core::{Account, Decision};
 use account_steps::RealmFacts;
 use draw_lines::DrawLine;
-use kms_json::{Ask, JsonFault, Reply, read_ask, write_reply};
+use kms_json::{Ask, read_ask};
 use kms_names::{NoMemory, Principal};
 use mac_sha::Mac;
-use std::alloc::{AllocError, Global};
+use published_account::{Answered, answer_with};
+use std::alloc::Global;
 
 const MOST: u64 = 0x1_0000_0000_0000;
 
@@ -23,13 +27,11 @@ fn ask(
     caller: Principal,
     operation: &str,
     body: &str,
-) -> Result<Ask, JsonFault>
+) -> Result<Ask, Failure>
     requires { account_of caller ≡ facts.now.account }
     ensures { IfOk result (λ ask. IsProper facts.now ask) }
 {
-    let Ok(target) = format!(in alloc; "TrentService.{operation}") else {
-        return Err(JsonFault::NoMemory);
-    };
+    let target = format!(in alloc; "TrentService.{operation}")?;
     Ok(Ask {
         body: read_ask(alloc, target.as_bytes(), body.as_bytes())?,
         caller,
@@ -67,111 +69,125 @@ impl Asked {
     ghost use Rattle.kms_json.specs.Asks.{changes_account};
 
     // Answers a request.
-    fn answer(&mut self, alloc: Global, ask: &Ask) -> Result<Reply, NoMemory>
+    fn answer(&mut self, alloc: Global, ask: &Ask) -> Result<Answered, NoMemory>
         requires { IsProper self.old.account.facts ask.now }
     {
         if ask.changes() {
             return self.change(alloc, ask);
         }
-        self.account.decide_read(alloc, ask, &mut self.line)
+        let reply = self.account.decide_read(alloc, ask, &mut self.line)?;
+        answer_with(alloc, self.account.entries(), reply)
     }
 
     // Answers a request that changes the account, and appends its entry.
-    fn change(&mut self, alloc: Global, ask: &Ask) -> Result<Reply, NoMemory>
+    fn change(&mut self, alloc: Global, ask: &Ask) -> Result<Answered, NoMemory>
         requires proper { IsProper self.old.account.facts ask.now }
         requires changes { changes_account ask.now.body ≡ true }
     {
         match self.account.decide_change(alloc, ask)? {
             Decision::Change(entry, reply) => {
                 self.account = self.account.apply(alloc, &entry)?;
-                Ok(reply)
+                answer_with(alloc, self.account.entries(), reply)
             }
-            Decision::Refused(reply) | Decision::Served(reply) => Ok(reply),
+            Decision::Refused(reply) | Decision::Served(reply) => {
+                answer_with(alloc, self.account.entries(), reply)
+            }
         }
     }
 
-    // Whether a request gets this reply.
-    fn holds(
+    // Asks what a request asks, and compares the answer with the reply that is wanted.
+    fn hold(
         &mut self,
         alloc: Global,
-        request: &Request,
-        wanted: &Wanted,
-    ) -> Result<bool, JsonFault> {
+        request: &Request<'_>,
+        wanted: &Wanted<'_>,
+    ) -> Result<(), Failure> {
         let Request::Ask {
             caller,
             operation,
             body,
-        } = request
+        } = *request
         else {
-            return Ok(false);
+            return Err(Failure::Unfit);
         };
         let facts = self.account.facts();
-        let Some(caller) = caller_of(alloc, facts, caller.as_str())? else {
-            return Ok(false);
-        };
-        let ask = ask(alloc, facts, caller, operation.as_str(), body.as_str())?;
-        let reply = self.answer(alloc, &ask)?;
-        let holds = self.is_wanted(alloc, &reply, wanted)?;
-        Ok(holds)
+        let caller = caller_of(alloc, facts.account, caller)?;
+        let ask = ask(alloc, facts, caller, operation, body)?;
+        let answered = self.answer(alloc, &ask)?;
+        compare(alloc, &answered, wanted)
     }
 
-    // Whether this reply is the one that is wanted.
-    fn is_wanted(&self, alloc: Global, reply: &Reply, wanted: &Wanted) -> Result<bool, NoMemory> {
-        let body = write_reply(alloc, reply)?;
-        Ok(
-            reply.status() == wanted.status
-                && self.account.entries() == wanted.front
-                && body.as_slice() == wanted.body.as_bytes(),
-        )
+    // Asks all requests, until one isn't answered by the reply that is wanted.
+    fn hold_all(
+        &mut self,
+        alloc: Global,
+        requests: &[Request<'_>],
+        replies: &[Wanted<'_>],
+    ) -> Result<(), Failure> {
+        for (request, wanted) in requests.iter().zip(replies) {
+            match self.hold(alloc, request, wanted) {
+                Ok(()) => {}
+                Err(Failure::Unfit) => return Err(Failure::OtherAnswer),
+                Err(failure) => return Err(failure),
+            }
+        }
+        Ok(())
+    }
+}
+
+// Compares an answer with the reply that is wanted.
+fn compare(alloc: Global, answered: &Answered, wanted: &Wanted<'_>) -> Result<(), Failure> {
+    let body = body_text(alloc, wanted)?;
+    if answered.status == wanted.status
+        && answered.front == wanted.front
+        && answered.body.as_slice() == body.as_bytes()
+    {
+        Ok(())
+    } else {
+        Err(Failure::OtherAnswer)
     }
 }
 
 // The account of a case, with a line that has given so much.
-fn open_account(alloc: Global, case: &Case, spent: Places) -> Result<Option<Asked>, NoMemory> {
+fn open_account(alloc: Global, case: &Case<'_>, spent: Places) -> Result<Asked, Failure> {
     if spent.words > MOST || spent.ivs > MOST {
-        return Ok(None);
+        return Err(Failure::Unfit);
     }
-    let Some(facts) = facts_of(alloc, case)? else {
-        return Ok(None);
-    };
+    let account = account_number().ok_or(Failure::Unfit)?;
+    let facts = facts_of(alloc, account, case)?;
     let line = line_after(&facts, spent.words, spent.ivs);
-    let account = Account::empty(alloc, facts)?;
-    Ok(Some(Asked { account, line }))
+    Ok(Asked {
+        account: Account::empty(alloc, facts)?,
+        line,
+    })
 }
 
-// Compares each reply with the one that is wanted.
-fn compare(alloc: Global, case: &Case, asked: &mut Asked) -> Result<Outcome, NoMemory> {
-    for (request, wanted) in case.requests.iter().zip(case.replies.iter()) {
-        match asked.holds(alloc, request, wanted) {
-            Ok(true) => {}
-            Ok(false) => return Ok(Outcome::Differs("answers otherwise")),
-            Err(JsonFault::NoMemory) => return Err(NoMemory),
-            Err(_) => return Ok(Outcome::Differs("asks nothing of the account")),
-        }
-    }
-    Ok(Outcome::Holds)
+// Asks what a case asks, and compares the replies.
+fn hold_case(alloc: Global, case: &Case<'_>, asked: &mut Asked) -> Result<(), Failure> {
+    let requests = case.all_requests(alloc)?;
+    let replies = case.all_replies(alloc)?;
+    asked.hold_all(alloc, &requests, &replies)
 }
 
 /// Asks an account, by a pass that has given so much, what a case asks, and compares the replies and
 /// what the pass has given afterwards.
-pub fn hold_places(alloc: Global, case: &Case) -> Result<Outcome, NoMemory> {
-    let (Some(spent), Some(Ending::Left(left))) = (case.spent, &case.ending) else {
-        return Ok(Outcome::Differs("doesn't say what is left"));
+pub fn hold_places(alloc: Global, case: &Case<'_>, spent: Places) -> Result<(), Failure> {
+    let Some(Line::Left(left)) = case.lines.last() else {
+        return Err(Failure::NothingLeft);
     };
-    if case.requests.len() != case.replies.len() {
-        return Ok(Outcome::Differs("lacks a reply"));
+    if case.requests != case.replies {
+        return Err(Failure::NoReply);
     }
-    let Some(mut asked) = open_account(alloc, case, spent)? else {
-        return Ok(Outcome::Differs("can't be asked"));
-    };
-    let outcome = compare(alloc, case, &mut asked)?;
+    let mut asked = open_account(alloc, case, spent)?;
+    let held = hold_case(alloc, case, &mut asked);
     let after = Places {
         words: asked.line.words(),
         ivs: asked.line.ivs(),
     };
-    if after == *left {
-        Ok(outcome)
-    } else {
-        Ok(Outcome::Differs("gives otherwise"))
+    // Where the answers differ too, what was given says more.
+    match held {
+        Err(Failure::NoMemory) => held,
+        _ if after != *left => Err(Failure::OtherPlaces),
+        _ => held,
     }
 }

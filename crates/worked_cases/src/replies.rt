@@ -1,5 +1,7 @@
 // Messages and replies as they stand on the link.
-use crate::cases::{Case, Request, Wanted};
+use crate::cases::{Case, Request};
+use crate::lines::{Line, Wanted};
+use crate::texts::add_unescaped;
 use std::alloc::{AllocError, Global};
 
 // The reason phrase of a status (RFC 9110, section 15).
@@ -18,11 +20,20 @@ fn reason(status: u16) -> &'static str {
     }
 }
 
+/// The body of a reply.
+pub fn body_text(alloc: Global, reply: &Wanted<'_>) -> Result<String, AllocError> {
+    let text = reply.text;
+    match reply.exception {
+        Some(name) => format!(in alloc; "{{\"__type\":\"{name}\",\"message\":\"{text}\"}}"),
+        None => String::from_str(alloc, text),
+    }
+}
+
 // The reply's bytes, at this date.
-fn reply_text(alloc: Global, reply: &Wanted, date: &str) -> Result<String, AllocError> {
+fn reply_text(alloc: Global, reply: &Wanted<'_>, date: &str) -> Result<String, AllocError> {
     let status = reply.status;
     let reason = reason(status);
-    let body = reply.body.as_str();
+    let body = body_text(alloc, reply)?;
     let size = body.len();
     let front = reply.front;
     let close = if reply.closes {
@@ -36,47 +47,66 @@ fn reply_text(alloc: Global, reply: &Wanted, date: &str) -> Result<String, Alloc
 }
 
 // The date of the clock's answer to the reply of this number: the last one's, where there are fewer.
-fn date_of(case: &Case, number: usize) -> &str {
-    match case.clock.get(number).or(case.clock.last()) {
-        Some(moment) => moment.date.as_str(),
-        None => "",
+fn date_of<'a>(case: &Case<'a>, number: usize) -> &'a str {
+    let mut date = "";
+    let mut answers = 0usize;
+    for line in case.lines {
+        if let Line::Clock { date: next, .. } = line
+            && answers <= number
+        {
+            date = next;
+            answers = answers.saturating_add(1);
+        }
     }
+    date
 }
 
-/// The bytes of each reply of a case.
-pub fn reply_texts(alloc: Global, case: &Case) -> Result<Vec<String>, AllocError> {
+// The bytes of replies of a case.
+fn texts_of(
+    alloc: Global,
+    case: &Case<'_>,
+    replies: &[Wanted<'_>],
+) -> Result<Vec<String>, AllocError> {
     let mut texts = Vec::new(alloc);
-    for (number, reply) in case.replies.iter().enumerate() {
+    for (number, reply) in replies.iter().enumerate() {
         texts.push(reply_text(alloc, reply, date_of(case, number))?)?;
     }
     Ok(texts)
 }
 
-// A message that asks for an operation.
-fn message(alloc: Global, operation: &str, body: &str) -> Result<String, AllocError> {
+/// The bytes of each reply of a case.
+pub fn reply_texts(alloc: Global, case: &Case<'_>) -> Result<Vec<String>, AllocError> {
+    texts_of(alloc, case, &case.all_replies(alloc)?)
+}
+
+// Adds a message that asks for an operation.
+fn add_message(all: &mut String, operation: &str, body: &str) -> Result<(), AllocError> {
     let size = body.len();
-    format!(in alloc;
+    write!(
+        all,
         "POST / HTTP/1.1\r\nHost: localhost\r\nContent-Type: application/x-amz-json-1.1\r\nX-Amz-Target: TrentService.{operation}\r\nContent-Length: {size}\r\n\r\n{body}"
     )
 }
 
-/// The bytes of all requests of a case.
-pub fn input(alloc: Global, case: &Case) -> Result<Vec<u8>, AllocError> {
-    let mut all = Vec::new(alloc);
-    for request in case.requests.iter() {
-        match request {
+// The text of requests, one after another.
+fn messages(alloc: Global, requests: &[Request<'_>]) -> Result<String, AllocError> {
+    let mut all = String::new(alloc);
+    for request in requests {
+        match *request {
             Request::Ask {
                 operation,
                 body,
                 ..
-            } => {
-                let text = message(alloc, operation.as_str(), body.as_str())?;
-                all.extend_from_slice(text.as_bytes())?;
-            }
-            Request::Raw(bytes) => all.extend_from_slice(bytes)?,
+            } => add_message(&mut all, operation, body)?,
+            Request::Raw(text) => add_unescaped(&mut all, text)?,
         }
     }
     Ok(all)
+}
+
+/// All requests of a case, one after another.
+pub fn input(alloc: Global, case: &Case<'_>) -> Result<String, AllocError> {
+    messages(alloc, &case.all_requests(alloc)?)
 }
 
 /// Whether these bytes are the first replies, so many, and a front of the next one that lacks some of it.
@@ -92,11 +122,7 @@ pub fn is_front(written: &[u8], replies: &[String], whole: usize) -> bool {
             None => return false,
         }
     }
-    number_of(replies) == whole && rest.is_empty()
-}
-
-fn number_of(replies: &[String]) -> usize {
-    replies.len()
+    replies.len() == whole && rest.is_empty()
 }
 
 /// Whether these bytes are all replies and nothing else.

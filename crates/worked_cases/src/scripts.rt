@@ -1,223 +1,119 @@
 // Scripts: their cases, one after another.
-use crate::cases::{Case, Ending, KnownKey, Moment, OwnPolicy, Request, Wanted};
-use crate::lines::{Answer, Line, read_line};
-use crate::texts::{Texts, has_name, unescaped};
+use crate::cases::Case;
+use crate::lines::{Line, read_line};
 use std::alloc::{AllocError, Global};
 
 /// What a script is made of.
-#[derive(Drop)]
-pub enum Piece {
+#[derive(Clone, Copy)]
+pub enum Piece<'a> {
     /// A case, from its first line to its end.
-    Case(Case),
+    Case(Case<'a>),
     /// A line that can't be read, or that stands where it says nothing.
     Unreadable,
     /// A script without cases.
     Empty,
 }
 
-// What has been read of a script: its names, and the case whose end hasn't come.
+/// What each line of a script says.
+pub fn read_lines<'a>(alloc: Global, texts: &'a [String]) -> Result<Vec<Line<'a>>, AllocError> {
+    let mut lines = Vec::new(alloc);
+    for text in texts {
+        lines.push(read_line(text.as_str()))?;
+    }
+    Ok(lines)
+}
+
+// A case whose end hasn't come, and how many lines stand before its first.
+#[derive(Clone, Copy)]
+struct Begun<'a> {
+    case: Case<'a>,
+    before: usize,
+}
+
+/// What has been read of the lines of a script.
 #[derive(Drop)]
-struct Reader {
-    texts: Texts,
-    case: Option<Case>,
+pub struct Reader<'a> {
+    lines: &'a [Line<'a>],
+    number: usize,
+    begun: Option<Begun<'a>>,
+    is_empty: bool,
 }
 
-fn wanted(alloc: Global, answer: &Answer<'_>, body: String) -> Wanted {
-    let _ = alloc;
-    Wanted {
-        closes: answer.closes,
-        status: answer.status,
-        front: answer.front,
-        body,
-    }
-}
-
-// Adds the last request and the last reply so many more times. It is false where there is none.
-fn add_again(alloc: Global, case: &mut Case, count: usize) -> Result<bool, AllocError> {
-    let (Some(request), Some(reply)) = (case.requests.pop(), case.replies.pop()) else {
-        return Ok(false);
-    };
-    for _ in 0..count {
-        case.requests.push(request.copy(alloc)?)?;
-        case.replies.push(reply.copy(alloc)?)?;
-    }
-    case.requests.push(request)?;
-    case.replies.push(reply)?;
-    Ok(true)
-}
-
-// Adds to a case what a line says of it. It is false where the line says nothing of a case.
-fn add_turn(alloc: Global, case: &mut Case, line: &Line<'_>) -> Result<bool, AllocError> {
-    match line {
-        Line::Ask { operation, body } => case.requests.push(Request::Ask {
-            caller: String::from_str(alloc, case.caller.as_str())?,
-            operation: String::from_str(alloc, operation)?,
-            body: String::from_str(alloc, body)?,
-        })?,
-        Line::Raw(text) => match unescaped(alloc, text)? {
-            Some(bytes) => case.requests.push(Request::Raw(bytes))?,
-            None => return Ok(false),
-        },
-        Line::Again(count) => return add_again(alloc, case, *count),
-        Line::Served(answer) => {
-            let body = String::from_str(alloc, answer.text)?;
-            case.replies.push(wanted(alloc, answer, body))?;
-        }
-        Line::Refused { answer, name } => {
-            let message = answer.text;
-            let body = format!(in alloc; "{{\"__type\":\"{name}\",\"message\":\"{message}\"}}")?;
-            case.replies.push(wanted(alloc, answer, body))?;
-        }
-        Line::End { end, whole } => {
-            case.ending = Some(Ending::Session {
-                end: String::from_str(alloc, end)?,
-                whole: *whole,
-            });
-        }
-        Line::Left(places) => case.ending = Some(Ending::Left(*places)),
-        _ => return Ok(false),
-    }
-    Ok(true)
-}
-
-// Sets who asks from here on. In a session one caller asks everything.
-fn add_caller(alloc: Global, case: &mut Case, caller: &str) -> Result<bool, AllocError> {
-    if case.spent.is_none() && !case.requests.is_empty() {
-        return Ok(false);
-    }
-    case.caller = String::from_str(alloc, caller)?;
-    Ok(true)
-}
-
-// Gives a principal a policy, before the first request.
-fn add_policy(
-    alloc: Global,
-    case: &mut Case,
-    principal: &str,
-    text: &str,
-) -> Result<bool, AllocError> {
-    if !case.requests.is_empty() {
-        return Ok(false);
-    }
-    case.policies.push(OwnPolicy {
-        principal: String::from_str(alloc, principal)?,
-        text: String::from_str(alloc, text)?,
-    })?;
-    Ok(true)
-}
-
-// Gives a caller a credential, before the first request.
-fn add_credential(
-    alloc: Global,
-    case: &mut Case,
-    id: &str,
-    secret: &str,
-    principal: &str,
-) -> Result<bool, AllocError> {
-    if !case.requests.is_empty() {
-        return Ok(false);
-    }
-    case.credentials.push(KnownKey {
-        id: String::from_str(alloc, id)?,
-        secret: String::from_str(alloc, secret)?,
-        principal: String::from_str(alloc, principal)?,
-    })?;
-    Ok(true)
-}
-
-// Adds to a case what a line sets, or one of its turns.
-fn add_line(alloc: Global, case: &mut Case, line: &Line<'_>) -> Result<bool, AllocError> {
-    match line {
-        Line::Clock { second, date } => case.clock.push(Moment {
-            second: *second,
-            date: String::from_str(alloc, date)?,
-        })?,
-        Line::Caller(caller) => return add_caller(alloc, case, caller),
-        Line::Policy { principal, text } => return add_policy(alloc, case, principal, text),
-        Line::Credential {
-            id,
-            secret,
-            principal,
-        } => return add_credential(alloc, case, id, secret, principal),
-        Line::Boot(boot) => case.boot = *boot,
-        Line::Pieces(pieces) => case.pieces = *pieces,
-        Line::Cut(cut) => case.cut = Some(*cut),
-        Line::FailingRead(number) => case.failing_reads.push(*number)?,
-        Line::FailingWrite(number) => case.failing_writes.push(*number)?,
-        Line::Spent(places) => case.spent = Some(*places),
-        _ => return add_turn(alloc, case, line),
-    }
-    Ok(true)
-}
-
-impl Reader {
-    // Takes a line: the case that it ends, or whether it can't be read.
-    fn take(&mut self, alloc: Global, line: &str) -> Result<Option<Piece>, AllocError> {
-        let text = self.texts.expand(alloc, line)?;
-        if has_name(text.as_str()) && !text.as_str().starts_with('#') {
-            return Ok(Some(Piece::Unreadable));
-        }
-        match read_line(text.as_str()) {
-            Some(line) => self.take_line(alloc, &line),
-            None => Ok(Some(Piece::Unreadable)),
+impl<'a> Reader<'a> {
+    /// Nothing has been read of these lines.
+    pub fn new(lines: &'a [Line<'a>]) -> Reader<'a> {
+        Reader {
+            lines,
+            number: 0,
+            begun: None,
+            is_empty: true,
         }
     }
 
-    fn take_line(&mut self, alloc: Global, line: &Line<'_>) -> Result<Option<Piece>, AllocError> {
-        match line {
-            Line::Nothing => Ok(None),
-            Line::Text { name, text } => {
-                self.texts.give(alloc, name, text)?;
-                Ok(None)
-            }
-            Line::Copies { name, count, text } => {
-                self.texts.give_copies(alloc, name, *count, text)?;
-                Ok(None)
-            }
-            Line::Case(what) => {
-                let before = self.case.take();
-                self.case = Some(Case::new(alloc, what)?);
-                Ok(before.map(|_| Piece::Unreadable))
-            }
-            _ => self.add(alloc, line),
+    /// How many lines have been read.
+    pub fn number(&self) -> usize {
+        self.number
+    }
+
+    /// Takes the next line: the case that it ends, or whether it can't be read.
+    pub fn take(&mut self, line: &Line<'a>) -> Option<Piece<'a>> {
+        let before = self.number;
+        self.number = before.saturating_add(1);
+        let piece = match line {
+            Line::Nothing | Line::Text { .. } => None,
+            Line::Unreadable => Some(Piece::Unreadable),
+            Line::Case(what) => self.begin(Begun {
+                case: Case::new(what),
+                before,
+            }),
+            _ => self.add(line),
+        };
+        self.is_empty = self.is_empty && piece.is_none();
+        piece
+    }
+
+    // Begins a case. The one before it should have ended.
+    fn begin(&mut self, begun: Begun<'a>) -> Option<Piece<'a>> {
+        match self.begun.replace(begun) {
+            Some(_) => Some(Piece::Unreadable),
+            None => None,
         }
     }
 
     // Adds to the case that has begun.
-    fn add(&mut self, alloc: Global, line: &Line<'_>) -> Result<Option<Piece>, AllocError> {
-        let Some(mut case) = self.case.take() else {
-            return Ok(Some(Piece::Unreadable));
+    fn add(&mut self, line: &Line<'a>) -> Option<Piece<'a>> {
+        let Some(mut begun) = self.begun.take() else {
+            return Some(Piece::Unreadable);
         };
-        if !add_line(alloc, &mut case, line)? {
-            return Ok(Some(Piece::Unreadable));
+        if !begun.case.take(line) {
+            return Some(Piece::Unreadable);
         }
-        if case.ending.is_some() {
-            return Ok(Some(Piece::Case(case)));
+        if begun.case.has_ended {
+            return Some(self.whole(begun));
         }
-        self.case = Some(case);
-        Ok(None)
+        self.begun = Some(begun);
+        None
     }
-}
 
-/// The cases of a script, each with the number of the line that ends it, and its lines that can't be read.
-pub fn read_script(alloc: Global, text: &str) -> Result<Vec<(usize, Piece)>, AllocError> {
-    let mut reader = Reader {
-        texts: Texts::new(alloc),
-        case: None,
-    };
-    let mut pieces = Vec::new(alloc);
-    let mut number = 0usize;
-    for line in text.lines() {
-        number = number.saturating_add(1);
-        if let Some(piece) = reader.take(alloc, line)? {
-            pieces.push((number, piece))?;
+    // The case with its lines.
+    fn whole(&self, begun: Begun<'a>) -> Piece<'a> {
+        match self.lines.get(begun.before..self.number) {
+            Some(lines) => Piece::Case(Case {
+                lines,
+                ..begun.case
+            }),
+            None => Piece::Unreadable,
         }
     }
-    if reader.case.is_some() {
-        pieces.push((number, Piece::Unreadable))?;
+
+    /// What there is to say at the end of the script.
+    pub fn end(&self) -> Option<Piece<'a>> {
+        if self.begun.is_some() {
+            Some(Piece::Unreadable)
+        } else if self.is_empty {
+            Some(Piece::Empty)
+        } else {
+            None
+        }
     }
-    if pieces.is_empty() {
-        pieces.push((number, Piece::Empty))?;
-    }
-    Ok(pieces)
 }

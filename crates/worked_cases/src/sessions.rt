@@ -1,27 +1,30 @@
 // Cases that are served as sessions.
-ghost use Rattle.std.specs.Prelude.{◌≡◌};
+ghost use Rattle.std.specs.Prelude.{◌≡◌, IfOk};
 ghost use Rattle.kms_io.specs.Clock.{are_times};
 ghost use Rattle.published_account.specs.Rules.{Names};
 ghost use Rattle.kms_session.specs.Callers.{IsOfAccount};
 
 use crate::callers::trust_of;
-use crate::cases::{Case, Ending, Span};
+use crate::cases::Case;
+use crate::failures::Failure;
 use crate::identities::identities_of;
+use crate::lines::{Line, Span};
 use crate::replies::{input, is_all, is_front, reply_texts};
 use account_steps::RealmFacts;
 use kms_io::{MemoryClock, MemoryLink, NoGate};
-use kms_names::{AccountNumber, NoMemory, Text};
+use kms_names::{AccountNumber, Text};
 use kms_session::{SessionEnd, Trust, serve_session};
 use publish_pass::{Opening, Realm, open_service};
 use std::alloc::{AllocError, Global};
 use std::marker::Brand;
 use std::sync::Wait;
 
-/// What came of a case.
+// A case, with the bytes of its requests and of its replies.
 #[derive(Clone, Copy)]
-pub enum Outcome {
-    Holds,
-    Differs(&'static str),
+struct Session<'a> {
+    case: &'a Case<'a>,
+    input: &'a [u8],
+    replies: &'a [String],
 }
 
 // How one session of a case is served: the most bytes that a read gives, and where the input is cut.
@@ -33,13 +36,6 @@ struct Manner {
 
 // The first second of the year 10000.
 const LIMIT: u64 = 253_402_300_800;
-
-// What a session did.
-#[derive(Drop)]
-struct Served {
-    end: SessionEnd,
-    link: MemoryLink,
-}
 
 fn are_times(seconds: &[u64]) -> bool
     ensures { result ≡ are_times seconds.now }
@@ -53,50 +49,69 @@ fn are_times(seconds: &[u64]) -> bool
 }
 
 // The clock of a case.
-fn clock_of(alloc: Global, case: &Case) -> Result<Option<MemoryClock>, AllocError> {
+fn clock_of(alloc: Global, case: &Case<'_>) -> Result<MemoryClock, Failure> {
     let mut seconds = Vec::new(alloc);
-    for moment in case.clock.iter() {
-        seconds.push(moment.second)?;
+    for line in case.lines {
+        if let Line::Clock { second, .. } = line {
+            seconds.push(*second)?;
+        }
     }
     if are_times(&seconds) {
-        Ok(Some(MemoryClock::new(seconds)))
+        Ok(MemoryClock::new(seconds))
     } else {
-        Ok(None)
+        Err(Failure::Unfit)
     }
 }
 
-/// The facts of a case: account 111122223333, region us-east-1, a root secret of zeros, and the
-/// principals of the case with their policies.
-pub fn facts_of(alloc: Global, case: &Case) -> Result<Option<RealmFacts>, NoMemory> {
-    let (Some(account), Some(identities)) = (
-        AccountNumber::read("111122223333"),
-        identities_of(alloc, case)?,
-    ) else {
-        return Ok(None);
-    };
-    Ok(Some(RealmFacts {
-        account,
-        region: Text::from_str(alloc, "us-east-1")?,
-        root: [0; 32],
-        boot: case.boot,
-        identities,
-    }))
+/// The account of all cases.
+pub fn account_number() -> Option<AccountNumber> {
+    AccountNumber::read("111122223333")
 }
 
-fn link_of(alloc: Global, case: &Case, manner: Manner) -> Result<MemoryLink, AllocError> {
-    let all = input(alloc, case)?;
+/// The facts of a case: its account, region us-east-1, a root secret of zeros, and the principals of
+/// the case with their policies.
+pub fn facts_of(
+    alloc: Global,
+    account: AccountNumber,
+    case: &Case<'_>,
+) -> Result<RealmFacts, Failure>
+    ensures { IfOk result (λ facts. facts.account ≡ account) }
+{
+    let region = Text::from_str(alloc, "us-east-1")?;
+    Ok(RealmFacts {
+        account,
+        region,
+        root: [0; 32],
+        boot: case.boot,
+        identities: identities_of(alloc, case)?,
+    })
+}
+
+// The numbers of the reads and of the writes that fail.
+fn failing_calls(alloc: Global, case: &Case<'_>) -> Result<(Vec<u64>, Vec<u64>), AllocError> {
+    let mut reads = Vec::new(alloc);
+    let mut writes = Vec::new(alloc);
+    for line in case.lines {
+        match line {
+            Line::FailingRead(number) => reads.push(*number)?,
+            Line::FailingWrite(number) => writes.push(*number)?,
+            _ => {}
+        }
+    }
+    Ok((reads, writes))
+}
+
+fn link_of(alloc: Global, session: &Session<'_>, manner: Manner) -> Result<MemoryLink, AllocError> {
+    let all = session.input;
     let size = manner.cut.unwrap_or(all.len()).min(all.len());
-    let pieces = if manner.piece == 0 {
-        Vec::new(alloc)
-    } else {
-        vec![in alloc; manner.piece; size]?
-    };
+    let reads = if manner.piece == 0 { 0 } else { size };
+    let (failing_reads, failing_writes) = failing_calls(alloc, session.case)?;
     Ok(MemoryLink::new(
         alloc,
         all[..size].to_vec(alloc)?,
-        pieces,
-        case.failing_reads.as_slice().to_vec(alloc)?,
-        case.failing_writes.as_slice().to_vec(alloc)?,
+        vec![in alloc; manner.piece; reads]?,
+        failing_reads,
+        failing_writes,
     ))
 }
 
@@ -108,7 +123,7 @@ fn serve_opening<W: Wait, R: Realm>(
     trust: &Trust,
     clock: &mut MemoryClock,
     link: &mut MemoryLink,
-) -> Result<SessionEnd, NoMemory>
+) -> Result<SessionEnd, Failure>
     requires ledger { (opening.name ≡ R.name) × (opening.parts ≡ R.parts) }
     requires names { Names R.book R.facts R.passes opening.shown }
     requires passes { opening.shown.whole.passes ≡ 1 }
@@ -124,19 +139,15 @@ fn serve_opening<W: Wait, R: Realm>(
 fn serve<W: Wait>(
     rt: &W,
     alloc: Global,
-    case: &Case,
-    manner: Manner,
-) -> Result<Option<Served>, NoMemory> {
-    let (Some(facts), Some(mut clock)) = (facts_of(alloc, case)?, clock_of(alloc, case)?) else {
-        return Ok(None);
-    };
-    let Some(trust) = trust_of(alloc, &facts, case)? else {
-        return Ok(None);
-    };
-    let mut link = link_of(alloc, case, manner)?;
+    case: &Case<'_>,
+    link: &mut MemoryLink,
+) -> Result<SessionEnd, Failure> {
+    let mut clock = clock_of(alloc, case)?;
+    let account = account_number().ok_or(Failure::Unfit)?;
+    let trust = trust_of(alloc, account, case)?;
+    let facts = facts_of(alloc, account, case)?;
     let opening = Opening::new(rt, alloc, facts, 1)?;
-    let end = serve_opening::<W, Brand>(rt, alloc, opening, &trust, &mut clock, &mut link)?;
-    Ok(Some(Served { end, link }))
+    serve_opening::<W, Brand>(rt, alloc, opening, &trust, &mut clock, link)
 }
 
 fn end_name(end: SessionEnd) -> &'static str {
@@ -150,20 +161,16 @@ fn end_name(end: SessionEnd) -> &'static str {
     }
 }
 
-// Compares what a session did with what is wanted.
-fn compare(served: &Served, replies: &[String], end: &str, whole: Option<usize>) -> Outcome {
-    if end_name(served.end) != end {
-        return Outcome::Differs("ends otherwise");
-    }
-    let written = served.link.written();
+// Compares what was written with the replies that are wanted.
+fn compare(written: &[u8], replies: &[String], whole: Option<usize>) -> Result<(), Failure> {
     let same = match whole {
         Some(whole) => is_front(written, replies, whole),
         None => is_all(written, replies),
     };
     if same {
-        Outcome::Holds
+        Ok(())
     } else {
-        Outcome::Differs("writes other bytes")
+        Err(Failure::OtherBytes)
     }
 }
 
@@ -171,16 +178,17 @@ fn compare(served: &Served, replies: &[String], end: &str, whole: Option<usize>)
 fn hold_once<W: Wait>(
     rt: &W,
     alloc: Global,
-    case: &Case,
-    replies: &[String],
+    session: &Session<'_>,
     manner: Manner,
-) -> Result<Outcome, NoMemory> {
-    let Some(Ending::Session { end, whole }) = &case.ending else {
-        return Ok(Outcome::Differs("has no end of a session"));
+) -> Result<(), Failure> {
+    let Some(Line::End { end, whole }) = session.case.lines.last() else {
+        return Err(Failure::NoEnd);
     };
-    match serve(rt, alloc, case, manner)? {
-        Some(served) => Ok(compare(&served, replies, end.as_str(), *whole)),
-        None => Ok(Outcome::Differs("can't be served")),
+    let mut link = link_of(alloc, session, manner)?;
+    if end_name(serve(rt, alloc, session.case, &mut link)?) == *end {
+        compare(link.written(), session.replies, *whole)
+    } else {
+        Err(Failure::OtherEnd)
     }
 }
 
@@ -188,41 +196,39 @@ fn hold_once<W: Wait>(
 fn hold_pieces<W: Wait>(
     rt: &W,
     alloc: Global,
-    case: &Case,
-    replies: &[String],
+    session: &Session<'_>,
     cut: Option<usize>,
-) -> Result<Outcome, NoMemory> {
-    for piece in case.pieces.first..=case.pieces.last {
-        let outcome = hold_once(rt, alloc, case, replies, Manner { piece, cut })?;
-        if let Outcome::Differs(_) = outcome {
-            return Ok(outcome);
-        }
+) -> Result<(), Failure> {
+    for piece in session.case.pieces.first..=session.case.pieces.last {
+        hold_once(rt, alloc, session, Manner { piece, cut })?;
     }
-    Ok(Outcome::Holds)
+    Ok(())
 }
 
 // Serves a case with its input cut at each of these places.
 fn hold_cuts<W: Wait>(
     rt: &W,
     alloc: Global,
-    case: &Case,
-    replies: &[String],
+    session: &Session<'_>,
     cuts: Span,
-) -> Result<Outcome, NoMemory> {
+) -> Result<(), Failure> {
     for cut in cuts.first..=cuts.last {
-        let outcome = hold_pieces(rt, alloc, case, replies, Some(cut))?;
-        if let Outcome::Differs(_) = outcome {
-            return Ok(outcome);
-        }
+        hold_pieces(rt, alloc, session, Some(cut))?;
     }
-    Ok(Outcome::Holds)
+    Ok(())
 }
 
 /// Serves a case in each manner that it names: pieces of each size, and the input cut at each place.
-pub fn hold_session<W: Wait>(rt: &W, alloc: Global, case: &Case) -> Result<Outcome, NoMemory> {
+pub fn hold_session<W: Wait>(rt: &W, alloc: Global, case: &Case<'_>) -> Result<(), Failure> {
+    let input = input(alloc, case)?;
     let replies = reply_texts(alloc, case)?;
+    let session = Session {
+        case,
+        input: input.as_bytes(),
+        replies: &replies,
+    };
     match case.cut {
-        Some(cuts) => hold_cuts(rt, alloc, case, &replies, cuts),
-        None => hold_pieces(rt, alloc, case, &replies, None),
+        Some(cuts) => hold_cuts(rt, alloc, &session, cuts),
+        None => hold_pieces(rt, alloc, &session, None),
     }
 }

@@ -1,51 +1,46 @@
 // The texts that a script gives names to.
+use crate::lines::{Line, read_line};
 use std::alloc::{AllocError, Global};
 
-/// Names with the texts that they stand for, in the order in which they were given.
+// Names, as they stand in a line, with their texts, in the order in which they were given.
 #[derive(Drop)]
-pub struct Texts {
+struct Names {
     named: Vec<(String, String)>,
 }
 
-impl Texts {
-    /// No names.
-    pub fn new(alloc: Global) -> Texts {
-        Texts {
-            named: Vec::new(alloc),
-        }
-    }
-
-    /// Gives a text the name, under which it is written as `<NAME>`.
-    pub fn give(&mut self, alloc: Global, name: &str, text: &str) -> Result<(), AllocError> {
-        let name = format!(in alloc; "<{name}>")?;
-        let text = String::from_str(alloc, text)?;
-        self.named.push((name, text))?;
-        Ok(())
-    }
-
-    /// Gives so many copies of a text the name.
-    pub fn give_copies(
-        &mut self,
-        alloc: Global,
-        name: &str,
-        count: usize,
-        text: &str,
-    ) -> Result<(), AllocError> {
-        let mut all = String::new(alloc);
-        for _ in 0..count {
-            all.push_str(text)?;
-        }
-        self.give(alloc, name, all.as_str())
-    }
-
-    /// The line with each name's text in the place of the name.
-    pub fn expand(&self, alloc: Global, line: &str) -> Result<String, AllocError> {
+impl Names {
+    // The line with each name's text in the place of the name.
+    fn expand(&self, alloc: Global, line: &str) -> Result<String, AllocError> {
         let mut text = String::from_str(alloc, line)?;
         for (name, value) in self.named.iter() {
             text = text.as_str().replace(alloc, name.as_str(), value.as_str())?;
         }
         Ok(text)
     }
+
+    // Gives a text the name that a line says, under which it is written as `<NAME>`.
+    fn learn(&mut self, alloc: Global, line: &Line<'_>) -> Result<(), AllocError> {
+        if let Line::Text { name, copies, text } = line {
+            let name = format!(in alloc; "<{name}>")?;
+            let text = text.repeat(alloc, *copies)?;
+            self.named.push((name, text))?;
+        }
+        Ok(())
+    }
+}
+
+/// The lines of a script, with the texts in the places of the names that the lines before give them.
+pub fn expanded(alloc: Global, script: &str) -> Result<Vec<String>, AllocError> {
+    let mut names = Names {
+        named: Vec::new(alloc),
+    };
+    let mut lines = Vec::new(alloc);
+    for line in script.lines() {
+        let line = names.expand(alloc, line)?;
+        names.learn(alloc, &read_line(line.as_str()))?;
+        lines.push(line)?;
+    }
+    Ok(lines)
 }
 
 /// Whether a name stands in the line: `<` and a capital letter.
@@ -55,33 +50,43 @@ pub fn has_name(line: &str) -> bool {
         .any(|pair| pair[0] == b'<' && pair[1].is_ascii_uppercase())
 }
 
-// The byte that an escape stands for.
-fn escaped(letter: u8) -> Option<u8> {
+// The letter that an escape stands for.
+fn escaped(letter: char) -> Option<char> {
     match letter {
-        b'r' => Some(b'\r'),
-        b'n' => Some(b'\n'),
-        b'\\' => Some(b'\\'),
+        'r' => Some('\r'),
+        'n' => Some('\n'),
+        '\\' => Some('\\'),
         _ => None,
     }
 }
 
-/// The bytes of a text in which `\r`, `\n` and `\\` stand for a carriage return, a line feed and a
-/// backslash, if it has no other escapes.
-pub fn unescaped(alloc: Global, text: &str) -> Result<Option<Vec<u8>>, AllocError> {
-    let mut bytes = Vec::new(alloc);
+/// Whether a text has no other escapes than `\r`, `\n` and `\\`.
+pub fn is_escaped(text: &str) -> bool {
     let mut opened = false;
-    for byte in text.as_bytes() {
-        if opened {
-            let Some(byte) = escaped(*byte) else {
-                return Ok(None);
-            };
-            bytes.push(byte)?;
-            opened = false;
-        } else if *byte == b'\\' {
-            opened = true;
+    for letter in text.chars() {
+        if opened && escaped(letter).is_none() {
+            return false;
+        }
+        opened = !opened && letter == '\\';
+    }
+    !opened
+}
+
+/// Adds a text in which `\r`, `\n` and `\\` stand for a carriage return, a line feed and a backslash.
+pub fn add_unescaped(all: &mut String, text: &str) -> Result<(), AllocError> {
+    let mut opened = false;
+    for letter in text.chars() {
+        let said = if opened {
+            escaped(letter)
         } else {
-            bytes.push(*byte)?;
+            Some(letter)
+        };
+        opened = !opened && letter == '\\';
+        if let Some(said) = said
+            && !opened
+        {
+            all.push(said)?;
         }
     }
-    Ok(if opened { None } else { Some(bytes) })
+    Ok(())
 }

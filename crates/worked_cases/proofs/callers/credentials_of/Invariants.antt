@@ -4,5 +4,5 @@ use Rattle.account_core.specs.Decide.{account_of}
 use Rattle.sigv4_check.specs.declared.credentials.Credential.{Credential}
 use Rattle.worked_cases.proofs.callers.credentials_of.Given as goal
 
-abbrev pub invariant-loop-key : goal.invariant-loop-key
-invariant-loop-key l = All (λ (key : Credential). account_of key.principal ≡ l.facts.account) l.all.items
+abbrev pub invariant-loop-line : goal.invariant-loop-line
+invariant-loop-line l = All (λ (key : Credential). account_of key.principal ≡ l.account) l.all.items
