@@ -116,13 +116,17 @@ impl<'a> Words<'a> {
         self.number_in(self.rest)
     }
 
-    // One number, or the first and the last of a range.
+    // One number, or the first and the last of a range, which is not empty.
     fn span(&mut self) -> Span {
         let (first, last) = self.rest.split_once(' ').unwrap_or((self.rest, self.rest));
-        Span {
+        let span = Span {
             first: self.number_in(first),
             last: self.number_in(last),
+        };
+        if span.first > span.last {
+            self.is_faulty = true;
         }
+        span
     }
 
     fn places(&mut self) -> Places {
