@@ -10,8 +10,7 @@ use Rattle.kms_json.specs.declared.refusals.Refusal.{Refusal}
 use Rattle.kms_json.specs.declared.refusals.Refusal.TheVariants.{DependencyTimeout}
 use Rattle.kms_json.specs.Asks.{asked}
 use Rattle.kms_json.specs.Replies.{status_of}
-use Rattle.kms_names.specs.declared.principals.Principal.{Principal}
-use Rattle.kms_names.specs.declared.principals.Principal.TheVariants.{Root, User, Role}
+use Rattle.kms_names.specs.Principal.{account_of}
 use Rattle.account_steps.specs.declared.facts.RealmFacts.{RealmFacts}
 use Rattle.account_rows.specs.declared.entries.Entry.{Entry}
 use Rattle.account_core.specs.declared.decide.Decision.{Decision}
@@ -52,12 +51,6 @@ decision_by reply None = if status_of reply == 200 then decision.Served reply el
 
 abbrev pub decision_of : RealmFacts → List Entry → Ask → Decision
 decision_of facts history x = decision_by (decide facts history x no_places).reply (decide facts history x no_places).entry
-
--- the account that a principal is of
-abbrev pub account_of : Principal → List ℕ
-account_of (Root account) = account
-account_of (User account name) = account
-account_of (Role account name) = account
 
 -- the body is one that some request asks, the caller is of the account, and the clock's answer is before the year 10000
 pub record IsProper (facts : RealmFacts) (x : Ask) : Type 0 where

@@ -3,10 +3,9 @@ use Rattle.std.proofs.Common.{◌≡◌, ℕ, List, Bool, true, false, Option, S
 use Rattle.std.proofs.lemmas.Bool.{false≢true}
 use Rattle.std.specs.Str.{bytes_eq}
 use Rattle.std.proofs.lemmas.Slice.Eq.{bytes_eq-Decides}
-use Rattle.kms_names.specs.Principal.{IsPrincipal, principal_text}
+use Rattle.kms_names.specs.Principal.{IsPrincipal, principal_text, account_of}
 use Rattle.kms_names.specs.declared.principals.Principal.{Principal}
 use Rattle.kms_names.proofs.PrincipalFacts.{one_principal}
-use Rattle.account_core.specs.Decide.{account_of}
 use Rattle.kms_local.specs.Settings.{Names}
 
 module _ (account text : List ℕ) (p : Principal) (form : IsPrincipal p) (arn : text ≡ principal_text p) where

@@ -9,7 +9,7 @@ use Rattle.serde_json.specs.Find.{get}
 use Rattle.kms_names.specs.Reading.{some_if, principal_of}
 use Rattle.kms_names.specs.declared.principals.Principal.{Principal}
 use Rattle.authority.specs.declared.identities.Identity.{Identity}
-use Rattle.account_core.specs.Decide.{account_of}
+use Rattle.kms_names.specs.Principal.{account_of}
 use Rattle.sigv4_check.specs.SignedNames.{is_before}
 use Rattle.sigv4_check.specs.Credentials.{placed}
 use Rattle.sigv4_check.specs.declared.credentials.Credential.{Credential}

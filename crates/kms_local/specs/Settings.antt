@@ -4,9 +4,8 @@ use Rattle.std.specs.List.{AllPass}
 use Rattle.hex.specs.Hex.{decode_of, is_hex_digit}
 use Rattle.kms_names.specs.Account.{IsAccountNumber}
 use Rattle.kms_names.specs.Region.{IsRegion}
-use Rattle.kms_names.specs.Principal.{IsPrincipal, principal_text}
+use Rattle.kms_names.specs.Principal.{IsPrincipal, principal_text, account_of}
 use Rattle.kms_names.specs.declared.principals.Principal.{Principal}
-use Rattle.account_core.specs.Decide.{account_of}
 use Rattle.kms_config.specs.declared.config.Config.{Config}
 use Rattle.kms_session.specs.declared.trust.Trust.{Trust}
 use Rattle.kms_session.specs.declared.trust.Trust.TheVariants.{Word, Signed}

@@ -3,7 +3,7 @@ ghost use Rattle.std.specs.Prelude.{◌≡◌, ◌↔◌, length, if◌then◌el
 ghost use Rattle.std.specs.Str.{bytes_eq};
 ghost use Rattle.std.specs.List.{AllPass};
 ghost use Rattle.hex.specs.Hex.{decode_of, is_hex_digit};
-ghost use Rattle.account_core.specs.Decide.{account_of};
+ghost use Rattle.kms_names.specs.Principal.{account_of};
 ghost use Rattle.kms_session.specs.Callers.{IsOfAccount};
 ghost use Rattle.kms_session.specs.declared.trust.Trust.TheVariants.{Signed};
 ghost use Rattle.kms_words.specs.Words.{values_in};

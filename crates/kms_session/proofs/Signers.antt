@@ -4,7 +4,7 @@ use Rattle.std.specs.Prelude.{All}
 use Rattle.std.specs.Str.{bytes_eq}
 use Rattle.std.proofs.lemmas.List.Elements.{All-head, All-tail}
 use Rattle.kms_names.specs.declared.principals.Principal.{Principal}
-use Rattle.account_core.specs.Decide.{account_of}
+use Rattle.kms_names.specs.Principal.{account_of}
 use Rattle.http_front.specs.Heading.{Field}
 use Rattle.http_front.specs.Message.{Message}
 use Rattle.sigv4_check.specs.declared.credentials.Credential.{Credential}

@@ -3,7 +3,7 @@ use Rattle.std.specs.Prelude.{◌≡◌, ℕ, List, All, Result, Ok}
 use Rattle.kms_names.specs.declared.principals.Principal.{Principal}
 use Rattle.kms_json.specs.declared.refusals.Refusal.{Refusal}
 use Rattle.kms_json.specs.declared.refusals.Refusal.TheVariants.{MissingAuthentication, IncompleteSignature, UnrecognizedClient, RequestExpired, InvalidSignature}
-use Rattle.account_core.specs.Decide.{account_of}
+use Rattle.kms_names.specs.Principal.{account_of}
 use Rattle.http_front.specs.Message.{Message}
 use Rattle.sigv4_check.specs.declared.credentials.Credential.{Credential}
 use Rattle.sigv4_check.specs.declared.faults.AuthFault.{AuthFault}

@@ -3,7 +3,8 @@ ghost use Rattle.std.specs.Prelude.{◌≡◌, ◌+◌, ◌<◌, ◌==◌, ◌||
 ghost use Rattle.kms_json.specs.Asks.{asked, changes_account, refusal_of};
 ghost use Rattle.kms_json.specs.declared.refusals.Refusal.TheVariants.{Validation};
 ghost use Rattle.kms_json.specs.declared.replies.Reply.TheVariants.{Refused};
-ghost use Rattle.account_core.specs.Decide.{account_of, IsProper};
+ghost use Rattle.account_core.specs.Decide.{IsProper};
+ghost use Rattle.kms_names.specs.Principal.{account_of};
 ghost use Rattle.published_account.specs.Answers.{answer_of};
 ghost use Rattle.kms_session.specs.Answers.{fault_answer};
 ghost use Rattle.kms_session.specs.Run.{whole, asks, answered, plan_of, planned, Wanting};

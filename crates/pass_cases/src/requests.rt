@@ -1,7 +1,8 @@
 // What the root of the account asks, or ann.
 ghost use Rattle.std.specs.Prelude.{◌≡◌, false, IfOk};
 ghost use Rattle.kms_json.specs.Asks.{changes_account};
-ghost use Rattle.account_core.specs.Decide.{IsProper, account_of};
+ghost use Rattle.account_core.specs.Decide.{IsProper};
+ghost use Rattle.kms_names.specs.Principal.{account_of};
 
 use account_steps::RealmFacts;
 use kms_io::Gate;

@@ -11,7 +11,8 @@ use Rattle.account_steps.specs.History.{Entry}
 use Rattle.account_steps.specs.declared.places.Places.{Places}
 use Rattle.account_steps.specs.Places.{IsUpTo, no_places}
 use Rattle.account_steps.specs.History.{housekeeping_of}
-use Rattle.account_core.specs.Decide.{decide, account_of, IsProper, IsNext, appended, kept, IsLawful, longer}
+use Rattle.account_core.specs.Decide.{decide, IsProper, IsNext, appended, kept, IsLawful, longer}
+use Rattle.kms_names.specs.Principal.{account_of}
 use Rattle.account_laws.specs.Laws.{Sealing, HasSealed, PassGoesOn, no_request, one_more, wants_memory as left_short}
 use Rattle.account_core.proofs.GoingOn.{same_entry}
 use Rattle.account_laws.proofs.LawFacts.{no_iv_again as account_law}

@@ -1,6 +1,6 @@
 // Who may ask in a case.
 ghost use Rattle.std.specs.Prelude.{◌≡◌, All, IfOk};
-ghost use Rattle.account_core.specs.Decide.{account_of};
+ghost use Rattle.kms_names.specs.Principal.{account_of};
 ghost use Rattle.sigv4_check.specs.declared.credentials.Credential.{Credential as AKey};
 ghost use Rattle.kms_session.specs.Callers.{IsOfAccount};
 

@@ -2,7 +2,8 @@
 ghost use Rattle.std.specs.Prelude.{◌≡◌, ◌≤◌, ◌^◌, IfOk, true};
 ghost use Rattle.kms_json.specs.Asks.{changes_account};
 ghost use Rattle.account_steps.specs.Places.{IsLineOf};
-ghost use Rattle.account_core.specs.Decide.{IsProper, account_of};
+ghost use Rattle.account_core.specs.Decide.{IsProper};
+ghost use Rattle.kms_names.specs.Principal.{account_of};
 
 use crate::callers::caller_of;
 use crate::cases::{Case, Request};

@@ -1,6 +1,6 @@
 use Rattle.std.proofs.Common.{◌≡◌}
 use Rattle.std.specs.Prelude.{All}
-use Rattle.account_core.specs.Decide.{account_of}
+use Rattle.kms_names.specs.Principal.{account_of}
 use Rattle.sigv4_check.specs.declared.credentials.Credential.{Credential}
 use Rattle.worked_cases.proofs.callers.credentials_of.Given as goal
 
