@@ -65,7 +65,7 @@ impl Account {
         self.realm.facts()
     }
 
-    /// The number of entries. Each of them is one that a proper request appended to those before it.
+    /// The number of entries. Each of them is one that a proper request, or housekeeping, appends to those before it.
     pub fn entries(&self) -> u64
         ensures number { result ≡ length self.now.entries }
         ensures lawful { IsLawful self.now.facts self.now.entries }
@@ -148,8 +148,8 @@ impl Account {
         ))
     }
 
-    /// The account with one more entry, which a request appends. This one stays as it is.
-    pub fn apply(&self, _alloc: Global, entry: &Entry) -> Result<Account, NoMemory>
+    /// The account with one more entry, which a request or housekeeping appends. This one stays as it is.
+    pub fn apply(&self, entry: &Entry) -> Result<Account, NoMemory>
         requires { IsNext self.now.facts self.now.entries entry.now }
         ensures { IfOk result (λ a. a ≡ record { facts = self.now.facts; entries = self.now.entries ++ entry.now ∷ [] }) }
     {

@@ -11,6 +11,7 @@ use Rattle.kms_json.specs.declared.asks.grants.RetiredGrant.TheVariants as retir
 use Rattle.kms_json.specs.declared.asks.keys.CreateKey.{CreateKey}
 use Rattle.kms_json.specs.declared.refusals.Refusal.TheVariants as refusal
 use Rattle.kms_json.specs.declared.refusals.Missing.TheVariants as missing
+use Rattle.key_states.specs.States.{is_enabled}
 use Rattle.account_rows.specs.Changes.{days_after}
 use Rattle.account_rows.specs.declared.entries.What.{What}
 use Rattle.account_rows.specs.declared.entries.What.TheVariants as what
@@ -26,7 +27,7 @@ use Rattle.account_keys.specs.declared.key_changes.KeyChange.{KeyChange}
 use Rattle.account_keys.specs.declared.key_changes.KeyChange.TheVariants as change
 use Rattle.account_keys.specs.Aliases.{changes_alias, done_to}
 use Rattle.account_keys.specs.Grants.{creates_grant, retires_grant, revokes_grant, made_unless, same_grant, if_of_key, grant_of, retired_of}
-use Rattle.account_keys.specs.KeyChanges.{done_at, does_unless, is_enabled, is_disabled, is_period, is_off, changes_key, updates_description}
+use Rattle.account_keys.specs.KeyChanges.{done_at, does_unless, is_disabled, is_period, is_off, changes_key, updates_description}
 use Rattle.account_keys.specs.Keys.{creates_key}
 use Rattle.account_keys.specs.Policies.{puts_policy}
 

@@ -7,6 +7,7 @@ use Rattle.kms_names.specs.declared.actions.Action.TheVariants as action
 use Rattle.kms_json.specs.declared.replies.AutomaticRotation.{AutomaticRotation}
 use Rattle.kms_json.specs.declared.replies.Reply.{Reply}
 use Rattle.kms_json.specs.declared.replies.Reply.TheVariants as reply
+use Rattle.key_states.specs.States.{is_enabled}
 use Rattle.key_states.specs.declared.rows.KeyRow.{KeyRow}
 use Rattle.key_states.specs.declared.states.Stored.{Stored}
 use Rattle.key_states.specs.declared.states.Stored.TheVariants as stored
@@ -42,11 +43,6 @@ said_of change.RotateNoMore of_key = of_key
 said_of change.RotateNow of_key = of_key
 
 -- ---- what has nothing to do
-
-abbrev pub is_enabled : Stored → Bool
-is_enabled stored.Enabled = true
-is_enabled stored.Disabled = false
-is_enabled (stored.Pending date days) = false
 
 abbrev pub is_disabled : Stored → Bool
 is_disabled stored.Enabled = false

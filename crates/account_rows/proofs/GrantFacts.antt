@@ -1,27 +1,20 @@
 -- The grants that a history makes.
-use Rattle.std.proofs.Common.{◌≡◌, ℕ, ◌+◌, ◌<◌, Bool, true, false, not, cond, List, [], ◌∷◌, ◌++◌, length, get_or, Option, None, Some, refl, sym, ◌∙◌, ap, subst, arith}
+use Rattle.std.proofs.Common.{◌≡◌, ℕ, ◌+◌, Bool, true, false, not, cond, List, [], ◌∷◌, ◌++◌, length, None, Some, refl, sym, ◌∙◌, ap, arith}
 use Rattle.std.specs.Prelude.{◌==◌, All}
 use Rattle.std.proofs.lemmas.Bool.Decides.{nat_tests}
-use Rattle.std.proofs.lemmas.List.Elements.{All-filter, All-push, All-weaker}
+use Rattle.std.proofs.lemmas.List.Elements.{All-filter, All-push}
 use Rattle.std.proofs.lemmas.List.Sums.{fold-append}
 use Rattle.kms_names.proofs.Behind.{filter_all}
 use Rattle.key_states.specs.declared.rows.KeyRow.{KeyRow}
 use Rattle.grant_table.specs.declared.rows.GrantRow.{GrantRow}
-use Rattle.grant_table.specs.Grants.{has_id, is_of_any, grant_with, without, without_keys, MayAdd}
+use Rattle.grant_table.specs.Grants.{has_id, is_of_any, grant_with, without, without_keys}
 use Rattle.account_rows.specs.declared.entries.Entry.{Entry}
 use Rattle.account_rows.specs.declared.entries.What.{What}
 use Rattle.account_rows.specs.declared.entries.What.TheVariants as what
 use Rattle.account_rows.specs.Changes.{gone_keys}
 use Rattle.account_rows.specs.GrantChanges.{new_grant, grants_after}
-use Rattle.account_rows.specs.History.{step, nothing_yet, replay, place_in_grant, IsMadeHere, IsGrantOf}
+use Rattle.account_rows.specs.History.{step, nothing_yet, replay, IsMadeHere, IsGrantOf}
 use Rattle.account_rows.proofs.RowFacts.{replay-entries}
-
--- a grant whose id ends with this place may be added
-pub may_add : (place : ℕ) (row : GrantRow) (grants : List GrantRow) → row.born ≡ place → place_in_grant row.grant ≡ place → All (IsGrantOf place) grants → MayAdd grants row
-may_add place row grants born named all = (
-  (λ k d lt same. omega (arith, ap place_in_grant same, named, (all k d lt).named, (all k d lt).before)),
-  (λ k d lt. omega (arith, born, (all k d lt).before)),
-)
 
 -- where none has the id, none is dropped
 pub none_with : (grants : List GrantRow) (grant : List ℕ) → grant_with grants grant ≡ None → grants ≡ without grants grant

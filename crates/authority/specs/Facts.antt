@@ -12,6 +12,7 @@ use Rattle.grant_table.specs.declared.constraints.Constraint.{Constraint}
 use Rattle.grant_table.specs.declared.constraints.Constraint.TheVariants.{Free, Equals, Subset}
 use Rattle.cond_ops.specs.declared.facts.Fact.{Fact}
 use Rattle.cond_ops.specs.declared.facts.RequestFacts.{RequestFacts}
+use Rattle.policy_doc.specs.Texts.{truth_text}
 use Rattle.authority.specs.Times.{moment_text}
 use Rattle.authority.specs.Setting.{Setting, GrantSaid, Particulars, Asked}
 
@@ -31,10 +32,6 @@ several_facts key (value ∷ values) = several key (value ∷ values) ∷ []
 abbrev pub text_facts : List ℕ → Option (List ℕ) → List Fact
 text_facts key None = []
 text_facts key (Some text) = single key text ∷ []
-
-abbrev pub truth_text : Bool → List ℕ
-truth_text true = codes "true"
-truth_text false = codes "false"
 
 abbrev pub truth_facts : List ℕ → Option Bool → List Fact
 truth_facts key truth = text_facts key (option_map truth_text truth)

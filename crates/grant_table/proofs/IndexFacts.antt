@@ -3,7 +3,7 @@ use Rattle.std.proofs.Common.{◌≡◌, ℕ, suc, ◌+◌, ◌<◌, ◌≤◌, 
 use Rattle.std.specs.Prelude.{filter}
 use Rattle.std.specs.Cmp.{IsTotalOrder}
 use Rattle.std.specs.List.Sorted.{IsSortedByKey, IsNonDecreasingBy, IsPartitionedBy, IsPartitionPoint, ties}
-use Rattle.std.specs.Ordering.{is_eq, is_lt, is_le, ordering_index, ordering_reverse}
+use Rattle.std.specs.Ordering.{is_eq, is_lt, ordering_index, ordering_reverse}
 use Rattle.std.specs.declared.cmp.Ordering.{Ordering}
 use Rattle.std.specs.declared.cmp.Ordering.TheVariants.{Less, Equal, Greater}
 use Rattle.std.proofs.lemmas.List.{take-append-drop, append-nil, get_or-take, get_or-drop, length-take}
@@ -24,16 +24,6 @@ filter_alike test other same [] = refl
 filter_alike test other same (x ∷ xs) = ap (λ b. cond b (x ∷ filter test xs) (filter test xs)) (same x) ∙ ap (λ ys. cond (other x) (x ∷ ys) ys) (filter_alike test other same xs)
 
 -- ---- orderings
-
-lt_is : (o : Ordering) → is_lt o ≡ ltb (ordering_index o) 1
-lt_is Less = refl
-lt_is Equal = refl
-lt_is Greater = refl
-
-le_is : (o : Ordering) → is_le o ≡ ltb (ordering_index o) 2
-le_is Less = refl
-le_is Equal = refl
-le_is Greater = refl
 
 ties_as_equal : (o : Ordering) → (not (is_lt (ordering_reverse o)) && not (is_lt o)) ≡ is_eq o
 ties_as_equal Less = refl

@@ -238,9 +238,6 @@ print_some : (h : RequestHead) → 0 < length (print_request h)
 unfolding print_request
 print_some h = simp length-append (omega arith)
 
-pub message_some : {m : Message} {text : List ℕ} → IsMessage m text → 0 < length text
-message_some {m} {text} is = omega (arith, print_some is.head, ap length is.has.reads.1, length-append (print_request is.head) m.body)
-
 pub empty_awaited : Awaits [] 1
 empty_awaited = awaits_head (record {
   few = omega arith;

@@ -91,9 +91,6 @@ same_or_other a b = by_test (action_number a == action_number b) (eqb-true (acti
 
 -- a set, and the same with one more action
 module _ (old new : ℕ) (one : Action) (added : has_action new one ≡ true) (others : (other : Action) → other ≢ one → has_action new other ≡ has_action old other) where
-  pub has_more : (a : Action) → has_action old a ≡ true → has_action new a ≡ true
-  has_more a h = elim (same_or_other a one) [ inl same ↦ ap (has_action new) same ∙ added | inr other ↦ others a other ∙ h ]
-
   pub each_has : (P : Action → Type 0) → P one → ((a : Action) → has_action old a ≡ true → P a) → (a : Action) → has_action new a ≡ true → P a
   each_has P here there a h = elim (same_or_other a one) [ inl same ↦ by_same a same | inr other ↦ there a (sym (others a other) ∙ h) ]
     where

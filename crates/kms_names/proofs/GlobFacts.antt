@@ -144,8 +144,5 @@ good_one_later whole p t a c rest stuck ((to, back), reached) = (
   reached_itself a rest,
 )
 
-pub none_without_later : (whole : Type 0) (p t a : List ℕ) → ¬ (Globs p t) → IsAsGood whole p t (Some (a, [])) → ¬ whole
-none_without_later whole p t a stuck ((to, back), reached) w = ⊎_elim stuck (λ l. later_none a l) (to w)
-
 pub star_takes_all : (text : List ℕ) → Globs (star ∷ []) text
 star_takes_all text = inl (text, [], refl, sym (append-nil text), refl)

@@ -4,7 +4,7 @@ use Rattle.std.specs.Prelude.{codes}
 use Rattle.std.proofs.lemmas.List.{append_cancel_left}
 use Rattle.std.proofs.lemmas.List.Elements.{All-weaker}
 use Rattle.kms_names.specs.Account.{IsAccountNumber}
-use Rattle.kms_names.specs.Principal.{IsIamArn, IsPathAndName, IsPrincipal, principal_text}
+use Rattle.kms_names.specs.Principal.{IsIamArn, IsPathAndName, IsPrincipal, account_of, principal_text}
 use Rattle.kms_names.specs.declared.principals.Principal.{Principal}
 use Rattle.kms_names.specs.declared.principals.Principal.TheVariants.{Root, User, Role}
 use Rattle.kms_names.proofs.AsciiFacts.{digit_is_no_colon}
@@ -26,11 +26,6 @@ pub other_account : (text x y : List ℕ) → HasNoColon x → text ≡ front ++
 other_account text x y none e wrong a r at =
     let same : a ≡ x = (one_part front text a x r y (account_has_no_colon a at.0) none at.1 e).0 in
     wrong (subst IsAccountNumber same at.0)
-
-abbrev pub account_of : Principal → List ℕ
-account_of (Root a) = a
-account_of (User a n) = a
-account_of (Role a n) = a
 
 abbrev pub resource_of : Principal → List ℕ
 resource_of (Root a) = codes "root"

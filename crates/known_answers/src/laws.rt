@@ -27,6 +27,7 @@ fn of_ciphers() {
 
 /// The laws of blobs, of contexts and of sealing.
 fn of_blobs() {
+    blob_format::blobs_name_their_keys();
     blob_format::one_spelling();
     blob_format::one_value();
     blob_format::written_is_read_again();

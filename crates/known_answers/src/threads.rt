@@ -8,4 +8,5 @@ pub fn all() {
     policy_doc::policies_cross_threads();
     policy_eval::compiled_crosses_threads();
     key_states::key_row_crosses_threads();
+    sigv4_check::credentials_cross_threads();
 }

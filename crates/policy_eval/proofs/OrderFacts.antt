@@ -31,9 +31,6 @@ pub record Kept (ss : List Statement) (i : ℕ) (effects : List Bool) (denies al
   pub its_allows : allows ≡ allows_of (take i ss)
 
 module _ (ss : List Statement) where
-  pub kept_none : (effects : List Bool) (denies allows : List Statement) → effects ≡ [] → denies ≡ [] → allows ≡ [] → Kept ss 0 effects denies allows
-  kept_none effects denies allows e d a = record { by_effect = e; its_denies = d; its_allows = a }
-
   module _ (i : ℕ) (effects : List Bool) (denies allows : List Statement) (s : Statement) (within : i < length ss) (at : s ≡ get_or ss i s) (so_far : Kept ss i effects denies allows) where
     more_effects : effects ++ s.allow ∷ [] ≡ effects_of (take (i + 1) ss)
     more_effects =

@@ -145,7 +145,3 @@ the_verdict policy r v h = one_verdict policy r v (verdict_of policy r) h (verdi
 
 pub one_by_question : (policy : Policy) → GoesByQuestion policy → HasOneVerdictByQuestion policy
 one_by_question policy goes a b same = the_verdict policy b (verdict_of policy a) (goes a b (verdict_of policy a) same (verdict_of_lem policy a))
-
--- the same of a policy of a known kind
-pub the_verdict_by_kind : (policy : Policy) (kind : PolicyKind) → policy.kind ≡ kind → (r : RequestFacts) (v : Verdict) → IsVerdictOf kind policy.statements r v → v ≡ verdict_of policy r
-the_verdict_by_kind policy kind is r v h = the_verdict policy r v (subst (λ k. IsVerdictOf k policy.statements r v) (sym is) h)

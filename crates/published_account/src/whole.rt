@@ -90,7 +90,7 @@ impl Whole {
         requires maker { (0 < maker) × (maker ≤ self.now.passes) }
         ensures { IfOk result (λ w. w ≡ record { facts = self.now.facts; passes = self.now.passes; pairs = self.now.pairs ++ (entry.now, maker) ∷ [] }) }
     {
-        let account = self.account.apply(alloc, entry)?;
+        let account = self.account.apply(entry)?;
         let makers = pushed(alloc, self.makers.as_slice(), maker)?;
         Ok(Whole {
             account,

@@ -1,7 +1,7 @@
 -- Values and lines, as they are added.
-use Rattle.std.proofs.Common.{◌≡◌, subst, length-drop, ℕ, suc, ◌+◌, ◌-◌, ◌<◌, ◌≤◌, List, [], ◌∷◌, ◌++◌, length, take, drop, get_or, map, Bool, true, false, refl, sym, ap, ap₂, ◌∙◌, arith, append_assoc}
+use Rattle.std.proofs.Common.{◌≡◌, subst, length-drop, ℕ, suc, ◌+◌, ◌-◌, ◌<◌, ◌≤◌, List, [], ◌∷◌, ◌++◌, length, take, drop, get_or, map, Bool, true, false, refl, sym, ap, ◌∙◌, arith, append_assoc}
 use Rattle.std.proofs.Math.Seq.{drop-cons}
-use Rattle.std.proofs.lemmas.List.{take_more, get_or-drop, take_all, drop_all}
+use Rattle.std.proofs.lemmas.List.{take_more, get_or-drop}
 use Rattle.http_front.specs.Heading.{Field}
 use Rattle.sha2.specs.Hashers.{Holds256}
 use Rattle.sha2.specs.declared.Sha256.{Sha256}
@@ -75,16 +75,6 @@ module _ (from to next : Sha256) (value : List ℕ) (start i : ℕ) (within : i 
 
   pub past_other : false ≡ begins_with_spaces (drop i value) → Reaches from to value start (i + 1)
   past_other is = (reaches.0, reaches.1, reaches.2 ∙ ap (λ (rest : List ℕ). reaches.0 ++ rest) (moved value i within start order is))
-
--- the whole value was added
-pub all_reached : (from to next : Sha256) (value : List ℕ) (start i : ℕ) → length value ≤ i → start ≤ i → Reaches from to value start i → Adds to next (drop start value) → Adds from next (squeezed value)
-all_reached from to next value start i past order reaches adds =
-    let none : drop i value ≡ [] = drop_all i value past in
-    let size = length-drop start value in
-    let rest : slice_range value start i ≡ drop start value = take_all (i - start) (drop start value) (omega (arith, size)) in
-    added_as from next (reaches.0 ++ drop start value) (squeezed value)
-    (sym (reaches.2 ∙ ap₂ (λ (a b : List ℕ). reaches.0 ++ (a ++ squeezed b)) rest none ∙ ap (λ (a : List ℕ). reaches.0 ++ a) (nil_right (drop start value))))
-    (both_added from to next reaches.0 (drop start value) reaches.1 adds)
 
 -- ---- the values of a name
 

@@ -12,22 +12,12 @@ use kms_session::Trust;
 use sigv4_check::{Credential, CredentialList, are_distinct};
 use std::alloc::Global;
 
-// The account of a principal.
-fn account_in(principal: &Principal) -> AccountNumber
-    ensures { result ≡ account_of principal.now }
-{
-    match principal {
-        Principal::Root(account) | Principal::User(account, _) | Principal::Role(account, _) =>
-            *account,
-    }
-}
-
 /// Who asks, if a text names a principal of the account.
 pub fn caller_of(alloc: Global, account: AccountNumber, text: &str) -> Result<Principal, Failure>
     ensures { IfOk result (λ caller. account_of caller ≡ account) }
 {
     let caller = read_principal(alloc, text)?;
-    if account_in(&caller) == account {
+    if caller.account() == account {
         Ok(caller)
     } else {
         Err(Failure::Unfit)

@@ -87,7 +87,7 @@ impl Asked {
     {
         match self.account.decide_change(alloc, ask)? {
             Decision::Change(entry, reply) => {
-                self.account = self.account.apply(alloc, &entry)?;
+                self.account = self.account.apply(&entry)?;
                 answer_with(alloc, self.account.entries(), reply)
             }
             Decision::Refused(reply) | Decision::Served(reply) => {
