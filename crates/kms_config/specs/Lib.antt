@@ -5,3 +5,4 @@ pub mod Forms
 pub mod Credentials
 pub mod Identities
 pub mod Config
+pub mod Laws

@@ -1,7 +1,10 @@
 // The configuration.
 ghost use Rattle.std.specs.Prelude.{◌≡◌, IfOk, IfErr, MatchOption, codes};
 ghost use Rattle.serde_json.specs.View.{view, members_view};
+ghost use Rattle.kms_names.specs.declared.principals.Principal.{Principal};
 ghost use Rattle.policy_doc.specs.Reading.{Reads, ReadsNothing};
+ghost use Rattle.authority.specs.Setting.{callers_policies};
+ghost use Rattle.authority.specs.Allowed.{AreIdentityPolicies};
 ghost use Rattle.kms_config.specs.Answers.{Answers};
 ghost use Rattle.kms_config.specs.Config.{basics_in, credentials_at, identities_at, lists_in, config_in, IsConfigOf, IsFaultOf};
 
@@ -174,7 +177,8 @@ fn read_json(alloc: Global, bytes: &[u8]) -> Result<Option<Value>, NoMemory>
 /// | `credentials` | a list of at most 1,000 objects of `accessKeyId` (1 to 128 letters and digits, distinct), `secret` (1 to 128 visible ASCII characters) and `principal` |
 /// | `policies` | a list of at most 1,000 objects of `principal` (distinct, and not the root) and `documents` (a list of at most 10 identity policies) |
 ///
-/// A principal is the ARN of the account's root, of a user or of a role of the account.
+/// A principal is the ARN of the account's root, of a user or of a role of the account. Whoever calls, the
+/// policies that the configuration's facts hold for the caller are then all of the kind `Identity`.
 ///
 /// Else the answer is the JSON pointer of the first fault: of the members in this order, of a list's
 /// length before its items, of the items in theirs, and of an object's members of other names last, in
@@ -183,6 +187,7 @@ fn read_json(alloc: Global, bytes: &[u8]) -> Result<Option<Value>, NoMemory>
 pub fn read_config(alloc: Global, bytes: &[u8]) -> Result<Config, ConfigFault>
     ensures ok { IfOk result (IsConfigOf bytes.now) }
     ensures fault { IfErr result (IsFaultOf bytes.now) }
+    ensures identity_policies { IfOk result (λ config. (caller : Principal) → AreIdentityPolicies (callers_policies config.facts.identities caller)) }
 {
     if bytes.len() > LONGEST {
         return refused_behind(alloc, &Path::Root, "/");

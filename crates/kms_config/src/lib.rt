@@ -6,8 +6,10 @@ mod credentials;
 mod faults;
 mod forms;
 mod identities;
+mod laws;
 mod members;
 mod places;
 
 pub use config::{Config, read_config};
 pub use faults::ConfigFault;
+pub use laws::configured_policies_are_of_identities;
