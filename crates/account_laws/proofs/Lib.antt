@@ -1,5 +1,7 @@
 mod Allowing
 mod Serving
 mod Retiring
+mod Standing
+mod Joining
 mod LawSealings
 pub mod LawFacts

@@ -1,10 +1,11 @@
--- Laws of what the account seals.
-use Rattle.std.specs.Prelude.{◌≡◌, ◌≢◌, ◌^◌, ℕ, ◌<◌, List, [], ◌++◌, length, slice_range, Bool, false, Option, Some, None, Ok, All, ◌↔◌, ◌∷◌, IsTrue}
+-- Laws of what the account answers.
+use Rattle.std.specs.Prelude.{◌≡◌, ◌≢◌, ◌^◌, ℕ, ◌<◌, ◌≤◌, List, [], ◌++◌, length, slice_range, Bool, false, Option, Some, None, Ok, All, AllPairs, ◌↔◌, ◌∷◌, IsTrue}
 use Rattle.std.specs.List.Sorted.{IsNonDecreasingBy}
 use Rattle.enc_context.specs.declared.pairs.Pair.{Pair}
 use Rattle.crypto_ops.specs.Sealed.{opened}
 use Rattle.kms_names.specs.declared.actions.Action.TheVariants as action
 use Rattle.kms_names.specs.declared.actions.Action.{Action}
+use Rattle.kms_names.specs.declared.principals.Principal.{Principal}
 use Rattle.authority.specs.Setting.{callers_policies}
 use Rattle.authority.specs.Allowed.{AreIdentityPolicies}
 use Rattle.kms_json.specs.declared.refusals.Refusal.{Refusal}
@@ -30,8 +31,10 @@ use Rattle.account_steps.specs.Places.{IsUpTo}
 use Rattle.account_steps.specs.declared.places.Places.{Places}
 use Rattle.blob_format.specs.Names.{name_in}
 use Rattle.account_rows.specs.declared.entries.What.TheVariants as what
+use Rattle.alias_map.specs.declared.rows.AliasRow.{AliasRow}
+use Rattle.grant_table.specs.declared.rows.GrantRow.{GrantRow}
 use Rattle.grant_table.specs.Grants.{grant_with}
-use Rattle.account_rows.specs.History.{replay, housekeeping_of}
+use Rattle.account_rows.specs.History.{State, replay, housekeeping_of}
 use Rattle.account_steps.specs.View.{View, view_of, key_held}
 use Rattle.account_steps.specs.Steps.{unfit, draws, key_if_given, other_key, alias_of}
 use Rattle.account_steps.specs.declared.checks.Named.{Named}
@@ -39,6 +42,10 @@ use Rattle.authority.specs.Setting.{Particulars}
 use Rattle.account_steps.specs.Authority.{Question, on_key, action_of, resource_of, denied, setting_of, granted, IsGranted, MayAsk}
 use Rattle.account_steps.specs.Authority.{of_context}
 use Rattle.account_steps.specs.Parts.{dead_token}
+use Rattle.account_lists.specs.declared.listings.Numbered.{Numbered}
+use Rattle.account_lists.specs.declared.lists.Sought.{Sought}
+use Rattle.account_lists.specs.Pages.{PartsFrom, rows_behind}
+use Rattle.account_lists.specs.Lists.{listed_keys, listed_aliases, retirable_grants, grants_of_key, rotations_of}
 use Rattle.account_core.specs.Decide.{lacking, decide, IsProper, IsLawful}
 
 -- a blob, the text that is sealed in it, the context that it is sealed under, and the ARN of the key
@@ -157,6 +164,41 @@ abbrev pub DroppedGrantsStayAway : Type 0
 DroppedGrantsStayAway =
     (facts : RealmFacts) (history more : List Entry) (entry : Entry) (grant : List ℕ) → IsLawful facts ((history ++ entry ∷ []) ++ more) → entry.what ≡ what.GrantDrop grant
     → grant_with (replay ((history ++ entry ∷ []) ++ more)).grants grant ≡ None
+
+-- ---- lists
+
+-- each row was made before those behind it
+abbrev pub AreInOrder : {A : Type 0} → (A → ℕ) → List A → Type 0
+AreInOrder {A} born rows = AllPairs (λ (p q : A). born p < born q) rows
+
+-- the keys, the aliases and the grants stand in order of making
+pub record StandInOrder (state : State) : Type 0 where
+  pub keys : AreInOrder (λ (row : KeyRow). row.born) state.keys
+  pub aliases : AreInOrder (λ (row : AliasRow). row.born) state.aliases
+  pub grants : AreInOrder (λ (grant : GrantRow). grant.born) state.grants
+
+-- and so do those of every lawful history
+abbrev pub RowsStandInOrder : Type 0
+RowsStandInOrder = (facts : RealmFacts) (history : List Entry) → IsLawful facts history → StandInOrder (replay history)
+
+-- a list stands in order of making, and its parts that follow one another's markers come to an end and, joined, are exactly its rows behind the place
+-- where they begin
+pub record IsWhole {A : Type 0} (born : A → ℕ) (rows : List A) : Type 0 where
+  pub in_order : AreInOrder born rows
+  pub parts : (limit : ℕ) → 1 ≤ limit → (after : Option ℕ) (joined : List A) → PartsFrom born rows limit after joined ↔ (joined ≡ rows_behind born after rows)
+
+-- each list of a view: ListKeys, ListAliases of all keys or of one, ListRetirableGrants, ListGrants of a key, and ListKeyRotations of a key
+pub record ListsAreWhole (view : View) : Type 0 where
+  pub keys : IsWhole (λ (row : KeyRow). row.born) (listed_keys view)
+  pub aliases : (key : Option (List ℕ)) → IsWhole (λ (row : AliasRow). row.born) (listed_aliases view key)
+  pub retirable : (retiring : Principal) → IsWhole (λ (grant : GrantRow). grant.born) (retirable_grants view retiring)
+  pub grants : (key : List ℕ) (sought : Sought) → IsWhole (λ (grant : GrantRow). grant.born) (grants_of_key view key sought)
+  pub rotations : (row : KeyRow) → IsWhole (λ (numbered : Numbered). numbered.number) (rotations_of row)
+
+-- so it is at every lawful history, whatever the request's moment, its caller and the places of the pass
+abbrev pub ListsOfLawfulHistoriesAreWhole : Type 0
+ListsOfLawfulHistoriesAreWhole =
+    (facts : RealmFacts) (history : List Entry) (x : Ask) (places : Places) → IsLawful facts history → ListsAreWhole (view_of facts history x places)
 
 -- ---- authority
 

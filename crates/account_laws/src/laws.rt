@@ -1,6 +1,6 @@
 //! Laws of what the account answers. Each stands as the contract of a function that does nothing.
 
-ghost use Rattle.account_laws.specs.Laws.{SealedIsDecryptedAgain, OnePassRepeatsNoIv, PassesShareNoIv, TimesNeverFall, HouseIsKeptOnce, KeysDiffer, GrantsDiffer, PassesWhereStatementsAllow, NamesTheFirstDenied, GrantsPermit, DroppedGrantsStayAway};
+ghost use Rattle.account_laws.specs.Laws.{SealedIsDecryptedAgain, OnePassRepeatsNoIv, PassesShareNoIv, TimesNeverFall, HouseIsKeptOnce, KeysDiffer, GrantsDiffer, PassesWhereStatementsAllow, NamesTheFirstDenied, GrantsPermit, DroppedGrantsStayAway, RowsStandInOrder, ListsOfLawfulHistoriesAreWhole};
 ghost use Rattle.account_steps.specs.View.{View};
 ghost use Rattle.account_lists.specs.Lists.{PartsOfListsMakeTheWhole};
 
@@ -75,8 +75,15 @@ pub fn dropped_grants_stay_away()
     ensures { DroppedGrantsStayAway }
 {}
 
-/// The parts of a list, each behind the marker of the one before it, are the list's rows in order of
-/// making, each once.
+/// The keys, the aliases and the grants of a lawful history stand in order of making.
+pub fn rows_stand_in_order()
+    ensures { RowsStandInOrder }
+{}
+
+/// Each list of a lawful history stands in order of making. Its parts, each behind the marker of the one
+/// before it, come to an end, and joined they are its rows behind the place where they begin, each once.
+/// At any view, joined parts are these rows where the list's rows stand in order of making.
 pub fn parts_make_the_whole()
-    ensures { (view : View) → PartsOfListsMakeTheWhole view }
+    ensures in_order { (view : View) → PartsOfListsMakeTheWhole view }
+    ensures lawful { ListsOfLawfulHistoriesAreWhole }
 {}
