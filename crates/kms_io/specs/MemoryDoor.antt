@@ -13,6 +13,7 @@ abbrev pub doorway_of : MemoryDoor → Doorway
 doorway_of m = record {
   faults = m.faults;
   asked = Some (map asked_for m.asked.items);
+  is_open = Some m.is_open;
   given_back = Some (map listening_of m.back.items);
 }
 

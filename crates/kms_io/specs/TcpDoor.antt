@@ -8,5 +8,6 @@ abbrev pub counts_of : {R : Type 0} → TcpDoor R → Doorway
 counts_of door = record {
   faults = door.faults;
   asked = None;
+  is_open = None;
   given_back = None;
 }

@@ -23,8 +23,9 @@ pub trait Door {
     /// What it opens.
     type Listener: Ear + Send;
 
-    /// The count of faults, the addresses with the numbers of ears that it was asked for where that
-    /// is told, and what the ears of the last `close` show where that is told.
+    /// The count of faults, and where these are told: the addresses with the numbers of ears that it
+    /// was asked for, whether it is open, and what the ears of the last `close` show. It is open from
+    /// an opening on that answered `Open` to the next `close`.
     ghost shows: { Self → Doorway };
 
     /// Opens so many ears at the address, to the end of the list, which is left as it was at every

@@ -1,6 +1,6 @@
-// Points of a change at which a test may hold it up.
+// Points at which a test may hold a session up.
 
-/// A point that a change passes.
+/// A point that a session passes: each change the first, and each reply the second.
 #[derive(Clone, Copy)]
 pub enum Point {
     /// The desk's lock is held, and nothing of the change is published yet.

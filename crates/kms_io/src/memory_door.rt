@@ -17,13 +17,14 @@ pub struct MemoryDoor {
     failing: Vec<u64>,
     calls: u64,
     asked: Vec<(String, u16)>,
+    is_open: bool,
     back: Vec<MemoryEar>,
     faults: u64,
     ghost are_new: { IsTrue (are_new_ears ears.items) },
 }
 
 impl MemoryDoor {
-    ghost use Rattle.std.specs.Prelude.{IsTrue, ◌≡◌, [], Some, IfSome, option_map, slice_get};
+    ghost use Rattle.std.specs.Prelude.{IsTrue, ◌≡◌, [], Some, false, IfSome, option_map, slice_get};
     ghost use Rattle.kms_io.specs.NewEars.{are_new_ears};
     ghost use Rattle.kms_io.specs.MemoryEar.{listening_of};
     ghost use Rattle.kms_io.specs.MemoryDoor.{doorway_of, waiting_at, openings_of};
@@ -35,6 +36,7 @@ impl MemoryDoor {
         ensures doorway { doorway_of result ≡ record {
           faults = 0;
           asked = Some [];
+          is_open = Some false;
           given_back = Some [];
         } }
         ensures waiting { waiting_at result ≡ ears.items }
@@ -46,6 +48,7 @@ impl MemoryDoor {
             failing,
             calls: 0,
             asked: Vec::new(alloc),
+            is_open: false,
             back: Vec::new(alloc),
             faults: 0,
         }
@@ -89,6 +92,7 @@ impl Door for MemoryDoor {
         match move_first(&mut self.ears, count, ears) {
             Ok(()) => {
                 self.asked.push_reserved(request);
+                self.is_open = true;
                 Opened::Open
             }
             Err(_) => Opened::NoMemory,
@@ -100,6 +104,7 @@ impl Door for MemoryDoor {
         ensures waiting { waiting_at self.new ≡ waiting_at self.old }
         ensures calls { openings_of self.new ≡ openings_of self.old }
     {
+        self.is_open = false;
         self.back = ears;
     }
 }

@@ -28,6 +28,7 @@ impl<'a, R> TcpDoor<'a, R> {
         ensures { counts_of result ≡ record {
           faults = 0;
           asked = None;
+          is_open = None;
           given_back = None;
         } }
     {

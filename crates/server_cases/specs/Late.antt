@@ -15,5 +15,6 @@ abbrev pub counts_of : {W : Type 0} → LateDoor W → Doorway
 counts_of door = record {
   faults = door.faults;
   asked = None;
+  is_open = None;
   given_back = None;
 }

@@ -18,6 +18,7 @@ returns-in-Ok-move_first-clause-opens c =
     let enough : count ≤ length ears = omega arith in (
       record {
         asked = grind (arith, common_steps);
+        is_open = refl;
         given_back = refl;
         faults = omega arith;
       },
