@@ -13,7 +13,7 @@ use Rattle.kms_local.specs.declared.settings.RunOption.{RunOption}
 use Rattle.kms_local.specs.declared.settings.RunOption.TheVariants.{Account, Region, Root, Boot, As}
 use Rattle.kms_session.specs.declared.session.SessionEnd.{SessionEnd}
 use Rattle.kms_session.specs.declared.session.SessionEnd.TheVariants.{Ended, Closed, CutOff, ReadFault, WriteFault, NoMemory}
-use Rattle.publish_pass.specs.Pass.{Pass, fresh_pass}
+use Rattle.publish_pass.specs.Pass.{Pass, fresh_pass, first_places}
 use Rattle.kms_session.specs.Session.{outside, SendsWhole, SendsShort, EndsBy}
 use Rattle.kms_server.specs.declared.server.Served.{Served}
 use Rattle.kms_server.specs.Server.{Wanted, Surroundings, surroundings, ServesDoor, FindsShut, OpensNothing}
@@ -69,10 +69,12 @@ status_of_end ReadFault = 5
 status_of_end WriteFault = 6
 status_of_end NoMemory = 7
 
--- one session is served from an empty history, and ends so
+-- One session is served from an empty history by the one pass of a service, and ends so. The history is at last exactly the session's
+-- own entries, and each answer stands on a beginning of it.
 pub record Serving (facts : RealmFacts) (trust : Trust) (end : SessionEnd) (old : Wire) (told : Option (List ℕ)) (new : Wire) (later : Option (List ℕ)) : Type 0 where
   pub pass : Pass
-  pub ends : EndsBy trust end (outside old told (fresh_pass facts 1)) (outside new later pass)
+  pub ends : EndsBy trust end (outside old told (fresh_pass facts 1 1)) (outside new later pass)
+  pub made_all : pass.own ≡ first_places (length pass.history)
 
 -- one session is served with these settings, and the status is that of its end
 pub record Serves (settings : Settings) (status : ℕ) (old new : Around) : Type 0 where

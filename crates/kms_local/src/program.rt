@@ -55,16 +55,9 @@ fn serve_once<W: Wait, R: Realm, L: Link, C: Clock, G: Gate>(
     let Ok((service, mut passes)) = open_service::<W, R>(rt, alloc, opening) else {
         return SessionEnd::NoMemory;
     };
-    let end = serve_session(
-        rt,
-        alloc,
-        &service,
-        &mut passes[0],
-        trust,
-        clock,
-        link,
-        gate,
-    );
+    let pass = &mut passes[0];
+    let end = serve_session(rt, alloc, &service, pass, trust, clock, link, gate);
+    pass.settle(rt, &service);
     service.shut(rt);
     end
 }

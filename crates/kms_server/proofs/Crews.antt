@@ -72,10 +72,11 @@ taken_few n (s ∷ ss) (t ∷ ts) few (both p h) =
     let all : taken_by (t ∷ ts) ≡ t.taken + taken_by ts = taken_cons t ts in
     omega arith
 
-pub length_fresh : (facts : RealmFacts) (n : ℕ) → length (fresh_passes facts n) ≡ n
-length_fresh facts zero = refl
-length_fresh facts (suc n) = let size : length (fresh_passes facts n ++ fresh_pass facts (suc n) ∷ []) ≡ length (fresh_passes facts n) + 1 = length-append (fresh_passes facts n) (fresh_pass facts (suc n) ∷ []) in
-    let before : length (fresh_passes facts n) ≡ n = length_fresh facts n in
+pub length_fresh : (facts : RealmFacts) (passes n : ℕ) → length (fresh_passes facts passes n) ≡ n
+length_fresh facts passes zero = refl
+length_fresh facts passes (suc n) =
+    let size : length (fresh_passes facts passes n ++ fresh_pass facts passes (suc n) ∷ []) ≡ length (fresh_passes facts passes n) + 1 = length-append (fresh_passes facts passes n) (fresh_pass facts passes (suc n) ∷ []) in
+    let before : length (fresh_passes facts passes n) ≡ n = length_fresh facts passes n in
     omega arith
 
 -- one more place is related, and those below it stay so
@@ -95,7 +96,7 @@ kept_more xs ys i y above k d le = let apart : k ≢ i = omega arith in get_or-s
 
 -- housekeeping was done, or for want of memory at most that
 pub house_left : {A E : Type 0} (r : Result A E) (s t : Pass) (moment : ℕ) → OnOk r (KeepsHouse s moment t) → OnErr r (WantsHouse s moment t) → WantsHouse s moment t
-house_left (Ok done) s t moment kept wants = record { met = kept.met; seen = kept.seen; left = inr kept.kept }
+house_left (Ok done) s t moment kept wants = record { met = kept.met; seen = kept.seen; left = inr kept.kept; knew = kept.knew; made_all = kept.made_all }
 house_left (Err lacks) s t moment kept wants = wants
 
 -- the first of a list, and what is left of it

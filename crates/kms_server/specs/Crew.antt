@@ -46,8 +46,8 @@ abbrev pub FirstIsLongest : RealmFacts → ℕ → ℕ → List WorkerState → 
 FirstIsLongest facts passes front [] = ⊥
 FirstIsLongest facts passes front (first ∷ others) = BeginsAll facts passes front first.pass.history others
 
--- After their work the passes of these workers learn the whole history, and the first of them at last all that another holds. This is
--- what was served, and what their ears show and their clocks tell, in order.
+-- After their work the passes of these workers only learn more of the history, and the first of them holds at last all that another holds.
+-- This is what was served, and what their ears show and their clocks tell, in order.
 pub record Finishes (facts : RealmFacts) (passes connections : ℕ) (ends : List WorkerState) (served : Served) (ears : List Listening) (clocks : List (Option (List ℕ))) : Type 0 where
   pub last : List WorkerState
   pub settles : Pairwise Settles ends last

@@ -3,7 +3,7 @@ use Rattle.std.specs.Prelude.{◌≡◌, ◌⊎◌, ℕ, List, ◌++◌, take, d
 use Rattle.kms_io.specs.Wire.{RoseBy}
 use Rattle.kms_io.specs.Listening.{Listening}
 use Rattle.kms_io.specs.Doorway.{Doorway}
-use Rattle.kms_io.specs.Door.{AsksFor, MayAskFor, Closes}
+use Rattle.kms_io.specs.Door.{OpensFor, AsksFor, MayAskFor, Closes}
 use Rattle.account_steps.specs.declared.facts.RealmFacts.{RealmFacts}
 use Rattle.publish_pass.specs.Pass.{fresh_passes}
 use Rattle.kms_session.specs.declared.trust.Trust.{Trust}
@@ -35,9 +35,9 @@ surroundings door clocks = record { door = door; clocks = clocks }
 -- a clock of its own. In the end the ears went back to the door and the clocks to their places.
 pub record ServesDoor (facts : RealmFacts) (trust : Trust) (wanted : Wanted) (served : Served) (old new : Surroundings) : Type 0 where
   pub opened : Doorway
-  pub asked : AsksFor old.door wanted.address wanted.workers opened
+  pub asked : OpensFor old.door wanted.address wanted.workers opened
   pub crew : List WorkerState
-  pub is_crew : IsCrew (fresh_passes facts wanted.workers) (take wanted.workers old.clocks) crew
+  pub is_crew : IsCrew (fresh_passes facts wanted.workers wanted.workers) (take wanted.workers old.clocks) crew
   pub ends : List WorkerState
   pub work : Pairwise (Works trust wanted.connections) crew ends
   pub ears : List Listening
@@ -46,13 +46,13 @@ pub record ServesDoor (facts : RealmFacts) (trust : Trust) (wanted : Wanted) (se
   pub closed : Closes opened ears new.door
   pub clocks : new.clocks ≡ told ++ drop wanted.workers old.clocks
 
--- the door was asked once and failed, and no clock was asked
+-- the door was asked once and failed to open, and no clock was asked
 pub record FindsShut (wanted : Wanted) (old new : Surroundings) : Type 0 where
   pub asked : AsksFor old.door wanted.address wanted.workers new.door
   pub rose : RoseBy 1 old.door.faults new.door.faults
   pub clocks : new.clocks ≡ old.clocks
 
--- for want of memory nobody worked: the door was asked at most once, and no clock was asked
+-- for want of memory nobody worked: the door was asked at most once and did not open, and no clock was asked
 pub record OpensNothing (wanted : Wanted) (old new : Surroundings) : Type 0 where
   pub asked : (new.door ≡ old.door) ⊎ MayAskFor old.door wanted.address wanted.workers new.door
   pub clocks : new.clocks ≡ old.clocks

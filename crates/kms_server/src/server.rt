@@ -95,7 +95,7 @@ fn serve_with<
 ) -> Outcome
 where
     <D::Listener as Ear>::Conn: Send,
-    requires passes { passes.items ≡ fresh_passes R.facts R.passes }
+    requires passes { passes.items ≡ fresh_passes R.facts R.passes R.passes }
     requires trust { IsOfAccount R.facts.account host.now.trust.now }
     requires workers { (R.passes ≡ order.now.workers) × (0 < order.now.workers) × (order.now.workers ≤ 64) }
     requires connections { (host.now.connections ≡ order.now.connections) × (order.now.connections ≤ 1000000000) }

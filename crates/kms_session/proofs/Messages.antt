@@ -1,5 +1,5 @@
 -- How long a buffer is.
-use Rattle.std.proofs.Common.{◌≡◌, ◌<◌, ℕ, List, [], ◌∷◌, ◌++◌, length, sym, arith}
+use Rattle.std.proofs.Common.{◌≡◌, ◌<◌, ℕ, List, ◌++◌, length, sym, arith}
 use Rattle.std.proofs.Common.{Bool, true, false, ◌||◌, ◌+◌, ◌==◌, suc, subst}
 use Rattle.std.proofs.lemmas.Bool.Decides.{nat_tests}
 use Rattle.http_front.specs.Message.{Awaits}
@@ -18,10 +18,6 @@ not_empty n is = grind (arith, nat_tests)
 
 positive : (n : ℕ) → false ≡ (n == 0) → 0 < n
 positive n is = grind (arith, nat_tests)
-
-pub empty_buffer : (buffer bytes : List ℕ) → bytes ≡ buffer → true ≡ (length bytes == 0) → buffer ≡ []
-empty_buffer buffer [] same is = sym same
-empty_buffer buffer (byte ∷ bytes) same is = absurd (not_empty (length bytes) is)
 
 pub not_last : (closed : Bool) (number : ℕ) → false ≡ (closed || (number + 1 == 100000)) → number < 100000 → number + 1 < 100000
 not_last true number is few = cc

@@ -2,7 +2,6 @@
 use Rattle.std.proofs.Common.{◌≡◌, ◌≢◌, ◌≤◌, ℕ, List, ◌++◌, length, Bool, true, false, Option, None, Some, refl, sym, ap, ap₂, ◌∙◌, subst, arith, ◌⊎◌, inl, inr}
 use Rattle.std.specs.Bool.{MatchBool}
 use Rattle.kms_io.specs.Wire.{Wire}
-use Rattle.account_core.proofs.GoingOn.{decide_goes_on}
 use Rattle.published_account.specs.declared.answered.Answered.{Answered}
 use Rattle.http_front.specs.Head.{IsHead}
 use Rattle.kms_json.specs.declared.asks.Ask.{Ask}
@@ -24,10 +23,8 @@ use Rattle.kms_session.specs.declared.asked.After.{After}
 use Rattle.published_account.specs.Answers.{Answer, answer_in, answer_of}
 use Rattle.kms_session.specs.Answers.{IsReplyText, five_hundred}
 use Rattle.published_account.specs.Pairs.{entries_of}
-use Rattle.publish_pass.specs.Pass.{Pass, Meets, Wants, WantsChange, AnswersRead, AnswersChange, LacksRead, Misses, keeping_house, making_any}
+use Rattle.publish_pass.specs.Pass.{Pass, Meets, WantsChange, AnswersRead, AnswersChange, LacksRead, Misses, keeping_house, making_any}
 use Rattle.published_account.specs.declared.answered.Unread.TheVariants.{NoMemory as Unfed}
-use Rattle.published_account.proofs.Lists.{prefix_self}
-use Rattle.publish_pass.proofs.Meeting.{learns_self}
 use Rattle.kms_names.specs.declared.principals.Principal.{Principal}
 use Rattle.sigv4_check.specs.declared.faults.AuthFault.{AuthFault}
 use Rattle.sigv4_check.specs.declared.faults.AuthFault.TheVariants.{NoMemory as LacksMemory}
@@ -78,34 +75,8 @@ replied true s plan answer second front closes old new t is at reply =
 replied false s plan answer second front closes old new t is at reply =
     record { text = reply.text; replies = answers answer is (subst (λ (n : ℕ). IsReplyText answer second n closes reply.text) at reply.is); short = reply.short }
 
-meets_self : (s : Pass) → Meets s s
-meets_self s = record { history = prefix_self s.history; others = refl; missed = omega arith; lawful = λ is. is }
-
--- a pass that holds what it held has used nothing
-wants_none : (s : Pass) (x : Ask) → Wants s x s
-wants_none s x =
-    let goes = decide_goes_on s.facts (entries_of s.history) x s.places in
-    record {
-      met = s;
-      seen = meets_self s;
-      places = s.places;
-      used = refl;
-      at_most = record {
-        number = refl;
-        words_from = omega arith;
-        words_to = goes.words_from;
-        ivs_from = omega arith;
-        ivs_to = goes.ivs_from;
-      };
-    }
-
-wanting_where : (s : Pass) (x : Ask) (changing : Bool) → changes_account x.body ≡ changing → Wanting s (asks x) s
-wanting_where s x true is = wants_change x refl is (record { met = s; seen = learns_self s; left = inl refl })
-wanting_where s x false is = wants_read x refl is (wants_none s x)
-
 pub wanting_none : (s : Pass) (plan : Plan) → Wanting s plan s
-wanting_none s (answered answer) = wants_nothing answer refl refl
-wanting_none s (asks x) = wanting_where s x (changes_account x.body) refl
+wanting_none s plan = wants_nothing refl
 
 pub wants_changed : (s t : Pass) (x : Ask) → true ≡ changes_account x.body → WantsChange s x t → Wanting s (asks x) t
 wants_changed s t x is h = wants_change x refl (sym is) h
@@ -212,7 +183,7 @@ facts_left met t clock (inl same) = ap (λ (p : Pass). p.facts) same
 facts_left met t clock (inr kept) = ap (λ (p : Pass). p.facts) kept ∙ house_facts met clock
 
 facts_wanting : {s t : Pass} {plan : Plan} → Wanting s plan t → t.facts ≡ s.facts
-facts_wanting (wants_nothing answer is same) = ap (λ (p : Pass). p.facts) same
+facts_wanting (wants_nothing same) = ap (λ (p : Pass). p.facts) same
 facts_wanting (wants_read x is which h) = ap (λ (p : Pass). p.facts) h.used ∙ ap (λ (p : Pass). p.facts) h.seen.others
 facts_wanting {s = s} {t = t} (wants_change x is which h) = facts_left h.met t x.moment h.left ∙ ap (λ (p : Pass). p.facts) h.seen.others
 

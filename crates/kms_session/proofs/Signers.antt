@@ -56,9 +56,6 @@ caller_is_of account (Signed creds) region m clock p is e = in_has (λ (q : Prin
 
 -- ---- an answer that is no want of memory is the one that is owed
 
-pub caller_is : (value : Result Principal AuthFault) (p : Principal) → IsOrNoMemory value (Ok p) → value ≡ Ok p
-caller_is value p is = is
-
 pub fault_is : (value : Result Principal AuthFault) (why : AuthFault) → IsOrNoMemory value (Err why) → why ≢ NoMemory → value ≡ Err why
 fault_is value NoAuth is other = is
 fault_is value Incomplete is other = is

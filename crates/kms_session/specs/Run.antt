@@ -58,10 +58,10 @@ pub data Answers (s : Pass) (plan : Plan) (answer : Answer) (t : Pass) : Type 0 
   reads : (x : Ask) (reply : Reply) → plan ≡ asks x → changes_account x.body ≡ false → Reads s x reply t → answer ≡ answer_of reply → Answers s plan answer t
   changes : (x : Ask) (reply : Reply) → plan ≡ asks x → changes_account x.body ≡ true → Changes s x reply t → answer ≡ answer_of reply → Answers s plan answer t
 
--- What a pass holds after the reply for want of memory: what it held, but for what a reading request may have used, or the entry
--- of housekeeping before a changing one.
+-- What a pass holds after the reply for want of memory: what it held; or for a reading request what it has learnt of the history and
+-- what that may have used; or for a changing one the whole history, at most with the entry of housekeeping.
 pub data Wanting (s : Pass) (plan : Plan) (t : Pass) : Type 0 where
-  wants_nothing : (answer : Answer) → plan ≡ answered answer → t ≡ s → Wanting s plan t
+  wants_nothing : t ≡ s → Wanting s plan t
   wants_read : (x : Ask) → plan ≡ asks x → changes_account x.body ≡ false → Wants s x t → Wanting s plan t
   wants_change : (x : Ask) → plan ≡ asks x → changes_account x.body ≡ true → WantsChange s x t → Wanting s plan t
 

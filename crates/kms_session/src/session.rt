@@ -355,7 +355,8 @@ fn serve_one<W: Wait, R: Realm, L: Link, C: Clock, G: Gate>(
 /// `InvalidSignatureException`, in this order), and asks nothing of the account. The condition is that
 /// whoever may be the caller is of the service's account. The clock is asked once for each message
 /// answered. The buffer of 147,456 bytes is reserved before the first byte is
-/// taken, and nothing is read while it holds a whole message. It makes at most 100,000 answers. The gate
+/// taken, and nothing is read while it holds a whole message. Where the service has one pass, each change finds
+/// the history that the pass held before it, and leaves exactly the pass's own entries. It makes at most 100,000 answers. The gate
 /// is called at `AfterReply` once each reply was written whole.
 pub fn serve_session<W: Wait, R: Realm, L: Link, C: Clock, G: Gate>(
     rt: &W,

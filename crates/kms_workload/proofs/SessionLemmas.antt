@@ -4,7 +4,7 @@ use Rattle.std.specs.Prelude.{if◌then◌else◌}
 use Rattle.std.proofs.lemmas.Bool.{lt-ltb}
 use Rattle.kms_io.specs.Wire.{Wire}
 use Rattle.kms_io.specs.Clock.{told_so_far, first_of}
-use Rattle.publish_pass.specs.Pass.{Pass, fresh_pass}
+use Rattle.publish_pass.specs.Pass.{Pass, fresh_pass, first_places}
 use Rattle.kms_session.specs.declared.trust.Trust.{Trust}
 use Rattle.kms_session.specs.declared.session.SessionEnd.{SessionEnd}
 use Rattle.kms_session.specs.declared.session.SessionEnd.TheVariants.{Ended, Closed, CutOff, ReadFault, WriteFault, NoMemory}
@@ -54,13 +54,13 @@ pub record Made (seed requests : ℕ) (pass : Pass) (text : List ℕ) : Type 0 w
   pub session : IsSessionOf seed requests pass text statuses
 
 abbrev pub before : ℕ → ℕ → Outside
-before seed requests = outside (wire_before (workload_of seed requests)) (Some []) (fresh_pass load_facts 1)
+before seed requests = outside (wire_before (workload_of seed requests)) (Some []) (fresh_pass load_facts 1 1)
 
-of_serves : (seed requests : ℕ) (pass : Pass) (new : Wire) (later : Option (List ℕ)) (text left : List ℕ) (closes : Bool) (count : ℕ) (rest : List ℕ)
+of_serves : (seed requests : ℕ) (pass : Pass) (made : pass.own ≡ first_places (length pass.history)) (new : Wire) (later : Option (List ℕ)) (text left : List ℕ) (closes : Bool) (count : ℕ) (rest : List ℕ)
     → Serves load_trust (before seed requests) (outside new later pass) closes count rest → (closes ≡ false → (rest ≡ []) × (left ≡ []))
     → new.written ≡ Some text → new.left ≡ Some left → later ≡ Some (seconds_of requests)
     → ((statuses : List ℕ) → AreReplies text statuses → length statuses ≡ requests) → Made seed requests pass text
-of_serves seed requests pass new later text left closes count rest s ends wrote stays tells counts =
+of_serves seed requests pass made new later text left closes count rest s ends wrote stays tells counts =
     let out : s.text ≡ text = cc (s.written, wrote) in
     let all : workload_of seed requests ≡ s.input ++ left = cc (s.left, stays) in
     let clocks : s.clocks ≡ seconds_of requests = cc (rw tells at s.told) in
@@ -79,22 +79,23 @@ of_serves seed requests pass new later text left closes count rest s ends wrote 
         cuts = s.cuts;
         to_end = ends;
         each = sym told.number ∙ number;
-        run = subst (λ (t : List ℕ). SessionRun (fresh_pass load_facts 1) load_trust pass s.items (seconds_of requests) t) out
-            (subst (λ (cs : List ℕ). SessionRun (fresh_pass load_facts 1) load_trust pass s.items cs s.text) clocks s.run);
+        run = subst (λ (t : List ℕ). SessionRun (fresh_pass load_facts 1 1) load_trust pass s.items (seconds_of requests) t) out
+            (subst (λ (cs : List ℕ). SessionRun (fresh_pass load_facts 1 1) load_trust pass s.items cs s.text) clocks s.run);
+        made_all = made;
         replies = are;
         counted = number;
       };
     }
 
-pub of_end : (seed requests : ℕ) (end : SessionEnd) (pass : Pass) (new : Wire) (later : Option (List ℕ)) (text left : List ℕ)
+pub of_end : (seed requests : ℕ) (end : SessionEnd) (pass : Pass) (made : pass.own ≡ first_places (length pass.history)) (new : Wire) (later : Option (List ℕ)) (text left : List ℕ)
     → EndsBy load_trust end (before seed requests) (outside new later pass) → is_over end ≡ true
     → new.written ≡ Some text → new.left ≡ Some left → later ≡ Some (seconds_of requests)
     → ((statuses : List ℕ) → AreReplies text statuses → length statuses ≡ requests) → Made seed requests pass text
-of_end seed requests Ended pass new later text left ends over wrote stays tells counts =
-    of_serves seed requests pass new later text left false ends.count [] ends.serves (λ _. (refl, rw stays at ends.at_end)) wrote stays tells counts
-of_end seed requests Closed pass new later text left ends over wrote stays tells counts =
-    of_serves seed requests pass new later text left true ends.count ends.rest ends.serves (λ no. absurd (cc no)) wrote stays tells counts
-of_end seed requests CutOff pass new later text left ends over wrote stays tells counts = absurd (cc over)
-of_end seed requests ReadFault pass new later text left ends over wrote stays tells counts = absurd (cc over)
-of_end seed requests WriteFault pass new later text left ends over wrote stays tells counts = absurd (cc over)
-of_end seed requests NoMemory pass new later text left ends over wrote stays tells counts = absurd (cc over)
+of_end seed requests Ended pass made new later text left ends over wrote stays tells counts =
+    of_serves seed requests pass made new later text left false ends.count [] ends.serves (λ _. (refl, rw stays at ends.at_end)) wrote stays tells counts
+of_end seed requests Closed pass made new later text left ends over wrote stays tells counts =
+    of_serves seed requests pass made new later text left true ends.count ends.rest ends.serves (λ no. absurd (cc no)) wrote stays tells counts
+of_end seed requests CutOff pass made new later text left ends over wrote stays tells counts = absurd (cc over)
+of_end seed requests ReadFault pass made new later text left ends over wrote stays tells counts = absurd (cc over)
+of_end seed requests WriteFault pass made new later text left ends over wrote stays tells counts = absurd (cc over)
+of_end seed requests NoMemory pass made new later text left ends over wrote stays tells counts = absurd (cc over)

@@ -2,18 +2,19 @@
 use Rattle.std.specs.Prelude.{◌≡◌, ℕ, List, [], Option, Some, length, Bool, true, false}
 use Rattle.kms_io.specs.Wire.{Wire}
 use Rattle.account_steps.specs.declared.facts.RealmFacts.{RealmFacts}
-use Rattle.publish_pass.specs.Pass.{Pass, fresh_pass}
+use Rattle.publish_pass.specs.Pass.{Pass, fresh_pass, first_places}
 use Rattle.kms_session.specs.declared.trust.Trust.{Trust}
 use Rattle.kms_session.specs.declared.session.SessionEnd.{SessionEnd}
 use Rattle.kms_session.specs.declared.session.SessionEnd.TheVariants.{Ended, Closed, CutOff, ReadFault, WriteFault, NoMemory}
 use Rattle.kms_session.specs.Session.{outside, EndsBy}
 use Rattle.kms_workload.specs.declared.serve.Past.{Past}
 
--- one session is served from an empty history, and ends so, with so many entries
+-- one session is served from an empty history by the one pass of a service, and ends so, with so many entries, all its own
 pub record Serving (facts : RealmFacts) (trust : Trust) (past : Past) (old : Wire) (told : Option (List ℕ)) (new : Wire) (later : Option (List ℕ)) : Type 0 where
   pub pass : Pass
-  pub ends : EndsBy trust past.end (outside old told (fresh_pass facts 1)) (outside new later pass)
+  pub ends : EndsBy trust past.end (outside old told (fresh_pass facts 1 1)) (outside new later pass)
   pub front : past.front ≡ length pass.history
+  pub made_all : pass.own ≡ first_places (length pass.history)
 
 -- a link in memory that has these bytes to give
 abbrev pub wire_before : List ℕ → Wire

@@ -2,7 +2,7 @@
 use Rattle.std.specs.Prelude.{◌≡◌, ℕ, ◌-◌, List, [], ◌++◌, length, codes, decimal, Bool, false}
 use Rattle.hex.specs.Hex.{encode_lower}
 use Rattle.sha2.specs.Sha256.{sha256}
-use Rattle.publish_pass.specs.Pass.{Pass, fresh_pass}
+use Rattle.publish_pass.specs.Pass.{Pass, fresh_pass, first_places}
 use Rattle.kms_session.specs.Run.{Item, Cuts, SessionRun}
 use Rattle.kms_workload.specs.Facts.{load_facts, load_trust}
 use Rattle.kms_workload.specs.Seconds.{seconds_of}
@@ -16,8 +16,8 @@ summary_of requests served refused front digest =
     codes "requests " ++ (decimal requests ++ (codes "\nserved " ++ (decimal served ++ (codes "\nrefused " ++ (decimal refused
     ++ (codes "\nfront " ++ (decimal front ++ (codes "\nsha256 " ++ (digest ++ codes "\n")))))))))
 
--- A session of the account's root over the workload, from an empty history to its end. Of the workload nothing is left, unless a reply
--- closed the session, as the hundred-thousandth does.
+-- A session of the account's root over the workload, from an empty history to its end, whose entries are all its own. Of the workload
+-- nothing is left, unless a reply closed the session, as the hundred-thousandth does.
 pub record IsSessionOf (seed requests : ℕ) (pass : Pass) (text statuses : List ℕ) : Type 0 where
   pub items : List Item
   pub input : List ℕ
@@ -28,7 +28,8 @@ pub record IsSessionOf (seed requests : ℕ) (pass : Pass) (text statuses : List
   pub cuts : Cuts input closes items rest
   pub to_end : closes ≡ false → (rest ≡ []) × (unread ≡ [])
   pub each : length items ≡ requests
-  pub run : SessionRun (fresh_pass load_facts 1) load_trust pass items (seconds_of requests) text
+  pub run : SessionRun (fresh_pass load_facts 1 1) load_trust pass items (seconds_of requests) text
+  pub made_all : pass.own ≡ first_places (length pass.history)
   pub replies : AreReplies text statuses
   pub counted : length statuses ≡ requests
 

@@ -43,6 +43,7 @@ fn serve_opening<W: Wait, R: Realm, G: Gate>(
     let (service, mut passes) = open_service::<W, R>(rt, alloc, opening)?;
     let pass = &mut passes[0];
     let end = serve_session(rt, alloc, &service, pass, trust, clock, link, gate);
+    pass.settle(rt, &service);
     let front = pass.seen();
     service.shut(rt);
     Ok(Past { end, front })

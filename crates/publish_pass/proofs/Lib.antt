@@ -1,3 +1,4 @@
 pub mod PassLemmas
 pub mod Meeting
+pub mod OwnPlaces
 mod Lookups

@@ -32,16 +32,16 @@ module _
     (is : IsHistory facts n after)
   where
     abbrev at_first : Pass
-    at_first = record { facts = facts; number = number; history = before; own = own; places = places_of old; missed = missed }
+    at_first = record { facts = facts; passes = n; number = number; history = before; own = own; places = places_of old; missed = missed }
 
     abbrev met_there : Pass
-    met_there = record { facts = facts; number = number; history = after; own = own; places = places_of old; missed = missed }
+    met_there = record { facts = facts; passes = n; number = number; history = after; own = own; places = places_of old; missed = missed }
 
     meets_there : Meets at_first met_there
     meets_there = record { history = begins; others = refl; missed = le_refl missed; lawful = λ lawful. is.lawful }
 
     abbrev at_end : ℕ → Pass
-    at_end m = record { facts = facts; number = number; history = after; own = own; places = places_of new; missed = m }
+    at_end m = record { facts = facts; passes = n; number = number; history = after; own = own; places = places_of new; missed = m }
 
     same_end : (m : ℕ) → m ≡ missed → at_end missed ≡ at_end m
     same_end m same = ap at_end (sym same)
@@ -56,7 +56,7 @@ module _
             met = met_there;
             seen = meets_there;
             answer = refl;
-            used = ap (λ (p : Places). let t : Pass = record { facts = facts; number = number; history = after; own = own; places = p; missed = missed } in t) there;
+            used = ap (λ (p : Places). let t : Pass = record { facts = facts; passes = n; number = number; history = after; own = own; places = p; missed = missed } in t) there;
           };
           answer = here.answer;
           front = here.front ∙ length-map after (λ (made : Entry × ℕ). made.0);

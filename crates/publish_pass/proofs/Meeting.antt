@@ -1,14 +1,13 @@
--- A pass that learns more and more.
-use Rattle.std.proofs.Common.{◌≡◌, ℕ, List, refl, sym, ap, subst, ◌∙◌}
+-- A pass that learns more and more, and what is done at the desk of one that has met it.
+use Rattle.std.proofs.Common.{◌≡◌, ℕ, refl, ap, ◌∙◌, sym, subst, Result, Ok, Err}
+use Rattle.std.specs.Result.{IfOk}
+use Rattle.kms_names.specs.declared.faults.NoMemory.{NoMemory}
 use Rattle.kms_json.specs.declared.asks.Ask.{Ask}
-use Rattle.account_steps.specs.declared.facts.RealmFacts.{RealmFacts}
-use Rattle.account_steps.specs.History.{Entry}
-use Rattle.account_core.specs.Decide.{IsProper, IsLawful}
 use Rattle.published_account.specs.declared.answered.Answered.{Answered}
-use Rattle.published_account.specs.Pairs.{IsHistory, entries_of}
-use Rattle.published_account.specs.Growing.{IsLongerOf}
-use Rattle.publish_pass.specs.Pass.{Pass, Learns, AnswersChange, AnswersAtDesk, WantsChange, KeepsHouse, WantsHouse, LeavesAtMost, keeping_house}
+use Rattle.published_account.specs.Growing.{Pairs}
+use Rattle.publish_pass.specs.Pass.{Pass, KnewAllIfAlone, MadeAllIfAlone, Learns, AnswersChange, AnswersAtDesk, WantsChange, KeepsHouse, WantsHouse, LeavesAtMost, keeping_house}
 use Rattle.published_account.proofs.Lists.{prefix_self, prefix_trans}
+use Rattle.publish_pass.proofs.OwnPlaces.{all_and_any, all_left}
 
 pub learns_self : (s : Pass) → Learns s s
 learns_self s = record { history = prefix_self s.history; others = refl; lawful = λ is. is }
@@ -20,30 +19,21 @@ learns_trans s t u p q = record {
   lawful = λ is. q.lawful (p.lawful is);
 }
 
-pub changed_on : (s u t : Pass) (x : Ask) (a : Answered) → Learns s u → AnswersAtDesk u x a t → AnswersChange s x a t
-changed_on s u t x a met h = record { reply = h.reply; changes = record { met = u; seen = met; decides = h.decides }; answer = h.answer; front = h.front }
+module _ (s u t : Pass) (met : Learns s u) (knew : KnewAllIfAlone s u) (all : MadeAllIfAlone u) where
+  changed_on : (x : Ask) (a : Answered) → AnswersAtDesk u x a t → AnswersChange s x a t
+  changed_on x a h =
+      let after : MadeAllIfAlone t = subst MadeAllIfAlone (sym h.decides.made) (all_and_any _ _ (all_and_any u _ all)) in
+      record { reply = h.reply; changes = record { met = u; seen = met; decides = h.decides; knew = knew; made_all = after }; answer = h.answer; front = h.front }
 
-pub wanted_on : (s u t : Pass) (x : Ask) → Learns s u → LeavesAtMost u x.moment t → WantsChange s x t
-wanted_on s u t x met left = record { met = u; seen = met; left = left }
+  pub changed_if : (x : Ask) (r : Result Answered NoMemory) (desk : Pairs) → IfOk r (λ a. AnswersAtDesk u x a t × (desk ≡ t.history)) → IfOk r (λ a. AnswersChange s x a t)
+  changed_if x (Ok a) desk h = changed_on x a h.0
+  changed_if x (Err why) desk h = tt
 
-pub kept_on : (s u t : Pass) (clock : ℕ) → Learns s u → t ≡ keeping_house u clock → KeepsHouse s clock t
-kept_on s u t clock met is = record { met = u; seen = met; kept = is }
+  pub wanted_on : (x : Ask) → LeavesAtMost u x.moment t → WantsChange s x t
+  wanted_on x left = record { met = u; seen = met; left = left; knew = knew; made_all = all_left u t x.moment all left }
 
-pub left_on : (s u t : Pass) (clock : ℕ) → Learns s u → LeavesAtMost u clock t → WantsHouse s clock t
-left_on s u t clock met left = record { met = u; seen = met; left = left }
+  pub kept_on : (clock : ℕ) → t ≡ keeping_house u clock → KeepsHouse s clock t
+  kept_on clock is = record { met = u; seen = met; kept = is; knew = knew; made_all = subst MadeAllIfAlone (sym is) (all_and_any u _ all) }
 
-pub changed_after : (s u t : Pass) (x : Ask) (a : Answered) → Learns s u → AnswersChange u x a t → AnswersChange s x a t
-changed_after s u t x a met h =
-    record { reply = h.reply; changes = record { met = h.changes.met; seen = learns_trans s u h.changes.met met h.changes.seen; decides = h.changes.decides }; answer = h.answer; front = h.front }
-
-pub wanted_after : (s u t : Pass) (x : Ask) → Learns s u → WantsChange u x t → WantsChange s x t
-wanted_after s u t x met h = record { met = h.met; seen = learns_trans s u h.met met h.seen; left = h.left }
-
-pub kept_after : (s u t : Pass) (clock : ℕ) → Learns s u → KeepsHouse u clock t → KeepsHouse s clock t
-kept_after s u t clock met h = record { met = h.met; seen = learns_trans s u h.met met h.seen; kept = h.kept }
-
-pub left_after : (s u t : Pass) (clock : ℕ) → Learns s u → WantsHouse u clock t → WantsHouse s clock t
-left_after s u t clock met h = record { met = h.met; seen = learns_trans s u h.met met h.seen; left = h.left }
-
-pub proper_after : (s u : Pass) (x : Ask) → Learns s u → IsProper s.facts x → IsProper u.facts x
-proper_after s u x met proper = subst (λ (f : RealmFacts). IsProper f x) (sym (ap (λ (p : Pass). p.facts) met.others)) proper
+  pub left_on : (clock : ℕ) → LeavesAtMost u clock t → WantsHouse s clock t
+  left_on clock left = record { met = u; seen = met; left = left; knew = knew; made_all = all_left u t clock all left }

@@ -106,5 +106,5 @@ on_err (Ok v) p = tt
 on_err (Err e) p = p
 
 -- one more pass
-pub fresh_passes-push : (facts : RealmFacts) (n : ℕ) → fresh_passes facts (n + 1) ≡ fresh_passes facts n ++ fresh_pass facts (n + 1) ∷ []
-fresh_passes-push facts n = ap (fresh_passes facts) (add-one n) ∙ ap (λ (k : ℕ). fresh_passes facts n ++ fresh_pass facts k ∷ []) (sym (add-one n))
+pub fresh_passes-push : (facts : RealmFacts) (passes n : ℕ) → fresh_passes facts passes (n + 1) ≡ fresh_passes facts passes n ++ fresh_pass facts passes (n + 1) ∷ []
+fresh_passes-push facts passes n = ap (fresh_passes facts passes) (add-one n) ∙ ap (λ (k : ℕ). fresh_passes facts passes n ++ fresh_pass facts passes k ∷ []) (sym (add-one n))

@@ -16,10 +16,12 @@ use Rattle.published_account.specs.Answers.{answer_of, answer_in}
 use Rattle.published_account.specs.Pairs.{Shown, entries_of}
 use Rattle.published_account.specs.Reading.{Rose}
 
--- the facts of its service, its number, the history that it has seen with the number of the pass that made each entry, the places of
--- its own entries, what it has used of its random stream and its initialization vectors, and how often it missed the published account
+-- the facts of its service and how many passes that has, its number, the history that it has seen with the number of the pass that made
+-- each entry, the places of its own entries, what it has used of its random stream and its initialization vectors, and how often it
+-- missed the published account
 pub record Pass : Type 0 where
   pub facts : RealmFacts
+  pub passes : ℕ
   pub number : ℕ
   pub history : List (Entry × ℕ)
   pub own : List ℕ
@@ -33,6 +35,25 @@ making s entry = record s { history = s.history ++ (entry, s.number) ∷ []; own
 abbrev pub making_any : Pass → Option Entry → Pass
 making_any s None = s
 making_any s (Some entry) = making s entry
+
+-- the places of the first n entries
+abbrev pub first_places : ℕ → List ℕ
+first_places zero = []
+first_places (suc n) = first_places n ++ n ∷ []
+
+-- these are places in a history of so many entries, each once and in order
+pub data ArePlaces : ℕ → List ℕ → Type 0 where
+  no_entry : ArePlaces 0 []
+  passed_over : {n : ℕ} {places : List ℕ} → ArePlaces n places → ArePlaces (suc n) places
+  taken : {n : ℕ} {places : List ℕ} → ArePlaces n places → ArePlaces (suc n) (places ++ n ∷ [])
+
+-- where the service has one pass, the history is exactly the pass's own entries
+abbrev pub MadeAllIfAlone : Pass → Type 0
+MadeAllIfAlone s = s.passes ≡ 1 → s.own ≡ first_places (length s.history)
+
+-- and the pass had nothing to learn
+abbrev pub KnewAllIfAlone : Pass → Pass → Type 0
+KnewAllIfAlone s met = s.passes ≡ 1 → met ≡ s
 
 -- the pass at other places
 abbrev pub at_places : Pass → Places → Pass
@@ -101,11 +122,14 @@ pub record AnswersHere (s : Pass) (x : Ask) (a : Answered) (t : Pass) : Type 0 w
 abbrev pub keeping_house : Pass → ℕ → Pass
 keeping_house s clock = making_any s (housekeeping_of (entries_of s.history) clock)
 
--- a request that changes the account: housekeeping comes first, then the decision
+-- A request that changes the account: housekeeping comes first, then the decision. Where the service has one pass, that pass held the
+-- whole history before, and the history which is left is exactly its own entries.
 pub record Changes (s : Pass) (x : Ask) (reply : Reply) (t : Pass) : Type 0 where
   pub met : Pass
   pub seen : Learns s met
   pub decides : Decides (keeping_house met x.moment) x reply t
+  pub knew : KnewAllIfAlone s met
+  pub made_all : MadeAllIfAlone t
 
 -- what is answered to it
 pub record AnswersChange (s : Pass) (x : Ask) (a : Answered) (t : Pass) : Type 0 where
@@ -127,27 +151,39 @@ pub record WantsChange (s : Pass) (x : Ask) (t : Pass) : Type 0 where
   pub met : Pass
   pub seen : Learns s met
   pub left : LeavesAtMost met x.moment t
+  pub knew : KnewAllIfAlone s met
+  pub made_all : MadeAllIfAlone t
+
+-- the pass learns the whole published history
+pub record LearnsAll (s t : Pass) : Type 0 where
+  pub seen : Learns s t
+  pub knew : KnewAllIfAlone s t
+  pub made_all : MadeAllIfAlone t
 
 -- housekeeping at a clock's answer
 pub record KeepsHouse (s : Pass) (clock : ℕ) (t : Pass) : Type 0 where
   pub met : Pass
   pub seen : Learns s met
   pub kept : t ≡ keeping_house met clock
+  pub knew : KnewAllIfAlone s met
+  pub made_all : MadeAllIfAlone t
 
 -- the same for want of memory
 pub record WantsHouse (s : Pass) (clock : ℕ) (t : Pass) : Type 0 where
   pub met : Pass
   pub seen : Learns s met
   pub left : LeavesAtMost met clock t
+  pub knew : KnewAllIfAlone s met
+  pub made_all : MadeAllIfAlone t
 
--- a pass that has seen, made and used nothing
-abbrev pub fresh_pass : RealmFacts → ℕ → Pass
-fresh_pass facts number = record { facts = facts; number = number; history = []; own = []; places = record { number = number; words = 0; ivs = 0 }; missed = 0 }
+-- a pass of a service with so many passes that has seen, made and used nothing
+abbrev pub fresh_pass : RealmFacts → ℕ → ℕ → Pass
+fresh_pass facts passes number = record { facts = facts; passes = passes; number = number; history = []; own = []; places = record { number = number; words = 0; ivs = 0 }; missed = 0 }
 
--- the passes 1 to n, in order
-abbrev pub fresh_passes : RealmFacts → ℕ → List Pass
-fresh_passes facts zero = []
-fresh_passes facts (suc n) = fresh_passes facts n ++ fresh_pass facts (suc n) ∷ []
+-- its passes 1 to n, in order
+abbrev pub fresh_passes : RealmFacts → ℕ → ℕ → List Pass
+fresh_passes facts passes zero = []
+fresh_passes facts passes (suc n) = fresh_passes facts passes n ++ fresh_pass facts passes (suc n) ∷ []
 
 -- a service that isn't open yet: the name and the parts of its ledger, and what is published
 pub record Opening : Type 0 where

@@ -1,12 +1,12 @@
 // The desk.
-ghost use Rattle.std.specs.Prelude.{◌≡◌, ◌<◌, ◌≤◌, ◌++◌, ◌∷◌, [], length, true, IfOk, IfSome, OnOk, OnErr, IsTrue, ◌↔◌};
+ghost use Rattle.std.specs.Prelude.{◌≡◌, ◌<◌, ◌≤◌, ◌++◌, ◌∷◌, [], length, true, IfOk, IfSome, OnOk, OnErr, IsTrue, IsFalse, ◌↔◌};
 ghost use Rattle.std.specs.Arc.{arc_value};
 ghost use Rattle.kms_json.specs.Asks.{changes_account};
 ghost use Rattle.account_core.specs.Decide.{IsProper, IsNext};
 ghost use Rattle.published_account.specs.Answers.{answer_of, answer_in};
 ghost use Rattle.published_account.specs.Pairs.{entries_of};
 ghost use Rattle.published_account.specs.Growing.{IsLongerOf};
-ghost use Rattle.publish_pass.specs.Pass.{Learns, making, keeping_house, AnswersHere, AnswersAtDesk, LeavesAtMost};
+ghost use Rattle.publish_pass.specs.Pass.{Learns, KnewAllIfAlone, MadeAllIfAlone, making, keeping_house, AnswersHere, AnswersAtDesk, LeavesAtMost};
 ghost use Rattle.published_account.specs.Rules.{Names};
 
 use crate::pass::Pass;
@@ -39,7 +39,11 @@ impl<R: Realm> Model for Desk<R> {
 
     ghost view = { λ d. d.writer.desk.shown.value.whole.pairs };
 
-    ghost invariant = { λ d. (d.book.total ≡ length d.writer.desk.shown.value.whole.pairs) × Names R.book R.facts R.passes d.writer.desk.shown.value };
+    ghost invariant = { λ d. record {
+      total : d.book.total ≡ length d.writer.desk.shown.value.whole.pairs;
+      names : Names R.book R.facts R.passes d.writer.desk.shown.value;
+      parts : R.parts ≡ R.passes;
+    } };
 }
 
 impl<R: Realm> Desk<R> {
@@ -47,6 +51,7 @@ impl<R: Realm> Desk<R> {
         requires names { Names R.book R.facts R.passes writer.desk.shown.value }
         requires empty { writer.desk.shown.value.whole.pairs ≡ [] }
         requires total { book.total ≡ 0 }
+        requires parts { R.parts ≡ R.passes }
         ensures { result ≡ [] }
     {
         Desk {
@@ -91,16 +96,19 @@ impl<R: Realm> Desk<R> {
     }
 
     /// The pass learns the desk's whole history. It is true exactly where the pass has then seen as many
-    /// entries as the desk has, and then the two histories are one. The passes have made no more entries than
-    /// there are, and where there is one pass, it made them all. It takes no memory.
+    /// entries as the desk has, and then the two histories are one; else the pass has seen more, and is as it
+    /// was. The pass has made no more entries than there are, and where it is the only one, it made them all and
+    /// knew of them. It takes no memory.
     pub fn meet(&mut self, pass: &mut Pass<R>) -> bool
         ensures desk { self.new ≡ self.old }
         ensures longer { IsLongerOf pass.old.history self.old pass.new.history }
         ensures learns { Learns pass.old pass.new }
         ensures met { IsTrue result ↔ (length pass.new.history ≡ length self.old) }
         ensures same { IsTrue result → pass.new.history ≡ self.old }
+        ensures more { IsFalse result → pass.new ≡ pass.old }
+        ensures passes { pass.new.passes ≡ R.passes }
         ensures bound { length pass.new.own ≤ length self.new }
-        ensures alone { R.parts ≡ 1 → length pass.new.own ≡ length self.new }
+        ensures alone { IsTrue result → KnewAllIfAlone pass.old pass.new × MadeAllIfAlone pass.new }
     {
         self.book.audit(&mut pass.share);
         let line = self.line();
@@ -134,6 +142,7 @@ impl<R: Realm> Desk<R> {
 
     // Publishes the next account, whose last entry the pass makes. Where there is no room for the entry's place it answers want of
     // memory, and nothing is published. So too where the log is longer or full; that doesn't come, since the desk alone makes it longer.
+    #[tactic(auto, using(crate::proofs::OwnPlaces::one_more_place))]
     fn publish<W: Wait>(
         &mut self,
         rt: &W,

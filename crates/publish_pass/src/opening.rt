@@ -96,7 +96,7 @@ fn make_pass<R: Realm>(
     requires number { (0 < number) × (number ≤ R.passes) }
     ensures shown { writer.new.desk.shown.value ≡ writer.old.desk.shown.value }
     ensures view { view writer.new.desk.place ≡ view writer.old.desk.place }
-    ensures pass { IfOk result (λ pass. pass ≡ fresh_pass R.facts number) }
+    ensures pass { IfOk result (λ pass. pass ≡ fresh_pass R.facts R.passes number) }
     ensures share { IfOk result (λ pass. (share.new.parts + 1 ≡ share.old.parts) × (share.new.amount ≡ 0)) }
 {
     let window = open_window(writer)?;
@@ -122,7 +122,7 @@ fn make_passes<R: Realm>(
     requires share { (share.parts ≡ passes) × (share.amount ≡ 0) }
     requires passes { passes ≡ R.passes }
     ensures shown { writer.new.desk.shown.value ≡ writer.old.desk.shown.value }
-    ensures passes { IfOk result (λ ps. ps.items ≡ fresh_passes R.facts passes) }
+    ensures passes { IfOk result (λ ps. ps.items ≡ fresh_passes R.facts R.passes passes) }
 {
     let mut share = share;
     let mut all = Vec::new(alloc);
@@ -180,7 +180,7 @@ fn equip<R: Realm>(
     requires share { (share.parts ≡ passes) × (share.amount ≡ 0) }
     requires passes { passes ≡ R.passes }
     ensures shown { writer.new.desk.shown.value ≡ writer.old.desk.shown.value }
-    ensures passes { IfOk result (λ made. made.0.items ≡ fresh_passes R.facts R.passes) }
+    ensures passes { IfOk result (λ made. made.0.items ≡ fresh_passes R.facts R.passes R.passes) }
     ensures region { IfOk result (λ made. made.1 ≡ R.facts.region) }
 {
     let facts = writer.published().whole().account().facts().copy()?;
@@ -199,7 +199,7 @@ pub fn open_service<W: Wait, R: Realm>(
 ) -> Result<(Service<R>, Vec<Pass<R>>), NoMemory>
     requires ledger { (opening.name ≡ R.name) × (opening.parts ≡ R.parts) }
     requires names { Names R.book R.facts R.passes opening.shown }
-    ensures { IfOk result (λ opened. opened.1.items ≡ fresh_passes R.facts R.passes) }
+    ensures { IfOk result (λ opened. opened.1.items ≡ fresh_passes R.facts R.passes R.passes) }
 {
     let Opening {
         mut writer,

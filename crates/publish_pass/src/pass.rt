@@ -5,7 +5,7 @@ ghost use Rattle.account_core.specs.Decide.{IsProper};
 ghost use Rattle.account_steps.specs.Places.{first_line};
 ghost use Rattle.published_account.specs.Growing.{IsLongerOf};
 ghost use Rattle.published_account.specs.Pairs.{IsHistory};
-ghost use Rattle.publish_pass.specs.Pass.{fresh_pass, Learns, AnswersRead, LacksRead};
+ghost use Rattle.publish_pass.specs.Pass.{fresh_pass, ArePlaces, Learns, AnswersRead, LacksRead};
 
 use crate::told::Told;
 use draw_lines::DrawLine;
@@ -15,9 +15,9 @@ use std::alloc::Global;
 use std::marker::Model;
 use std::sync::ledger::Share;
 
-/// One connection's hold on the service. Contracts see the facts, its number, the history that it has
-/// seen with the maker of each entry, the places of its own entries, what it has used of its random
-/// stream and of its initialization vectors, and how often it missed the published account.
+/// One connection's hold on the service. Contracts see the facts and the number of passes of the service, its
+/// number, the history that it has seen with the maker of each entry, the places of its own entries, what it has
+/// used of its random stream and of its initialization vectors, and how often it missed the published account.
 #[derive(Drop)]
 pub struct Pass<R: Realm> {
     pub(crate) number: u16,
@@ -35,11 +35,12 @@ impl<R: Realm> Model for Pass<R> {
 
     ghost Value = { passes.Pass };
 
-    ghost view = { λ p. record { facts = R.facts; number = p.number; history = p.line; own = p.own.items; places = places_of p.draws; missed = p.entrance } };
+    ghost view = { λ p. record { facts = R.facts; passes = R.passes; number = p.number; history = p.line; own = p.own.items; places = places_of p.draws; missed = p.entrance } };
 
     ghost invariant = { λ p. record {
       parts : p.share.parts ≡ 1;
       amount : p.share.amount ≡ length p.own.items;
+      own : passes.ArePlaces (length p.line) p.own.items;
       first : 0 < p.number;
       last : p.number ≤ R.passes;
       draws : IsLineOf R.facts p.draws;
@@ -49,6 +50,7 @@ impl<R: Realm> Model for Pass<R> {
 
 impl<R: Realm> Pass<R> {
     // A pass that has seen, made and used nothing.
+    #[tactic(auto, using(crate::proofs::OwnPlaces::no_places))]
     pub(crate) fn new(
         number: u16,
         entrance: Entrance<R>,
@@ -61,7 +63,7 @@ impl<R: Realm> Pass<R> {
         requires empty { (entrance ≡ 0) × (line ≡ []) × (own.items ≡ []) }
         requires draws { draws ≡ first_line R.facts number }
         requires share { (share.parts ≡ 1) × (share.amount ≡ 0) }
-        ensures { result ≡ fresh_pass R.facts number }
+        ensures { result ≡ fresh_pass R.facts R.passes number }
     {
         Pass {
             number,
@@ -74,11 +76,14 @@ impl<R: Realm> Pass<R> {
     }
 
     /// The number of entries that the pass has seen. Each of them is one that may come next after those
-    /// before it, and was made by one of the passes. The facts are those of the service. It takes no memory.
+    /// before it, and was made by one of the passes; those that this pass made are among them. The facts are those of the
+    /// service. It takes no memory.
     pub fn seen(&self) -> u64
         ensures number { result ≡ length self.now.history }
         ensures facts { self.now.facts ≡ R.facts }
+        ensures passes { self.now.passes ≡ R.passes }
         ensures history { IsHistory R.facts R.passes self.now.history }
+        ensures own { ArePlaces (length self.now.history) self.now.own }
     {
         self.line.len()
     }
@@ -89,6 +94,7 @@ impl<R: Realm> Pass<R> {
     /// The pass then holds the history that the answer stands on, and has used what a request that is served
     /// uses of the random stream and of the initialization vectors; without memory at most so much. At
     /// `NotEntered` it is as it was, but for the count of misses, and the caller asks again.
+    #[tactic(auto, using(crate::proofs::OwnPlaces::places_stay))]
     pub fn read(&mut self, alloc: Global, ask: &Ask) -> Result<Answered, Unread>
         requires proper { IsProper self.old.facts ask.now }
         requires reads { changes_account ask.now.body ≡ false }
@@ -129,6 +135,7 @@ impl<R: Realm> Pass<R> {
     }
 
     // Learns a beginning of the history.
+    #[tactic(auto, using(crate::proofs::OwnPlaces::places_stay))]
     pub(crate) fn learn_line(&mut self, line: &Line<R>)
         ensures longer { IsLongerOf self.old.history line.now self.new.history }
         ensures learns { Learns self.old self.new }

@@ -1,8 +1,8 @@
 // The service: the desk and the board, each behind its lock.
-ghost use Rattle.std.specs.Prelude.{◌≡◌, ◌<◌, true, IfOk, OnOk, OnErr, IfSome, IfNone};
+ghost use Rattle.std.specs.Prelude.{◌≡◌, ◌<◌, true, IfOk, OnOk, OnErr, IfSome, IfNone, IsTrue, IsFalse};
 ghost use Rattle.kms_json.specs.Asks.{changes_account};
 ghost use Rattle.account_core.specs.Decide.{IsProper};
-ghost use Rattle.publish_pass.specs.Pass.{Learns, AnswersChange, WantsChange, KeepsHouse, WantsHouse};
+ghost use Rattle.publish_pass.specs.Pass.{Learns, LearnsAll, AnswersChange, WantsChange, KeepsHouse, WantsHouse};
 
 use crate::desk::Desk;
 use crate::pass::Pass;
@@ -54,7 +54,7 @@ impl<R: Realm> Service<R> {
 
 // Locks the desk, and changes the account where the desk's history is then the pass's. It is None where the pass
 // has seen more than the desk.
-#[tactic(auto, using(crate::proofs::Meeting::changed_on, crate::proofs::Meeting::wanted_on))]
+#[tactic(auto, using(crate::proofs::Meeting::wanted_on))]
 fn try_change<R: Realm, W: Wait, G: Gate>(
     rt: &W,
     alloc: Global,
@@ -65,7 +65,7 @@ fn try_change<R: Realm, W: Wait, G: Gate>(
 ) -> Option<Result<Answered, NoMemory>>
     requires proper { IsProper pass.old.facts ask.now }
     requires changes { changes_account ask.now.body ≡ true }
-    ensures none { IfNone result (Learns pass.old pass.new) }
+    ensures none { IfNone result (pass.new ≡ pass.old) }
     ensures answer { IfSome result (λ r. IfOk r (λ a. AnswersChange pass.old ask.now a pass.new)) }
     ensures wants { IfSome result (λ r. OnErr r (WantsChange pass.old ask.now pass.new)) }
 {
@@ -89,7 +89,7 @@ fn try_keep_house<R: Realm, W: Wait>(
     moment: u64,
 ) -> Option<Result<(), NoMemory>>
     requires { moment < 253402300800 }
-    ensures none { IfNone result (Learns pass.old pass.new) }
+    ensures none { IfNone result (pass.new ≡ pass.old) }
     ensures kept { IfSome result (λ r. OnOk r (KeepsHouse pass.old moment pass.new)) }
     ensures wants { IfSome result (λ r. OnErr r (WantsHouse pass.old moment pass.new)) }
 {
@@ -103,8 +103,11 @@ fn try_keep_house<R: Realm, W: Wait>(
     None
 }
 
+// The pass learns the desk's history. It is false where the pass has seen more than the desk.
 fn try_settle<R: Realm, W: Wait>(rt: &W, service: &Service<R>, pass: &mut Pass<R>) -> bool
-    ensures { Learns pass.old pass.new }
+    ensures all { IsTrue result → LearnsAll pass.old pass.new }
+    ensures none { IsFalse result → pass.new ≡ pass.old }
+    ensures passes { pass.new.passes ≡ R.passes }
 {
     let mut desk = service.desk.lock(rt);
     let met = desk.meet(pass);
@@ -117,10 +120,10 @@ impl<R: Realm> Pass<R> {
 
     /// Answers a request that changes the account, at a history that holds all that this pass has seen, and
     /// appends its entry, if it has one. Housekeeping comes first. The pass then holds the whole published
-    /// history. For want of memory at most the entry of housekeeping was appended.
+    /// history. Where the service has one pass, it held that before, and made all its entries. For want of memory at
+    /// most the entry of housekeeping was appended.
     ///
     /// It locks the desk. The next account and the reply's body are made before the entry is published.
-    #[tactic(auto, using(crate::proofs::Meeting::learns_self, crate::proofs::Meeting::learns_trans, crate::proofs::Meeting::changed_after, crate::proofs::Meeting::wanted_after, crate::proofs::Meeting::proper_after))]
     pub fn change<W: Wait, G: Gate>(
         &mut self,
         rt: &W,
@@ -144,7 +147,6 @@ impl<R: Realm> Pass<R> {
 
     /// Appends the entry of housekeeping at the clock's answer, if one is due at the whole published history,
     /// which the pass then holds. For want of memory at most that entry was appended.
-    #[tactic(auto, using(crate::proofs::Meeting::learns_self, crate::proofs::Meeting::learns_trans, crate::proofs::Meeting::kept_after, crate::proofs::Meeting::left_after))]
     pub fn keep_house<W: Wait>(
         &mut self,
         rt: &W,
@@ -164,10 +166,11 @@ impl<R: Realm> Pass<R> {
         unreachable!()
     }
 
-    /// Learns the desk's whole history. It takes no memory.
-    #[tactic(auto, using(crate::proofs::Meeting::learns_self, crate::proofs::Meeting::learns_trans))]
+    /// Learns the whole published history, which is that of the desk. Where the service has one pass, it held
+    /// that before, and made all its entries. It takes no memory.
     pub fn settle<W: Wait>(&mut self, rt: &W, service: &Service<R>)
-        ensures { Learns self.old self.new }
+        ensures all { LearnsAll self.old self.new }
+        ensures passes { self.new.passes ≡ R.passes }
     {
         for _ in rt.forever() {
             if try_settle(rt, service, self) {

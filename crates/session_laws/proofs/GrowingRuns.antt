@@ -45,7 +45,7 @@ answer_on s plan answer t (changes x reply is which h has) =
     on_trans s h.met t h.seen.history (on_trans h.met kept t (house_on h.met x.moment) (subst (On kept) (sym h.decides.made) made))
 
 wanting_on : (s : Pass) (plan : Plan) (t : Pass) → Wanting s plan t → On s t
-wanting_on s plan t (wants_nothing answer is same) = on_same s t same
+wanting_on s plan t (wants_nothing same) = on_same s t same
 wanting_on s plan t (wants_read x is which h) = read_on s h.met t h.seen.history (ap (λ (p : Pass). p.history) h.used)
 wanting_on s plan t (wants_change x is which h) = on_trans s h.met t h.seen.history (left_on h.met t x.moment h.left)
 

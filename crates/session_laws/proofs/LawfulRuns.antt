@@ -147,7 +147,7 @@ module _ (facts : RealmFacts) (trust : Trust) (region : List ℕ) (c : ℕ) (bef
   left_places met t clock (inr house) = ap (λ (p : Pass). p.places) house ∙ any_places met (housekeeping_of (entries_of met.history) clock)
 
   wanting_steps : (s t : Pass) → HasLawful facts s → Wanting s (plan_of trust region item c) t → Steps facts s t
-  wanting_steps s t is (wants_nothing answer plan same) = record { lawful = same_pass facts s t same is; on = stays facts s t (ap (λ (p : Pass). p.places) same) }
+  wanting_steps s t is (wants_nothing same) = record { lawful = same_pass facts s t same is; on = stays facts s t (ap (λ (p : Pass). p.places) same) }
   wanting_steps s t is (wants_read x plan which h) =
       let there = read_lawful facts s h.met h.seen is in
       let at_most = subst (λ (f : RealmFacts). IsUpTo h.met.places h.places (decide f (entries_of h.met.history) x h.met.places).places) there.0 h.at_most in

@@ -1,15 +1,15 @@
 // What follows from the definitions alone.
 ghost use Rattle.session_laws.specs.Laws.{OneCut, OneEnd, RunsKeepLawful, TurnsGoOn, RunsGoOn, OneSessionRepeatsNoIv};
 
-/// A stream is cut into messages in one way: two cuts into as many items have the same items and the
-/// same rest.
+/// A stream is cut into messages in one way: two cuts into as many items have the same rest and the same items,
+/// but that bytes of which no head can come may bear another fault.
 pub fn one_cut()
     ensures { OneCut }
 {}
 
 /// Of the ends Ended, Closed and CutOff no two can hold of one session whose link tells the bytes
-/// taken. So each of them comes exactly by its cause wherever no read or write failed and memory did
-/// not lack.
+/// taken, but that one may be cut off or closed whose last bytes no head can come of, or have more than
+/// 64 headers. So where a run over the bytes taken meets the cause of one, none of the others is answered.
 pub fn one_end()
     ensures { OneEnd }
 {}

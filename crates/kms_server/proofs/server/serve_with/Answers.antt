@@ -14,13 +14,13 @@ gather-requires-clause-ears g c =
     let gains = c.in-Open.ensures.1 in
     let ears : c.open.new.ears.items ≡ gains.ears = gains.list ∙ ap (λ before. before ++ gains.ears) c.new-ears.ensures.items in
     let number : length c.open.new.ears.items ≡ c.args.order.now.workers = ap length ears ∙ gains.number in
-    let passes : length c.args.passes.items ≡ g.R.Realm.passes = ap length c.requires.passes ∙ length_fresh g.R.Realm.facts g.R.Realm.passes in
+    let passes : length c.args.passes.items ≡ g.R.Realm.passes = ap length c.requires.passes ∙ length_fresh g.R.Realm.facts g.R.Realm.passes g.R.Realm.passes in
     let workers : g.R.Realm.passes ≡ c.args.order.now.workers = c.requires.workers.0 in
     omega (arith, c.open.new.ears.ok, c.args.passes.ok)
 
 pub gather-requires-clause-clocks : goal.gather-requires-clause-clocks
 gather-requires-clause-clocks g c =
-    let passes : length c.args.passes.items ≡ g.R.Realm.passes = ap length c.requires.passes ∙ length_fresh g.R.Realm.facts g.R.Realm.passes in
+    let passes : length c.args.passes.items ≡ g.R.Realm.passes = ap length c.requires.passes ∙ length_fresh g.R.Realm.facts g.R.Realm.passes g.R.Realm.passes in
     let workers : g.R.Realm.passes ≡ c.args.order.now.workers = c.requires.workers.0 in
     let few : c.args.order.now.workers ≤ 64 = c.requires.workers.2 in
     omega (arith, c.args.passes.ok, c.requires.clocks)
@@ -33,7 +33,7 @@ gather-requires-clause-new g c =
 
 pub work_all-requires-clause-some : goal.work_all-requires-clause-some
 work_all-requires-clause-some g c = λ _ _.
-    let passes : length c.args.passes.items ≡ g.R.Realm.passes = ap length c.requires.passes ∙ length_fresh g.R.Realm.facts g.R.Realm.passes in
+    let passes : length c.args.passes.items ≡ g.R.Realm.passes = ap length c.requires.passes ∙ length_fresh g.R.Realm.facts g.R.Realm.passes g.R.Realm.passes in
     let workers : g.R.Realm.passes ≡ c.args.order.now.workers = c.requires.workers.0 in
     let some : 0 < c.args.order.now.workers = c.requires.workers.1 in
     omega (arith, c.args.passes.ok, c.gather.ensures.size, c.as_mut_slice.ensures.len)
@@ -47,7 +47,7 @@ work_all-requires-clause-new g c = λ _ _. subst (λ workers. All (λ worker. wo
 
 pub finish-served-requires-clause-some : goal.finish-served-requires-clause-some
 finish-served-requires-clause-some g c =
-    let passes : length c.args.passes.items ≡ g.R.Realm.passes = ap length c.requires.passes ∙ length_fresh g.R.Realm.facts g.R.Realm.passes in
+    let passes : length c.args.passes.items ≡ g.R.Realm.passes = ap length c.requires.passes ∙ length_fresh g.R.Realm.facts g.R.Realm.passes g.R.Realm.passes in
     let workers : g.R.Realm.passes ≡ c.args.order.now.workers = c.requires.workers.0 in
     let some : 0 < c.args.order.now.workers = c.requires.workers.1 in
     omega (arith, c.args.passes.ok, c.gather.ensures.size)
@@ -57,7 +57,7 @@ finish-served-requires-clause-few g c =
     let seen = state_of g.C.Clock.told g.D.Listener.Ear.shows in
     let begun = c.as_mut_slice.result.now in
     let ended = c.work_all.new.crew in
-    let passes : length c.args.passes.items ≡ g.R.Realm.passes = ap length c.requires.passes ∙ length_fresh g.R.Realm.facts g.R.Realm.passes in
+    let passes : length c.args.passes.items ≡ g.R.Realm.passes = ap length c.requires.passes ∙ length_fresh g.R.Realm.facts g.R.Realm.passes g.R.Realm.passes in
     let workers : g.R.Realm.passes ≡ c.args.order.now.workers = c.requires.workers.0 in
     let few : c.args.order.now.workers ≤ 64 = c.requires.workers.2 in
     let each : c.args.host.now.connections ≤ 1000000000 = omega (arith, c.requires.connections.0, c.requires.connections.1) in
@@ -72,7 +72,7 @@ finish-served-requires-clause-ears g c =
     let gains = c.in-Open.ensures.1 in
     let ears : c.open.new.ears.items ≡ gains.ears = gains.list ∙ ap (λ before. before ++ gains.ears) c.new-ears.ensures.items in
     let number : length c.open.new.ears.items ≡ c.args.order.now.workers = ap length ears ∙ gains.number in
-    let passes : length c.args.passes.items ≡ g.R.Realm.passes = ap length c.requires.passes ∙ length_fresh g.R.Realm.facts g.R.Realm.passes in
+    let passes : length c.args.passes.items ≡ g.R.Realm.passes = ap length c.requires.passes ∙ length_fresh g.R.Realm.facts g.R.Realm.passes g.R.Realm.passes in
     let workers : g.R.Realm.passes ≡ c.args.order.now.workers = c.requires.workers.0 in
     omega (arith, c.open.new.ears.ok.0, c.open.new.ears.ok.1, c.args.passes.ok.0, c.gather.ensures.ears_room, c.gather.ensures.size)
 
@@ -85,14 +85,14 @@ returns g c =
     let ended = c.work_all.new.crew in
     let served = c.finish-served.ensures in
     let workers : g.R.Realm.passes ≡ c.args.order.now.workers = c.requires.workers.0 in
-    let size : c.args.passes.len ≡ c.args.order.now.workers = c.args.passes.ok.0 ∙ ap length c.requires.passes ∙ length_fresh g.R.Realm.facts g.R.Realm.passes ∙ workers in
+    let size : c.args.passes.len ≡ c.args.order.now.workers = c.args.passes.ok.0 ∙ ap length c.requires.passes ∙ length_fresh g.R.Realm.facts g.R.Realm.passes g.R.Realm.passes ∙ workers in
     let back = written_back c.gather.new.crew.len ended (drop (length ended) c.gather.new.crew.items) (omega (arith, c.work_all.auto.crew, c.as_mut_slice.ensures.len)) in
     record {
       opened = g.D.Door.shows c.open.new.self;
       asked = c.in-Open.ensures.0;
       crew = map seen hired;
       is_crew = record {
-        passes_are = map_map (λ state. state.pass) seen hired ∙ c.gather.ensures.passes ∙ c.requires.passes ∙ ap (fresh_passes g.R.Realm.facts) workers;
+        passes_are = map_map (λ state. state.pass) seen hired ∙ c.gather.ensures.passes ∙ c.requires.passes ∙ ap (λ (n : ℕ). fresh_passes g.R.Realm.facts n n) workers;
         clocks_are = map_map (λ state. state.clock) seen hired ∙ sym (map_map told (λ worker. worker.clock) hired) ∙ ap (map told) c.gather.ensures.clocks
             ∙ sym (take-map told c.args.passes.len clocks) ∙ ap (λ (n : ℕ). take n (map told clocks)) size;
         ears = All-map (λ state. IsNewEar state.ear) seen hired c.gather.ensures.ears;

@@ -13,7 +13,7 @@ returns c = λ seed serving.
     let few : c.args.requests < 2 ^ 32 = omega arith in
     let over : is_over c.args.past.end ≡ true = sym c.if-not-is_over.ensures in
     let calls : calls_of c.args.clock.now ≡ c.args.requests = cc (c.calls.ensures, c.if-calls-from.false, c.from.ensures) in
-    let made = of_end seed c.args.requests c.args.past.end serving.pass (wire_of link) (seconds_so_far c.args.clock.now) text (left_of link)
+    let made = of_end seed c.args.requests c.args.past.end serving.pass serving.made_all (wire_of link) (seconds_so_far c.args.clock.now) text (left_of link)
     serving.ends over c.written.ensures refl (clock_tells (calls_of c.args.clock.now) c.args.requests calls few) (λ statuses are. (c.in-Some.ensures.counted statuses are).0) in
     record {
       pass = serving.pass;

@@ -5,13 +5,12 @@ use Rattle.publish_pass.proofs.opening.make_passes.Goals as goal
 
 pub loop-i-preserved : goal.loop-i-preserved
 loop-i-preserved g c =
-    let facts = g.R.Realm.facts in
     let before = c.loop-i.invariant in
     let share = c.in_ok-pass.ensures.share in
     let pushed = c.in_ok-push.ensures.items ∙ ap₂ (λ (all : List Pass) (p : Pass). all ++ p ∷ []) before.2 c.in_ok-pass.ensures.pass in (
       omega (arith, before.0, share.0),
       share.1,
-      pushed ∙ sym (fresh_passes-push facts c.loop-i.i),
+      pushed ∙ sym (fresh_passes-push g.R.Realm.facts g.R.Realm.passes c.loop-i.i),
       c.make_pass.ensures.shown ∙ before.3,
       c.make_pass.ensures.view ∙ before.4,
     )

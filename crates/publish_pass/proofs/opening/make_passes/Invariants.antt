@@ -5,4 +5,4 @@ use Rattle.publish_pass.proofs.opening.make_passes.Given as goal
 
 abbrev pub invariant-loop-i : goal.invariant-loop-i
 invariant-loop-i g l =
-    (l.share.parts + l.i ≡ l.passes) × (l.share.amount ≡ 0) × (l.all.items ≡ fresh_passes g.R.Realm.facts l.i) × (l.writer.desk.shown.value ≡ l.fn.writer.desk.shown.value) × (view l.writer.desk.place ≡ view l.fn.writer.desk.place)
+    (l.share.parts + l.i ≡ l.passes) × (l.share.amount ≡ 0) × (l.all.items ≡ fresh_passes g.R.Realm.facts g.R.Realm.passes l.i) × (l.writer.desk.shown.value ≡ l.fn.writer.desk.shown.value) × (view l.writer.desk.place ≡ view l.fn.writer.desk.place)

@@ -1,7 +1,7 @@
-use Rattle.publish_pass.specs.Pass.{Learns}
+use Rattle.std.proofs.Common.{◌≡◌}
 use Rattle.publish_pass.proofs.pass.Pass.keep_house.Given as goal
 
 abbrev pub invariant-loop : goal.invariant-loop
 invariant-loop g l =
     (goal.iterator-loop g).can_next l.iterator' × (goal.iterator-loop g).is_finite l.iterator'
-    × Learns l.fn.self l.self
+    × (l.self ≡ l.fn.self)
