@@ -1,4 +1,5 @@
 mod OneCut
 mod OneEnd
+mod Complete
 mod LawfulRuns
 mod GrowingRuns

@@ -15,31 +15,31 @@ use Rattle.session_laws.specs.Laws.{TellsTaken, OneEnd}
 use Rattle.session_laws.proofs.OneCut.{one_cut_open, not_both}
 
 -- bytes that are open and go on all the same
-abbrev IsUndecided : List ℕ → Type 0
+abbrev pub IsUndecided : List ℕ → Type 0
 IsUndecided rest = NeverHasRequest rest ⊎ IsCrowded rest
 
 -- what stands in a cut before an item of it: a message, or at the end of a cut that closes a fault
-abbrev GoesOnFrom : Bool → List ℕ → Type 0
+abbrev pub GoesOnFrom : Bool → List ℕ → Type 0
 GoesOnFrom closes rest = HasMessage rest ⊎ ((closes ≡ true) × ((why : HttpFault) × IsRefused rest why))
 
-stuck : (closes : Bool) (rest : List ℕ) → IsOpen rest → GoesOnFrom closes rest → IsUndecided rest
+pub stuck : (closes : Bool) (rest : List ℕ) → IsOpen rest → GoesOnFrom closes rest → IsUndecided rest
 stuck closes rest o (inl h) = absurd ((one_answer_lem rest).not_message_and_open h o)
 stuck closes rest o (inr h) = (one_answer_lem rest).open_and_refused h.1.0 o h.1.1
 
-stuck_open : (rest : List ℕ) → IsOpen rest → GoesOnFrom false rest → ⊥
+pub stuck_open : (rest : List ℕ) → IsOpen rest → GoesOnFrom false rest → ⊥
 stuck_open rest o (inl h) = (one_answer_lem rest).not_message_and_open h o
 stuck_open rest o (inr h) = let bad : false ≡ true = h.0 in cc
 
 -- no bytes are open
-nothing_open : IsOpen []
+pub nothing_open : IsOpen []
 nothing_open = (1, empty_awaited)
 
-record Before (stream : List ℕ) (closes : Bool) (n : ℕ) : Type 0 where
-  items : List Item
-  rest : List ℕ
-  cuts : Cuts stream false items rest
-  number : length items ≡ n
-  next : GoesOnFrom closes rest
+pub record Before (stream : List ℕ) (closes : Bool) (n : ℕ) : Type 0 where
+  pub items : List Item
+  pub rest : List ℕ
+  pub cuts : Cuts stream false items rest
+  pub number : length items ≡ n
+  pub next : GoesOnFrom closes rest
 
 goes_anyhow : (closes : Bool) (rest : List ℕ) → GoesOnFrom false rest → GoesOnFrom closes rest
 goes_anyhow closes rest (inl h) = inl h
@@ -48,7 +48,7 @@ goes_anyhow closes rest (inr h) = let bad : false ≡ true = h.0 in cc
 before_anyhow : {stream : List ℕ} {n : ℕ} (closes : Bool) → Before stream false n → Before stream closes n
 before_anyhow closes b = record { items = b.items; rest = b.rest; cuts = b.cuts; number = b.number; next = goes_anyhow closes b.rest b.next }
 
-compared : (a b : ℕ) → (a < b) ⊎ ((a ≡ b) ⊎ (b < a))
+pub compared : (a b : ℕ) → (a < b) ⊎ ((a ≡ b) ⊎ (b < a))
 compared zero zero = inr (inl refl)
 compared zero (suc b) = inl (omega arith)
 compared (suc a) zero = inr (inr (omega arith))
@@ -57,13 +57,13 @@ compared (suc a) (suc b) = elim (compared a b) as (λ _. (suc a < suc b) ⊎ ((s
   | inr h ↦ elim h as (λ _. (suc a < suc b) ⊎ ((suc a ≡ suc b) ⊎ (suc b < suc a))) [ inl e ↦ inr (inl (ap suc e)) | inr g ↦ inr (inr (omega (arith, g))) ]
 ]
 
-split : (a b : ℕ) → b < a + 1 → (b ≡ a) ⊎ (b < a)
+pub split : (a b : ℕ) → b < a + 1 → (b ≡ a) ⊎ (b < a)
 split a b h = elim (compared b a) as (λ _. (b ≡ a) ⊎ (b < a)) [
   | inl l ↦ inr l
   | inr k ↦ elim k as (λ _. (b ≡ a) ⊎ (b < a)) [ inl e ↦ inl e | inr g ↦ absurd (omega (arith, h, g)) ]
 ]
 
-before_open : {stream rest : List ℕ} {items : List Item} → Cuts stream false items rest → (n : ℕ) → n < length items → Before stream false n
+pub before_open : {stream rest : List ℕ} {items : List Item} → Cuts stream false items rest → (n : ℕ) → n < length items → Before stream false n
 before_open nothing n h = absurd (omega (arith, h))
 before_open {stream = stream} (message {items} {rest} {text} {more} {m} cuts e is cl) n h =
     let near : n < length items + 1 = subst (λ (k : ℕ). n < k) (length-append items (whole m ∷ [])) h in
@@ -72,7 +72,7 @@ before_open {stream = stream} (message {items} {rest} {text} {more} {m} cuts e i
       | inr less ↦ before_open cuts n less
     ]
 
-before : {stream rest : List ℕ} {closes : Bool} {items : List Item} → Cuts stream closes items rest → (n : ℕ) → n < length items → Before stream closes n
+pub before : {stream rest : List ℕ} {closes : Bool} {items : List Item} → Cuts stream closes items rest → (n : ℕ) → n < length items → Before stream closes n
 before nothing n h = absurd (omega (arith, h))
 before {stream = stream} {closes = closes} (message {items} {rest} {text} {more} {m} cuts e is cl) n h =
     let near : n < length items + 1 = subst (λ (k : ℕ). n < k) (length-append items (whole m ∷ [])) h in
@@ -88,7 +88,7 @@ before {stream = stream} (no_message {items} {rest} why cuts refused) n h =
     ]
 
 -- two cuts into as many items close alike
-one_close : {stream rest last : List ℕ} {closes other : Bool} {items others : List Item} → Cuts stream closes items rest → Cuts stream other others last → length items ≡ length others → closes ≡ other
+pub one_close : {stream rest last : List ℕ} {closes other : Bool} {items others : List Item} → Cuts stream closes items rest → Cuts stream other others last → length items ≡ length others → closes ≡ other
 one_close nothing nothing h = refl
 one_close nothing (message {items} c s is cl) h = absurd (omega (arith, simp length-append at h))
 one_close nothing (no_message {items} why c n) h = absurd (omega (arith, simp length-append at h))
@@ -108,14 +108,14 @@ one_close (no_message {items} why c n) (message {items = items'} {more = more'} 
 one_close (no_message {items} why c n) (no_message {items = items'} why' c' n') h = refl
 
 -- where a cut is open no other goes on from there without closing
-no_longer_cut : {stream rest last : List ℕ} {items others : List Item} → Cuts stream false items rest → Cuts stream false others last → IsOpen last → length others < length items → ⊥
+pub no_longer_cut : {stream rest last : List ℕ} {items others : List Item} → Cuts stream false items rest → Cuts stream false others last → IsOpen last → length others < length items → ⊥
 no_longer_cut {last = last} {others = others} c d o h =
     let b = before_open c (length others) h in
     let same = one_cut_open b.cuts d b.number in
     stuck_open last o (subst (GoesOnFrom false) same.1 b.next)
 
 -- a cut that closes and one that is open are of one stream only where the open rest may be refused too
-closed_or_open : {stream rest last : List ℕ} {items others : List Item} → Cuts stream true items rest → Cuts stream false others last → IsOpen last → IsUndecided last
+pub closed_or_open : {stream rest last : List ℕ} {items others : List Item} → Cuts stream true items rest → Cuts stream false others last → IsOpen last → IsUndecided last
 closed_or_open {last = last} {items = items} {others = others} c d o =
     elim (compared (length others) (length items)) as (λ _. IsUndecided last) [
       | inl less ↦
@@ -129,7 +129,7 @@ closed_or_open {last = last} {items = items} {others = others} c d o =
     ]
 
 -- two open cuts leave the same rest
-one_rest : {stream rest last : List ℕ} {items others : List Item} → Cuts stream false items rest → Cuts stream false others last → IsOpen rest → IsOpen last → rest ≡ last
+pub one_rest : {stream rest last : List ℕ} {items others : List Item} → Cuts stream false items rest → Cuts stream false others last → IsOpen rest → IsOpen last → rest ≡ last
 one_rest {rest = rest} {last = last} {items = items} {others = others} c d s t =
     elim (compared (length items) (length others)) as (λ _. rest ≡ last) [
       | inl less ↦ absurd (no_longer_cut d c s less)

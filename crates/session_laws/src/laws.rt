@@ -1,5 +1,5 @@
 // What follows from the definitions alone.
-ghost use Rattle.session_laws.specs.Laws.{OneCut, OneEnd, RunsKeepLawful, TurnsGoOn, RunsGoOn, OneSessionRepeatsNoIv};
+ghost use Rattle.session_laws.specs.Laws.{OneCut, OneEnd, EachMessageIsAnswered, RunsKeepLawful, TurnsGoOn, RunsGoOn, OneSessionRepeatsNoIv};
 
 /// A stream is cut into messages in one way: two cuts into as many items have the same rest and the same items,
 /// but that bytes of which no head can come may bear another fault.
@@ -12,6 +12,14 @@ pub fn one_cut()
 /// 64 headers. So where a run over the bytes taken meets the cause of one, none of the others is answered.
 pub fn one_end()
     ensures { OneEnd }
+{}
+
+/// A session over a link that has only whole messages to give, or some up to one that closes, and whose
+/// counts of faults don't rise, answers each of them once and in order, or by the one fixed reply for want of
+/// memory in an answer's place; it writes nothing else, and ends with Ended, or with Closed where the last one
+/// closes. Or it ends with NoMemory, and took nothing.
+pub fn each_message_is_answered()
+    ensures { EachMessageIsAnswered }
 {}
 
 /// A run of turns keeps the facts and a lawful history lawful. So the laws of lawful histories hold of

@@ -4,5 +4,6 @@
 mod laws;
 
 pub use laws::{
-    histories_only_grow, one_cut, one_end, one_session_repeats_no_iv, runs_keep_lawful,
+    each_message_is_answered, histories_only_grow, one_cut, one_end, one_session_repeats_no_iv,
+    runs_keep_lawful,
 };
