@@ -108,6 +108,7 @@ impl<R: Realm> Desk<R> {
         ensures more { IsFalse result → pass.new ≡ pass.old }
         ensures passes { pass.new.passes ≡ R.passes }
         ensures bound { length pass.new.own ≤ length self.new }
+        ensures whole { R.parts ≡ 1 → length pass.new.own ≡ length self.new }
         ensures alone { IsTrue result → KnewAllIfAlone pass.old pass.new × MadeAllIfAlone pass.new }
     {
         self.book.audit(&mut pass.share);
