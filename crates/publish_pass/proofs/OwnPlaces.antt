@@ -1,8 +1,8 @@
 -- The places of a pass's own entries.
-use Rattle.std.proofs.Common.{◌≡◌, ◌≢◌, ℕ, zero, suc, ◌+◌, ◌≤◌, ◌<◌, List, [], ◌∷◌, ◌++◌, length, length-append, append-nil, Option, Some, None, refl, sym, ap, ◌∙◌, subst, arith, ◌⊎◌, inl, inr}
+use Rattle.std.proofs.Common.{◌≡◌, ℕ, zero, suc, ◌+◌, ◌≤◌, List, [], ◌∷◌, ◌++◌, length, length-append, append-nil, Option, Some, None, refl, sym, ap, ◌∙◌, subst, arith, ◌⊎◌, inl, inr}
 use mathlib.Core.List.{IsPrefix}
 use Rattle.account_steps.specs.History.{Entry}
-use Rattle.published_account.specs.Growing.{Pairs, IsLongerOf}
+use Rattle.published_account.specs.Growing.{Pairs}
 use Rattle.publish_pass.specs.Pass.{Pass, Learns, making, making_any, LeavesAtMost, MadeAllIfAlone, ArePlaces, no_entry, passed_over, taken, first_places}
 
 length_push : {A : Type 0} (xs : List A) (x : A) → length (xs ++ x ∷ []) ≡ suc (length xs)
@@ -65,14 +65,6 @@ module _ (s t : Pass) (are : ArePlaces (length s.history) s.own) (learns : Learn
 
   pub it_made : t.own ≡ first_places (length t.history)
   it_made = subst (λ (p : Pass). p.own ≡ first_places (length p.history)) (sym it_knew) (all_places (length s.history) s.own are (as_many ∙ ap (λ (p : Pass). length p.history) it_knew))
-
--- one that has seen more is as it was
-pub as_it_was : (s t : Pass) (desk : Pairs) → IsLongerOf s.history desk t.history → Learns s t → length t.history ≢ length desk → t ≡ s
-as_it_was s t desk longer learns differ = by_case longer.one
-  where
-    by_case : ((length s.history < length desk) × (t.history ≡ desk)) ⊎ ((length desk ≤ length s.history) × (t.history ≡ s.history)) → t ≡ s
-    by_case (inl h) = absurd (differ (ap length h.1))
-    by_case (inr h) = learns.others ∙ ap (λ (history : Pairs). let u : Pass = record s { history = history } in u) h.1
 
 all_and_one : (s : Pass) (entry : Entry) → MadeAllIfAlone s → MadeAllIfAlone (making s entry)
 all_and_one s entry all one =

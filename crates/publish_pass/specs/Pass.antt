@@ -154,7 +154,7 @@ pub record WantsChange (s : Pass) (x : Ask) (t : Pass) : Type 0 where
   pub knew : KnewAllIfAlone s met
   pub made_all : MadeAllIfAlone t
 
--- the pass learns the whole published history
+-- A pass learns what the desk has. Where the service has one pass, there was nothing to learn, and all of it is its own
 pub record LearnsAll (s t : Pass) : Type 0 where
   pub seen : Learns s t
   pub knew : KnewAllIfAlone s t
