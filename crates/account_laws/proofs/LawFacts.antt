@@ -6,7 +6,7 @@ use Rattle.std.specs.List.Sorted.{IsNonDecreasingBy}
 use Rattle.std.proofs.lemmas.List.Sorted.{IsNonDecreasingBy-push}
 use Rattle.std.proofs.lemmas.List.{take_at, drop_at, get_or_push}
 use Rattle.draw_lines.specs.Iv.{iv_at}
-use Rattle.draw_lines.proofs.IvFacts.{count_told, pass_told}
+use Rattle.draw_lines.proofs.IvFacts.{boot_told, count_told, pass_told}
 use Rattle.blob_format.specs.Blob.{blob_head, blob_text}
 use Rattle.blob_format.proofs.BlobFacts.{told}
 use Rattle.enc_context.specs.declared.pairs.Pair.{Pair}
@@ -51,7 +51,7 @@ use Rattle.account_crypto.specs.Crypto.{decrypts}
 use Rattle.account_steps.specs.Authority.{of_context}
 use Rattle.account_core.specs.Operations.{read_outcome}
 use Rattle.account_core.specs.Decide.{lacking, decide_body, decide, IsLawful, empty, longer}
-use Rattle.account_laws.specs.Laws.{reply_to, PassGoesOn, no_request, one_more, wants_memory, iv_in, exception_of, unless_excepted, SealedIsDecryptedAgain, OnePassRepeatsNoIv, PassesShareNoIv, TimesNeverFall, HouseIsKeptOnce, KeysDiffer, GrantsDiffer}
+use Rattle.account_laws.specs.Laws.{Sealing, HasSealed, reply_to, PassGoesOn, no_request, one_more, wants_memory, iv_in, exception_of, unless_excepted, SealedIsDecryptedAgain, OnePassRepeatsNoIv, PassesShareNoIv, BootsShareNoIv, TimesNeverFall, HouseIsKeptOnce, KeysDiffer, GrantsDiffer}
 use Rattle.blob_format.proofs.BlobNames.{named_blob}
 use Rattle.account_core.proofs.GoingOn.{decide_goes_on}
 use Rattle.account_rows.specs.Changes.{HasVersions, is_gone, is_state_gone}
@@ -97,23 +97,34 @@ key_size : (facts : RealmFacts) (history : List Entry) (row : KeyRow) → IsLawf
 key_size facts history row lawful there =
     found_all (λ (r : KeyRow). length r.key ≡ 16) (replay history).keys row.key row there (laws_of facts history lawful).sizes
 
+-- the vector of a text that was sealed says the boot, the pass and its count
+vector_is : (facts : RealmFacts) (history : List Entry) (x : Ask) (places : Places) (one : Sealing) → IsLawful facts history
+    → HasSealed facts history x places one → iv_in one.blob ≡ iv_at facts.boot places.number places.ivs
+vector_is facts history x places one lawful sealed =
+    let is = is_sealed facts history x places one sealed in
+    ap iv_in is.blob ∙ sealed_iv facts is.row one.context one.plaintext places (key_size facts history is.row lawful is.there)
+
 pub no_iv_again : OnePassRepeatsNoIv
 no_iv_again facts history later x y places later_places one other lawful lawful_later first second on same =
     let a = is_sealed facts history x places one first in
     let b = is_sealed facts later y later_places other second in
     let up = goes_up facts _ later_places on in
-    let iv = ap iv_in a.blob ∙ sealed_iv facts a.row one.context one.plaintext places (key_size facts history a.row lawful a.there) in
-    let iv' = ap iv_in b.blob ∙ sealed_iv facts b.row other.context other.plaintext later_places (key_size facts later b.row lawful_later b.there) in
+    let iv = vector_is facts history x places one lawful first in
+    let iv' = vector_is facts later y later_places other lawful_later second in
     let count : places.ivs ≡ later_places.ivs = count_told facts.boot facts.boot places.number later_places.number places.ivs later_places.ivs a.few b.few (sym iv ∙ same ∙ iv') in
     omega (arith, up.ivs_from, a.ivs, count)
 
 pub no_iv_shared : PassesShareNoIv
 no_iv_shared facts history later x y places others one other lawful lawful_later first second fits fits_too apart same =
-    let a = is_sealed facts history x places one first in
-    let b = is_sealed facts later y others other second in
-    let iv = ap iv_in a.blob ∙ sealed_iv facts a.row one.context one.plaintext places (key_size facts history a.row lawful a.there) in
-    let iv' = ap iv_in b.blob ∙ sealed_iv facts b.row other.context other.plaintext others (key_size facts later b.row lawful_later b.there) in
+    let iv = vector_is facts history x places one lawful first in
+    let iv' = vector_is facts later y others other lawful_later second in
     apart (pass_told facts.boot facts.boot places.number others.number places.ivs others.ivs fits fits_too (sym iv ∙ same ∙ iv'))
+
+pub no_iv_over_boots : BootsShareNoIv
+no_iv_over_boots facts later_facts history later x y places later_places one other lawful lawful_later first second fits fits_too apart same =
+    let iv = vector_is facts history x places one lawful first in
+    let iv' = vector_is later_facts later y later_places other lawful_later second in
+    apart (boot_told facts.boot later_facts.boot places.number later_places.number places.ivs later_places.ivs fits fits_too (sym iv ∙ same ∙ iv'))
 
 -- ---- what was sealed is decrypted again
 

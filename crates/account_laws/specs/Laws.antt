@@ -141,6 +141,15 @@ PassesShareNoIv =
     → places.number < 2 ^ 16 → others.number < 2 ^ 16 → places.number ≢ others.number
     → iv_in one.blob ≢ iv_in other.blob
 
+-- the blobs of requests at two boots, whatever the facts of each are else, have different initialization vectors
+abbrev pub BootsShareNoIv : Type 0
+BootsShareNoIv =
+    (facts later_facts : RealmFacts) (history later : List Entry) (x y : Ask) (places later_places : Places) (one other : Sealing)
+    → IsLawful facts history → IsLawful later_facts later
+    → HasSealed facts history x places one → HasSealed later_facts later y later_places other
+    → facts.boot < 2 ^ 32 → later_facts.boot < 2 ^ 32 → facts.boot ≢ later_facts.boot
+    → iv_in one.blob ≢ iv_in other.blob
+
 -- along a lawful history times never fall
 abbrev pub TimesNeverFall : Type 0
 TimesNeverFall = (facts : RealmFacts) (history : List Entry) → IsLawful facts history → IsNonDecreasingBy (λ entry. entry.time) history

@@ -1,6 +1,6 @@
 //! Laws of what the account answers. Each stands as the contract of a function that does nothing.
 
-ghost use Rattle.account_laws.specs.Laws.{SealedIsDecryptedAgain, OnePassRepeatsNoIv, PassesShareNoIv, TimesNeverFall, HouseIsKeptOnce, KeysDiffer, GrantsDiffer, PassesWhereStatementsAllow, NamesTheFirstDenied, GrantsPermit, DroppedGrantsStayAway, RowsStandInOrder, ListsOfLawfulHistoriesAreWhole};
+ghost use Rattle.account_laws.specs.Laws.{SealedIsDecryptedAgain, OnePassRepeatsNoIv, PassesShareNoIv, BootsShareNoIv, TimesNeverFall, HouseIsKeptOnce, KeysDiffer, GrantsDiffer, PassesWhereStatementsAllow, NamesTheFirstDenied, GrantsPermit, DroppedGrantsStayAway, RowsStandInOrder, ListsOfLawfulHistoriesAreWhole};
 ghost use Rattle.account_steps.specs.View.{View};
 ghost use Rattle.account_lists.specs.Lists.{PartsOfListsMakeTheWhole};
 
@@ -24,6 +24,12 @@ pub fn one_pass_repeats_no_iv()
 /// The blobs that passes of different numbers seal, each below 2^16, have initialization vectors of their own.
 pub fn passes_share_no_iv()
     ensures { PassesShareNoIv }
+{}
+
+/// The blobs that are sealed at two boots, each below 2^32, have initialization vectors of their own, whatever
+/// the account, its root secret and the pass are.
+pub fn boots_share_no_iv()
+    ensures { BootsShareNoIv }
 {}
 
 /// Along a lawful history times never fall, whatever the clock answers.

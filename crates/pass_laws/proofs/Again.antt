@@ -12,10 +12,10 @@ use Rattle.account_steps.specs.declared.places.Places.{Places}
 use Rattle.grant_table.specs.Grants.{grant_with}
 use Rattle.account_rows.specs.History.{replay}
 use Rattle.account_core.specs.Decide.{IsLawful, empty, longer}
-use Rattle.account_laws.specs.Laws.{PassGoesOn, TimesNeverFall, SealedIsDecryptedAgain, DroppedGrantsStayAway, OnePassRepeatsNoIv, PassesShareNoIv, AsksToOpen, reply_to, exception_of, unless_excepted}
+use Rattle.account_laws.specs.Laws.{PassGoesOn, TimesNeverFall, SealedIsDecryptedAgain, DroppedGrantsStayAway, OnePassRepeatsNoIv, PassesShareNoIv, BootsShareNoIv, AsksToOpen, reply_to, exception_of, unless_excepted}
 use Rattle.kms_json.specs.declared.replies.Reply.TheVariants.{Decrypted}
 use Rattle.published_account.specs.Pairs.{entries_of}
-use Rattle.pass_laws.specs.Machine.{State, read, places_after, SealedStaysReadable, DroppedStaysAway, NoVectorTwice, NoVectorShared}
+use Rattle.pass_laws.specs.Machine.{State, read, places_after, SealedStaysReadable, DroppedStaysAway, NoVectorTwice, NoVectorShared, NoVectorOverBoots}
 use Rattle.published_account.proofs.Lists.{prefix_trans, prefix_shorter}
 use Rattle.pass_laws.proofs.Kept.{reached, goes, ran}
 
@@ -107,3 +107,10 @@ no_vector_shared times law facts p n m k j before between s u x y one other run 
     law facts (entries_of (take k s.history)) (entries_of (take j u.history)) x y (s.places n) (u.places m) one other
     (lawful_first facts k s.history here.history.lawful) (lawful_first facts j u.history on.0.history.lawful) sealed again
     (subst (λ (i : ℕ). i < 2 ^ 16) (sym first) fits) (subst (λ (i : ℕ). i < 2 ^ 16) (sym second) fits_too) (λ same. apart (sym first ∙ same ∙ second))
+
+pub no_vector_over_boots : TimesNeverFall → BootsShareNoIv → NoVectorOverBoots
+no_vector_over_boots times law facts later_facts p q n m k j before later s u x y one other run later_run fits fits_too apart sealed again =
+    let here = reached facts p times before s run in
+    let there = reached later_facts q times later u later_run in
+    law facts later_facts (entries_of (take k s.history)) (entries_of (take j u.history)) x y (s.places n) (u.places m) one other
+    (lawful_first facts k s.history here.history.lawful) (lawful_first later_facts j u.history there.history.lawful) sealed again fits fits_too apart

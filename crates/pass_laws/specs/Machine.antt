@@ -151,3 +151,12 @@ NoVectorShared =
     → Runs facts p start before s → Runs facts p s between u → n < 2 ^ 16 → m < 2 ^ 16 → n ≢ m
     → HasSealed facts (entries_of (take k s.history)) x (s.places n) one → HasSealed facts (entries_of (take j u.history)) y (u.places m) other
     → iv_in one.blob ≢ iv_in other.blob
+
+-- two requests that each sealed a text, in two runs of services at different boots, have given them different initialization vectors
+abbrev pub NoVectorOverBoots : Type 0
+NoVectorOverBoots =
+    (facts later_facts : RealmFacts) (p q n m k j : ℕ) (before later : List Event) (s u : State) (x y : Ask) (one other : Sealing)
+    → Runs facts p start before s → Runs later_facts q start later u
+    → facts.boot < 2 ^ 32 → later_facts.boot < 2 ^ 32 → facts.boot ≢ later_facts.boot
+    → HasSealed facts (entries_of (take k s.history)) x (s.places n) one → HasSealed later_facts (entries_of (take j u.history)) y (u.places m) other
+    → iv_in one.blob ≢ iv_in other.blob

@@ -1,11 +1,11 @@
 //! What holds of every run of events, of which each call of a pass is one or more.
 
 ghost use Rattle.pass_laws.specs.House.{OwesNothingMore};
-ghost use Rattle.pass_laws.specs.Machine.{HoldsAlways, SealedStaysReadable, DroppedStaysAway, NoVectorTwice, NoVectorShared};
+ghost use Rattle.pass_laws.specs.Machine.{HoldsAlways, SealedStaysReadable, DroppedStaysAway, NoVectorTwice, NoVectorShared, NoVectorOverBoots};
 
 use account_laws::{
-    dropped_grants_stay_away, house_is_kept_once, one_pass_repeats_no_iv, passes_share_no_iv,
-    sealed_is_decrypted_again, times_never_fall,
+    boots_share_no_iv, dropped_grants_stay_away, house_is_kept_once, one_pass_repeats_no_iv,
+    passes_share_no_iv, sealed_is_decrypted_again, times_never_fall,
 };
 
 /// For every number of passes and every list of events: housekeeping, changes, reads, reads for which
@@ -15,19 +15,22 @@ use account_laws::{
 /// has seen never falls, the places of its own entries are exactly those of its number, and what it has used
 /// only goes on. What a request sealed, Decrypt answers at every history that goes on from there, while its
 /// key is enabled. A grant that a pass has seen retired or revoked is at no history that the pass is answered
-/// at from then on. Two texts that passes sealed, one pass or two, have different initialization vectors.
+/// at from then on. Two texts that passes sealed, one pass or two, have different initialization vectors; and so have two
+/// texts of two services whose boots differ.
 pub fn machine_law()
     ensures holds { HoldsAlways }
     ensures readable { SealedStaysReadable }
     ensures dropped { DroppedStaysAway }
     ensures vectors { NoVectorTwice }
     ensures shared { NoVectorShared }
+    ensures boots { NoVectorOverBoots }
 {
     times_never_fall();
     sealed_is_decrypted_again();
     dropped_grants_stay_away();
     one_pass_repeats_no_iv();
     passes_share_no_iv();
+    boots_share_no_iv();
 }
 
 /// After housekeeping at a clock's answer, whether it was owed or not, nothing more is owed at it. So a request that

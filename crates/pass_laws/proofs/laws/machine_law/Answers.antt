@@ -1,5 +1,5 @@
 use Rattle.pass_laws.proofs.Kept.{always}
-use Rattle.pass_laws.proofs.Again.{readable, dropped_stays_away, no_vector_twice, no_vector_shared}
+use Rattle.pass_laws.proofs.Again.{readable, dropped_stays_away, no_vector_twice, no_vector_shared, no_vector_over_boots}
 use Rattle.pass_laws.proofs.laws.machine_law.Goals as goal
 
 pub returns-clause-holds : goal.returns-clause-holds
@@ -16,3 +16,6 @@ returns-clause-vectors c = no_vector_twice c.times_never_fall.ensures c.one_pass
 
 pub returns-clause-shared : goal.returns-clause-shared
 returns-clause-shared c = no_vector_shared c.times_never_fall.ensures c.passes_share_no_iv.ensures
+
+pub returns-clause-boots : goal.returns-clause-boots
+returns-clause-boots c = no_vector_over_boots c.times_never_fall.ensures c.boots_share_no_iv.ensures
