@@ -25,24 +25,16 @@ const PATTERN: usize = 1000;
 
 const TEXT: usize = 2000;
 
-fn letters(alloc: Global, count: usize) -> Result<String, NoMemory> {
-    let mut text = String::new(alloc);
-    for _ in 0..count {
-        text.push('a')?;
-    }
-    Ok(text)
-}
-
 // Another policy for the key, which denies what no request here says.
 fn policy(alloc: Global) -> Result<String, NoMemory> {
-    let letters = letters(alloc, PATTERN)?;
+    let letters = "a".repeat(alloc, PATTERN)?;
     let text = format!(in alloc; "{POLICY}{letters}{POLICY_END}")?;
     Ok(text)
 }
 
 // A text to be sealed under it, with a context that is long to judge.
 fn sealing(alloc: Global) -> Result<String, NoMemory> {
-    let letters = letters(alloc, TEXT)?;
+    let letters = "a".repeat(alloc, TEXT)?;
     let text = format!(in alloc; "{SEALING}{letters}{SEALING_END}")?;
     Ok(text)
 }
