@@ -1,5 +1,5 @@
 // Replies, counted by their status.
-ghost use Rattle.std.specs.Prelude.{◌≡◌, ◌≤◌, ◌<◌, ◌^◌, ◌+◌, ◌==◌, ℕ, List, ◌∷◌, ◌++◌, false, length, drop, decimal, IfSome};
+ghost use Rattle.std.specs.Prelude.{◌≡◌, ◌≢◌, ◌≤◌, ◌<◌, ◌^◌, ◌+◌, ◌==◌, ℕ, List, ◌∷◌, ◌++◌, false, length, drop, decimal, IfSome, IfNone};
 ghost use Rattle.kms_workload.specs.Replies.{IsReply, AreReplies, served_in};
 ghost use Rattle.kms_workload.specs.Lines.{line_size, has_return, IsRest};
 
@@ -100,6 +100,7 @@ fn reply_in(text: &[u8]) -> Reply<'_>
 pub fn count_served(text: &[u8], requests: u32) -> Option<u32>
     ensures counted { IfSome result (λ served. (statuses : List ℕ) → AreReplies text.now statuses → (length statuses ≡ requests) × (served ≡ served_in statuses)) }
     ensures bound { IfSome result (λ served. served ≤ requests) }
+    ensures otherwise { IfNone result ((statuses : List ℕ) → AreReplies text.now statuses → length statuses ≢ requests) }
 {
     let mut served = 0;
     let mut rest = text;
