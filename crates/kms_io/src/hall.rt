@@ -117,10 +117,17 @@ impl Hall {
         heard
     }
 
+    /// Sees who waits, where no ear does.
+    pub fn look<R: rt::Clock + Eprint>(&self, rt: &R) {
+        if let Some(mut lobby) = self.lobby.try_lock() {
+            lobby.look(rt);
+        }
+    }
+
     /// Whether a connection waits for a worker, where no ear is asked for one. Whoever asks is to make room.
-    pub fn is_awaited<R: rt::Clock + Eprint>(&self, rt: &R, now: Millis) -> bool {
+    pub fn is_awaited(&self, now: Millis) -> bool {
         match self.lobby.try_lock() {
-            Some(mut lobby) => lobby.is_awaited(rt, now),
+            Some(mut lobby) => lobby.is_awaited(now),
             None => false,
         }
     }

@@ -146,7 +146,6 @@ impl Lobby {
     /// Waits for a second at most for a connection that has bytes or is at its end.
     pub fn next<R: rt::Clock + Eprint>(&mut self, rt: &R) -> Heard {
         let now = moment(rt);
-        self.close_silent(now);
         self.called = self.called.saturating_sub(1);
         if self.ready.is_empty() {
             let patience = self.patience(now);
@@ -160,11 +159,13 @@ impl Lobby {
         Heard::Guest(self.ready.remove(0))
     }
 
+    /// Sees who waits, without waiting.
+    pub fn look<R: rt::Clock + Eprint>(&mut self, rt: &R) {
+        let _ = self.gather(rt, 0);
+    }
+
     /// Whether a connection waits for which no worker makes room yet. Where it does, whoever asks is to.
-    pub fn is_awaited<R: rt::Clock + Eprint>(&mut self, rt: &R, now: Millis) -> bool {
-        if self.ready.is_empty() {
-            let _ = self.gather(rt, 0);
-        }
+    pub fn is_awaited(&mut self, now: Millis) -> bool {
         if since(self.called_at, now) >= CALL {
             self.called = 0;
         }
@@ -207,6 +208,7 @@ impl Lobby {
                 Token(token) => wake(&self.poll, &mut self.silent, &mut self.ready, token, now),
             }
         }
+        self.close_silent(now);
         self.take_new(rt, now);
         Ok(())
     }

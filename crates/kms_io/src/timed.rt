@@ -120,23 +120,27 @@ impl<R: rt::Clock + Eprint> TimedStream<'_, R> {
         let now = moment(self.rt);
         self.cause = match self.pace.limit(now) {
             Some(cause) => Some(cause),
-            None => match self.pace.limit_if_awaited(now) {
-                Some(cause) if self.makes_room(cause, now) => Some(cause),
-                _ => None,
-            },
+            None => self.makes_room(now),
         };
         self.cause.is_some()
     }
 
-    // Whether somebody waits for whom it makes room. It isn't asked more often than the limits want.
-    fn makes_room(&mut self, cause: Cause, now: Millis) -> bool {
+    // Why it makes room for somebody who waits, if it does. It looks who waits from time to time.
+    fn makes_room(&mut self, now: Millis) -> Option<Cause> {
         if !self.pace.looks(now) {
-            return false;
+            return None;
         }
-        if matches!(cause, Cause::Turn) && !self.pace.had_longest_turn(now) && self.has_more() {
-            return false;
+        self.hall.look(self.rt);
+        let cause = self.pace.limit_if_awaited(now)?;
+        let is_asked = match cause {
+            Cause::Turn => self.pace.had_longest_turn(now) || !self.has_more(),
+            Cause::Idle | Cause::Slow => true,
+        };
+        if is_asked && self.hall.is_awaited(now) {
+            Some(cause)
+        } else {
+            None
         }
-        self.hall.is_awaited(self.rt, now)
     }
 
     // Whether more has come, without waiting for it. Where that can't be told, it has.
