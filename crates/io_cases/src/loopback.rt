@@ -1,5 +1,5 @@
 // Connections over loopback.
-ghost use Rattle.std.specs.Prelude.{◌≡◌, false};
+ghost use Rattle.std.specs.Prelude.{◌≡◌, false, All};
 ghost use Rattle.kms_io.specs.TcpEar.{counts_of};
 
 use crate::lines::Lines;
@@ -236,20 +236,35 @@ fn show_clients<R: Net<Stream = TcpStream> + Wait + rt::Clock + Eprint + AllocGl
     )
 }
 
-// Opens so many ears at the address.
-fn say_opening<'a, R: Net + Wait + rt::Clock + Eprint + Sync>(
-    address: &str,
-    n: u16,
-    door: &mut TcpDoor<'a, R>,
-    ears: &mut Vec<TcpEar<'a, R>>,
+// What one of these ears does with them.
+fn show_ear<R: Net<Stream = TcpStream> + Wait + rt::Clock + Eprint + AllocGlobal>(
+    rt: &R,
+    at: SocketAddr,
+    ears: &mut Vec<TcpEar<'_, R>>,
     lines: &mut Lines,
-) -> Opened {
-    let opened = door.open(address, n, ears);
-    lines.say_opened(opened);
-    opened
+) -> io::Result<()>
+    requires { All (λ ear. (counts_of ear).is_out ≡ false) ears.old.items }
+{
+    if let Some(mut ear) = ears.pop() {
+        show_clients(rt, at, &mut ear, lines)?;
+        ears.push(ear)?;
+    }
+    Ok(())
 }
 
-/// An opening that fails, and one whose ears take connections.
+// An opening that fails.
+fn show_shut<R: Net + Wait + rt::Clock + Eprint + AllocGlobal + Sync>(
+    rt: &R,
+    what: &str,
+    address: &str,
+    lines: &mut Lines,
+) {
+    lines.say(what);
+    lines.say_opened(TcpDoor::new(rt).open(address, 1, &mut Vec::new(rt.alloc())));
+    lines.say("\n");
+}
+
+/// Openings that fail, and one whose ears take connections.
 pub fn show_loopback<
     R: Net<Listener = TcpListener, Stream = TcpStream>
         + Wait
@@ -261,24 +276,25 @@ pub fn show_loopback<
     let alloc = rt.alloc();
     let at = TcpListener::bind(rt, "127.0.0.1:0")?.local_addr()?;
     let address = format!(in alloc; "{at}")?;
-    let mut door = TcpDoor::new(rt);
-    let mut ears = Vec::new(alloc);
-    lines.say("a door of the machine, at no address: ");
-    say_opening("no address", 1, &mut door, &mut ears, lines);
-    lines.say("\na door of the machine, at a free port of loopback: ");
-    say_opening(&address, 2, &mut door, &mut ears, lines);
-    lines.say("\nanother at the same: ");
-    say_opening(
-        &address,
-        1,
-        &mut TcpDoor::new(rt),
-        &mut Vec::new(alloc),
+    show_shut(
+        rt,
+        "a door of the machine, at no address: ",
+        "no address",
         lines,
     );
+    lines.say("a door of the machine, at a free port of loopback: ");
+    let mut door = TcpDoor::new(rt);
+    let mut ears = Vec::new(alloc);
+    let opened = door.open(&address, 2, &mut ears);
+    lines.say_opened(opened);
     lines.say("\n");
-    if let Some(ear) = ears.first_mut() {
-        show_clients(rt, at, ear, lines)?;
+    match opened {
+        Opened::Open => {
+            show_shut(rt, "another at the same: ", &address, lines);
+            show_ear(rt, at, &mut ears, lines)?;
+            door.close(ears);
+            Ok(())
+        }
+        Opened::Failed | Opened::NoMemory => Ok(()),
     }
-    door.close(ears);
-    Ok(())
 }

@@ -21,7 +21,7 @@ fn name_for<R: rt::Env + AllocGlobal>(rt: &R, process: u32) -> io::Result<String
 }
 
 // Reads a file of this size while it is there, and once it is removed.
-fn show_file<R: rt::Files>(
+fn show_file<R: rt::Files + Eprint>(
     rt: &R,
     name: &str,
     size: usize,
@@ -43,7 +43,7 @@ fn show_file<R: rt::Files>(
 }
 
 /// The machine's files.
-pub fn show_files<R: rt::Env + rt::Files + AllocGlobal>(
+pub fn show_files<R: rt::Env + rt::Files + Eprint + AllocGlobal>(
     rt: &R,
     process: u32,
     lines: &mut Lines,

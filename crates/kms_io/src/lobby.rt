@@ -149,7 +149,11 @@ impl Lobby {
         self.called = self.called.saturating_sub(1);
         if self.ready.is_empty() {
             let patience = self.patience(now);
-            if self.gather(rt, patience).is_err() || self.gives_up(moment(rt)) {
+            if let Err(fault) = self.gather(rt, patience) {
+                self.tell(rt, now, &fault);
+                return Heard::Failed;
+            }
+            if self.gives_up(moment(rt)) {
                 return Heard::Failed;
             }
         }
@@ -269,7 +273,7 @@ impl Lobby {
             }
         }
         self.told_at = Some(now);
-        let _ = eprintln!(rt; "a connection can't be taken and waits: {fault}");
+        let _ = eprintln!(rt; "no connection can be taken, and those that come wait: {fault}");
     }
 
     // A new connection waits: with those that have bytes, or with those that don't.
