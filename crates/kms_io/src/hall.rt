@@ -21,7 +21,7 @@ const READS: u32 = 16;
 const ROOM: usize = 4096;
 
 // After how long it is told that not every ear is asked.
-const START: Millis = 1_000;
+const START: Millis = 3_000;
 
 // A connection that is closed for writing.
 #[derive(Drop)]
@@ -154,7 +154,7 @@ impl Hall {
         let slow = counts.slow.load(Ordering::SeqCst);
         let turn = counts.turn.load(Ordering::SeqCst);
         let _ = eprintln!(rt;
-            "{served} connections served, of which {idle} were ended idle, {slow} slow and {turn} after their turn; {closed} closed that had sent nothing"
+            "served {served} connections; ended {idle} idle, {slow} slow, {turn} after their turn, {closed} that sent nothing"
         );
     }
 
