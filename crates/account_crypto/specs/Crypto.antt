@@ -13,6 +13,9 @@ use Rattle.kms_json.specs.declared.replies.Reply.{Reply}
 use Rattle.kms_json.specs.declared.replies.Reply.TheVariants as reply
 use Rattle.kms_json.specs.declared.refusals.Unsupported.TheVariants.{Recipient, CustomKeyStoreId}
 use Rattle.key_states.specs.declared.rows.KeyRow.{KeyRow}
+use Rattle.account_crypto.specs.declared.data_keys.DataKeyForm.{DataKeyForm}
+use Rattle.account_crypto.specs.declared.data_keys.DataKeyForm.TheVariants as form
+use Rattle.account_crypto.specs.DataKeyForms.{data_key_action, has_recipient}
 use Rattle.account_crypto.specs.declared.re_encrypt.Turning.{Turning}
 use Rattle.account_steps.specs.declared.places.Uses.{Uses}
 use Rattle.account_steps.specs.Places.{nothing_used}
@@ -94,35 +97,27 @@ re_encrypts view x = record {
   takes = one_iv;
 }
 
--- a data key: it is drawn first, and then its initialization vector is taken
-abbrev pub data_key_parts : View → DataKey → Action → Bool → (KeyRow → Reply) → ReadParts Named ⊤
-data_key_parts view x op recipient given = record {
-  parts = record {
-    found = key_of view x.key_id;
-    questions = λ named. on_key op named.row (of_context view named.row.key named.alias x.context) ∷ [];
-    tokens = x.grant_tokens;
-    uses = λ named. record { action = op; key = named.row } ∷ [];
-    own = λ named. unless (unsupported recipient Recipient) (Ok tt);
-    dry_run = x.dry_run;
-    reply = λ named ready. given named.row;
-  };
-  takes = words_and_iv x.size;
-}
-
 abbrev pub sealed_key : View → DataKey → KeyRow → List ℕ
 sealed_key view x row = seals view.facts row x.context (draws view.facts x.size view.places) view.places
 
--- GenerateDataKey
-abbrev pub generates_data_key : View → DataKey → Bool → ReadParts Named ⊤
-generates_data_key view x recipient =
-    data_key_parts view x action.GenerateDataKey recipient
-    (λ row. reply.DataKey (sealed_key view x row) (draws view.facts x.size view.places) (arn_of view.facts row.key))
+abbrev pub data_key_reply : View → DataKey → DataKeyForm → KeyRow → Reply
+data_key_reply view x (form.Plaintext recipient) row = reply.DataKey (sealed_key view x row) (draws view.facts x.size view.places) (arn_of view.facts row.key)
+data_key_reply view x form.Sealed row = reply.SealedDataKey (sealed_key view x row) (arn_of view.facts row.key)
 
--- GenerateDataKeyWithoutPlaintext
-abbrev pub generates_sealed_data_key : View → DataKey → ReadParts Named ⊤
-generates_sealed_data_key view x =
-    data_key_parts view x action.GenerateDataKeyWithoutPlaintext false
-    (λ row. reply.SealedDataKey (sealed_key view x row) (arn_of view.facts row.key))
+-- GenerateDataKey and GenerateDataKeyWithoutPlaintext: the data key is drawn first, and then its initialization vector is taken
+abbrev pub generates_data_key : View → DataKey → DataKeyForm → ReadParts Named ⊤
+generates_data_key view x given = record {
+  parts = record {
+    found = key_of view x.key_id;
+    questions = λ named. on_key (data_key_action given) named.row (of_context view named.row.key named.alias x.context) ∷ [];
+    tokens = x.grant_tokens;
+    uses = λ named. record { action = data_key_action given; key = named.row } ∷ [];
+    own = λ named. unless (unsupported (has_recipient given) Recipient) (Ok tt);
+    dry_run = x.dry_run;
+    reply = λ named ready. data_key_reply view x given named.row;
+  };
+  takes = words_and_iv x.size;
+}
 
 -- GenerateRandom
 abbrev pub generates_random : View → ℕ → Bool → Bool → ReadParts ⊤ ⊤
