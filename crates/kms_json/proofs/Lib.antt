@@ -5,10 +5,7 @@ mod BuildLemmas
 mod KeyLemmas
 mod FloatLemmas
 mod ReadFacts
-mod KeySizes
-mod AliasSizes
-mod GrantSizes
-mod ListSizes
-mod CryptographySizes
+mod KindFacts
+mod TableFacts
 pub mod Sizes
 pub mod Statuses

@@ -216,7 +216,7 @@ pub enum JsonFault {
     /// The field of this name isn't valid.
     Validation(Text),
     /// The alias name isn't one.
-    InvalidAliasName,
+    AliasName,
     /// A growth of memory was refused.
     NoMemory,
 }

@@ -1,22 +1,13 @@
 // The operations, and the fields that each of them takes.
-ghost use Rattle.std.specs.Prelude.{◌≡◌, map};
-ghost use Rattle.kms_json.specs.Operations.{operation_named, operation_in, target_row, fields_of};
+ghost use Rattle.std.specs.Prelude.{◌≡◌, map, IfSome, option_map};
+ghost use Rattle.std.specs.Str.{bytes_eq};
+ghost use Rattle.kms_json.specs.Operations.{target_of, operation_named, fields_of, row_in, row_named};
 ghost use Rattle.kms_json.specs.Fields.{row_of};
 
 use crate::fields::Field;
-use crate::tables::aliases::{DELETE_ALIAS, LIST_ALIASES, PUT_ALIAS};
-use crate::tables::cryptography::{
-    DECRYPT, ENCRYPT, GENERATE_DATA_KEY, GENERATE_DATA_KEY_WITHOUT_PLAINTEXT, GENERATE_RANDOM,
-    RE_ENCRYPT,
+use crate::tables::{
+    KEY_ALONE, LIST_OF_KEY, aliases, cryptography, grants, keys, policies, rotation, states,
 };
-use crate::tables::grants::{
-    CREATE_GRANT, LIST_GRANTS, LIST_RETIRABLE_GRANTS, RETIRE_GRANT, REVOKE_GRANT,
-};
-use crate::tables::keys::{CREATE_KEY, DESCRIBE_KEY, LIST_KEYS, UPDATE_KEY_DESCRIPTION};
-use crate::tables::policies::{GET_KEY_POLICY, PUT_KEY_POLICY};
-use crate::tables::rotation::ENABLE_KEY_ROTATION;
-use crate::tables::states::SCHEDULE_KEY_DELETION;
-use crate::tables::{KEY_ALONE, LIST_OF_KEY};
 
 /// An operation of the AWS KMS API that this service serves.
 #[derive(Clone, Copy)]
@@ -54,124 +45,69 @@ pub enum Operation {
     GenerateRandom,
 }
 
-// The value of X-Amz-Target that names an operation.
+/// An operation's name, the operation, and the fields of its body in the order in which they are judged.
 #[derive(Clone, Copy)]
-struct Target(&'static str, Operation);
+pub struct Row(pub &'static str, pub Operation, pub &'static [Field]);
 
-const TARGETS: [Target; 31] = [
-    Target("TrentService.CreateKey", Operation::CreateKey),
-    Target("TrentService.DescribeKey", Operation::DescribeKey),
-    Target("TrentService.ListKeys", Operation::ListKeys),
-    Target("TrentService.PutKeyPolicy", Operation::PutKeyPolicy),
-    Target("TrentService.GetKeyPolicy", Operation::GetKeyPolicy),
-    Target("TrentService.ListKeyPolicies", Operation::ListKeyPolicies),
-    Target(
-        "TrentService.UpdateKeyDescription",
-        Operation::UpdateKeyDescription,
-    ),
-    Target("TrentService.EnableKey", Operation::EnableKey),
-    Target("TrentService.DisableKey", Operation::DisableKey),
-    Target(
-        "TrentService.ScheduleKeyDeletion",
-        Operation::ScheduleKeyDeletion,
-    ),
-    Target(
-        "TrentService.CancelKeyDeletion",
-        Operation::CancelKeyDeletion,
-    ),
-    Target(
-        "TrentService.EnableKeyRotation",
-        Operation::EnableKeyRotation,
-    ),
-    Target(
-        "TrentService.DisableKeyRotation",
-        Operation::DisableKeyRotation,
-    ),
-    Target(
-        "TrentService.RotateKeyOnDemand",
-        Operation::RotateKeyOnDemand,
-    ),
-    Target(
-        "TrentService.GetKeyRotationStatus",
-        Operation::GetKeyRotationStatus,
-    ),
-    Target("TrentService.ListKeyRotations", Operation::ListKeyRotations),
-    Target("TrentService.CreateAlias", Operation::CreateAlias),
-    Target("TrentService.UpdateAlias", Operation::UpdateAlias),
-    Target("TrentService.DeleteAlias", Operation::DeleteAlias),
-    Target("TrentService.ListAliases", Operation::ListAliases),
-    Target("TrentService.CreateGrant", Operation::CreateGrant),
-    Target("TrentService.RetireGrant", Operation::RetireGrant),
-    Target("TrentService.RevokeGrant", Operation::RevokeGrant),
-    Target("TrentService.ListGrants", Operation::ListGrants),
-    Target(
-        "TrentService.ListRetirableGrants",
-        Operation::ListRetirableGrants,
-    ),
-    Target("TrentService.Encrypt", Operation::Encrypt),
-    Target("TrentService.Decrypt", Operation::Decrypt),
-    Target("TrentService.ReEncrypt", Operation::ReEncrypt),
-    Target("TrentService.GenerateDataKey", Operation::GenerateDataKey),
-    Target(
-        "TrentService.GenerateDataKeyWithoutPlaintext",
-        Operation::GenerateDataKeyWithoutPlaintext,
-    ),
-    Target("TrentService.GenerateRandom", Operation::GenerateRandom),
+const OPERATIONS: [Row; 31] = [
+    Row("CreateKey", Operation::CreateKey, &keys::CREATE_KEY),
+    Row("DescribeKey", Operation::DescribeKey, &keys::DESCRIBE_KEY),
+    Row("ListKeys", Operation::ListKeys, &keys::LIST_KEYS),
+    Row("PutKeyPolicy", Operation::PutKeyPolicy, &policies::PUT_KEY_POLICY),
+    Row("GetKeyPolicy", Operation::GetKeyPolicy, &policies::GET_KEY_POLICY),
+    Row("ListKeyPolicies", Operation::ListKeyPolicies, &LIST_OF_KEY),
+    Row("UpdateKeyDescription", Operation::UpdateKeyDescription, &keys::UPDATE_KEY_DESCRIPTION),
+    Row("EnableKey", Operation::EnableKey, &KEY_ALONE),
+    Row("DisableKey", Operation::DisableKey, &KEY_ALONE),
+    Row("ScheduleKeyDeletion", Operation::ScheduleKeyDeletion, &states::SCHEDULE_KEY_DELETION),
+    Row("CancelKeyDeletion", Operation::CancelKeyDeletion, &KEY_ALONE),
+    Row("EnableKeyRotation", Operation::EnableKeyRotation, &rotation::ENABLE_KEY_ROTATION),
+    Row("DisableKeyRotation", Operation::DisableKeyRotation, &KEY_ALONE),
+    Row("RotateKeyOnDemand", Operation::RotateKeyOnDemand, &KEY_ALONE),
+    Row("GetKeyRotationStatus", Operation::GetKeyRotationStatus, &KEY_ALONE),
+    Row("ListKeyRotations", Operation::ListKeyRotations, &LIST_OF_KEY),
+    Row("CreateAlias", Operation::CreateAlias, &aliases::PUT_ALIAS),
+    Row("UpdateAlias", Operation::UpdateAlias, &aliases::PUT_ALIAS),
+    Row("DeleteAlias", Operation::DeleteAlias, &aliases::DELETE_ALIAS),
+    Row("ListAliases", Operation::ListAliases, &aliases::LIST_ALIASES),
+    Row("CreateGrant", Operation::CreateGrant, &grants::CREATE_GRANT),
+    Row("RetireGrant", Operation::RetireGrant, &grants::RETIRE_GRANT),
+    Row("RevokeGrant", Operation::RevokeGrant, &grants::REVOKE_GRANT),
+    Row("ListGrants", Operation::ListGrants, &grants::LIST_GRANTS),
+    Row("ListRetirableGrants", Operation::ListRetirableGrants, &grants::LIST_RETIRABLE_GRANTS),
+    Row("Encrypt", Operation::Encrypt, &cryptography::ENCRYPT),
+    Row("Decrypt", Operation::Decrypt, &cryptography::DECRYPT),
+    Row("ReEncrypt", Operation::ReEncrypt, &cryptography::RE_ENCRYPT),
+    Row("GenerateDataKey", Operation::GenerateDataKey, &cryptography::GENERATE_DATA_KEY),
+    Row("GenerateDataKeyWithoutPlaintext", Operation::GenerateDataKeyWithoutPlaintext, &cryptography::GENERATE_DATA_KEY_WITHOUT_PLAINTEXT),
+    Row("GenerateRandom", Operation::GenerateRandom, &cryptography::GENERATE_RANDOM),
 ];
 
-fn named(targets: &[Target], target: &[u8]) -> Option<Operation>
-    ensures { result ≡ operation_in (map target_row targets.now) target.now }
+// Whether a value of X-Amz-Target is the service's name, a full stop and this name.
+fn names(target: &[u8], name: &str) -> bool
+    ensures { result ≡ bytes_eq target.now (target_of name.now) }
 {
-    for row in targets {
-        if target == row.0.as_bytes() {
-            return Some(row.1);
+    match target.strip_prefix(b"TrentService.") {
+        Some(rest) => rest == name.as_bytes(),
+        None => false,
+    }
+}
+
+fn row_of_target(rows: &[Row], target: &[u8]) -> Option<Row>
+    ensures { option_map row_in result ≡ row_named (map row_in rows.now) target.now }
+{
+    for row in rows {
+        if names(target, row.0) {
+            return Some(*row);
         }
     }
     None
 }
 
-/// The operation that a value of the header X-Amz-Target names.
-pub fn operation_of(target: &[u8]) -> Option<Operation>
-    ensures { result ≡ operation_named target.now }
+/// The row of the operation that a value of the header X-Amz-Target names.
+pub fn operation_of(target: &[u8]) -> Option<Row>
+    ensures operation { option_map (λ row. row.1) result ≡ operation_named target.now }
+    ensures fields { IfSome result (λ row. map row_of row.2.now ≡ fields_of row.1) }
 {
-    named(&TARGETS, target)
-}
-
-/// The fields of an operation's body, in the order in which they are judged.
-pub fn fields(operation: Operation) -> &'static [Field]
-    ensures { map row_of result.now ≡ fields_of operation }
-{
-    match operation {
-        Operation::CreateKey => &CREATE_KEY,
-        Operation::DescribeKey => &DESCRIBE_KEY,
-        Operation::ListKeys => &LIST_KEYS,
-        Operation::PutKeyPolicy => &PUT_KEY_POLICY,
-        Operation::GetKeyPolicy => &GET_KEY_POLICY,
-        Operation::ListKeyPolicies => &LIST_OF_KEY,
-        Operation::UpdateKeyDescription => &UPDATE_KEY_DESCRIPTION,
-        Operation::EnableKey => &KEY_ALONE,
-        Operation::DisableKey => &KEY_ALONE,
-        Operation::ScheduleKeyDeletion => &SCHEDULE_KEY_DELETION,
-        Operation::CancelKeyDeletion => &KEY_ALONE,
-        Operation::EnableKeyRotation => &ENABLE_KEY_ROTATION,
-        Operation::DisableKeyRotation => &KEY_ALONE,
-        Operation::RotateKeyOnDemand => &KEY_ALONE,
-        Operation::GetKeyRotationStatus => &KEY_ALONE,
-        Operation::ListKeyRotations => &LIST_OF_KEY,
-        Operation::CreateAlias => &PUT_ALIAS,
-        Operation::UpdateAlias => &PUT_ALIAS,
-        Operation::DeleteAlias => &DELETE_ALIAS,
-        Operation::ListAliases => &LIST_ALIASES,
-        Operation::CreateGrant => &CREATE_GRANT,
-        Operation::RetireGrant => &RETIRE_GRANT,
-        Operation::RevokeGrant => &REVOKE_GRANT,
-        Operation::ListGrants => &LIST_GRANTS,
-        Operation::ListRetirableGrants => &LIST_RETIRABLE_GRANTS,
-        Operation::Encrypt => &ENCRYPT,
-        Operation::Decrypt => &DECRYPT,
-        Operation::ReEncrypt => &RE_ENCRYPT,
-        Operation::GenerateDataKey => &GENERATE_DATA_KEY,
-        Operation::GenerateDataKeyWithoutPlaintext => &GENERATE_DATA_KEY_WITHOUT_PLAINTEXT,
-        Operation::GenerateRandom => &GENERATE_RANDOM,
-    }
+    row_of_target(&OPERATIONS, target)
 }

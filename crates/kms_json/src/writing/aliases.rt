@@ -4,7 +4,7 @@ ghost use Rattle.serde_json.specs.View.{view};
 ghost use Rattle.kms_json.specs.AliasReplies.{alias_by, alias_data, aliases_data};
 
 use super::pages::page;
-use crate::objects::{Item, Member, Rows, list_of, object_of};
+use crate::objects::{Item, Member, RowWriter, list_of, object_of};
 use crate::replies::{AliasPage, ListedAlias};
 use kms_names::{AccountNumber, NoMemory, alias_arn, key_text};
 use serde_json::Value;
@@ -35,7 +35,7 @@ struct AliasRows<'a> {
     region: &'a str,
 }
 
-impl Rows for AliasRows<'_> {
+impl RowWriter for AliasRows<'_> {
     type Row = ListedAlias;
 
     ghost row_data = { λ rows alias. alias_data rows.account.now rows.region.now alias };

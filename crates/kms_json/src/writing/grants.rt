@@ -9,7 +9,7 @@ ghost use Rattle.kms_json.specs.GrantReplies.{granted_data, context_data, constr
 
 use super::pages::page;
 use crate::asks::GrantConstraint;
-use crate::objects::{Item, Member, Rows, list_of, members_of, object_of, put_if_any};
+use crate::objects::{Item, Member, RowWriter, list_of, members_of, object_of, put_if_any};
 use crate::replies::{GrantPage, ListedGrant};
 use enc_context::Context;
 use kms_names::{
@@ -167,7 +167,7 @@ struct GrantRows<'a> {
     region: &'a str,
 }
 
-impl Rows for GrantRows<'_> {
+impl RowWriter for GrantRows<'_> {
     type Row = ListedGrant;
 
     ghost row_data = { λ rows grant. grant_data rows.account.now rows.region.now grant };

@@ -4,7 +4,7 @@ ghost use Rattle.serde_json.specs.View.{view};
 ghost use Rattle.kms_json.specs.KeyReplies.{described_as, metadata_data, key_by, key_data, keys_data};
 
 use super::pages::page;
-use crate::objects::{Item, Member, Rows, list_of, object_of};
+use crate::objects::{Item, Member, RowWriter, list_of, object_of};
 use crate::replies::{KeyMetadata, KeyPage, SYMMETRIC_DEFAULT};
 use kms_names::{AccountNumber, KeyId, NoMemory, key_arn, key_text};
 use serde_json::{Value, json};
@@ -69,7 +69,7 @@ struct KeyRows<'a> {
     region: &'a str,
 }
 
-impl Rows for KeyRows<'_> {
+impl RowWriter for KeyRows<'_> {
     type Row = KeyId;
 
     ghost row_data = { λ rows key. key_data rows.account.now rows.region.now key };

@@ -4,7 +4,7 @@ ghost use Rattle.serde_json.specs.View.{view};
 ghost use Rattle.kms_json.specs.RotationReplies.{rotated_data, rotation_data, rotation_type, one_rotation_data, rotations_data};
 
 use super::pages::page;
-use crate::objects::{Item, Member, Rows, list_of, object_of};
+use crate::objects::{Item, Member, RowWriter, list_of, object_of};
 use crate::replies::{AutomaticRotation, Rotation, RotationPage};
 use kms_names::{KeyId, NoMemory, key_text};
 use serde_json::Value;
@@ -57,7 +57,7 @@ struct RotationRows<'a> {
     id: &'a str,
 }
 
-impl Rows for RotationRows<'_> {
+impl RowWriter for RotationRows<'_> {
     type Row = Rotation;
 
     ghost row_data = { λ rows rotation. one_rotation_data rows.id.now rotation };
