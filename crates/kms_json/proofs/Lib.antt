@@ -6,6 +6,5 @@ mod KeyLemmas
 mod FloatLemmas
 mod ReadFacts
 mod KindFacts
-mod TableFacts
 pub mod Sizes
 pub mod Statuses

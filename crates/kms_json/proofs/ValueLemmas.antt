@@ -1,15 +1,14 @@
 -- The values of fields in their order are what the body gives by the fields' names.
-use Rattle.std.proofs.Common.{◌≡◌, ◌==◌, ℕ, zero, suc, ◌<◌, List, [], ◌∷◌, length, drop, false, not, Option, Some, None, unwrap_or, refl, sym, ap, ◌∙◌, if◌then◌else◌, arith, rules, tests}
+use Rattle.std.proofs.Common.{◌≡◌, ◌==◌, ℕ, zero, suc, List, [], ◌∷◌, length, drop, false, not, Option, Some, None, unwrap_or, refl, sym, ap, ◌∙◌, if◌then◌else◌, rules, tests}
 use Rattle.std.specs.Option.{option_map, option_and_then}
 use Rattle.std.specs.Str.{bytes_eq}
 use Rattle.serde_json.specs.Data.{Data}
 use Rattle.serde_json.specs.Find.{get}
 use Rattle.serde_json.specs.View.{items_view}
 use Rattle.serde_json.specs.declared.value.Value.{Value}
-use Rattle.kms_json.specs.declared.fields.Kind.TheVariants as kind
 use Rattle.kms_json.specs.declared.given.Given.{Given}
 use Rattle.kms_json.specs.declared.given.Given.TheVariants as given
-use Rattle.kms_json.specs.Fields.{FieldRow, maybe, value_given, values_of, given_by, any_items}
+use Rattle.kms_json.specs.Fields.{FieldRow, value_given, values_of, given_by, any_items}
 use Rattle.kms_json.specs.Building.{first_of, held}
 
 -- ---- the value at a place

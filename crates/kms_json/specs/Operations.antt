@@ -1,5 +1,5 @@
 -- The operations: how each is named, the fields that it takes, and what it asks by them (AWS KMS API Reference, Actions).
-use Rattle.std.specs.Prelude.{ℕ, List, [], ◌∷◌, ◌++◌, codes, map, Option, find}
+use Rattle.std.specs.Prelude.{ℕ, List, [], ◌∷◌, ◌++◌, codes, map, Option, option_map, find}
 use Rattle.std.specs.Str.{bytes_eq}
 use Rattle.kms_json.specs.declared.asks.AskBody.{AskBody}
 use Rattle.kms_json.specs.declared.asks.AskBody.TheVariants as ask
@@ -8,8 +8,8 @@ use Rattle.kms_json.specs.declared.asks.Reading.{Reading}
 use Rattle.kms_json.specs.declared.given.Given.{Given}
 use Rattle.kms_json.specs.declared.operations.Operation.{Operation}
 use Rattle.kms_json.specs.declared.operations.Operation.TheVariants as op
-use Rattle.kms_json.specs.declared.operations.Row.{Row}
-use Rattle.kms_json.specs.Fields.{FieldRow, row_of, key_alone, list_of_key}
+use Rattle.kms_json.specs.declared.operations.Name.{Name}
+use Rattle.kms_json.specs.Fields.{FieldRow, key_alone, list_of_key}
 use Rattle.kms_json.specs.KeyAsks as keys
 use Rattle.kms_json.specs.PolicyAsks as policies
 use Rattle.kms_json.specs.StateAsks as states
@@ -65,9 +65,6 @@ shape_of op.GenerateDataKey = reads (codes "GenerateDataKey") cryptography.gener
 shape_of op.GenerateDataKeyWithoutPlaintext = reads (codes "GenerateDataKeyWithoutPlaintext") cryptography.generate_data_key_without_plaintext_fields cryptography.generate_data_key_without_plaintext
 shape_of op.GenerateRandom = reads (codes "GenerateRandom") cryptography.generate_random_fields cryptography.generate_random
 
-abbrev pub name_of : Operation → List ℕ
-name_of operation = (shape_of operation).name
-
 abbrev pub fields_of : Operation → List FieldRow
 fields_of operation = (shape_of operation).fields
 
@@ -83,21 +80,24 @@ all_operations =
     op.RetireGrant ∷ op.RevokeGrant ∷ op.ListGrants ∷ op.ListRetirableGrants ∷ op.Encrypt ∷ op.Decrypt ∷ op.ReEncrypt ∷ op.GenerateDataKey ∷
     op.GenerateDataKeyWithoutPlaintext ∷ op.GenerateRandom ∷ []
 
+-- a name and its operation
+pub record NameRow : Type 0 where
+  pub name : List ℕ
+  pub operation : Operation
+
+abbrev pub named : Operation → NameRow
+named operation = record { name = (shape_of operation).name; operation = operation }
+
+-- a row of the code's table
+abbrev pub name_row : Name → NameRow
+name_row row = record { name = row.0.now; operation = row.1 }
+
 -- X-Amz-Target is the service's name, a full stop and the operation's name
 abbrev pub target_of : List ℕ → List ℕ
 target_of name = codes "TrentService." ++ name
 
+abbrev pub operation_in : List NameRow → List ℕ → Option Operation
+operation_in rows target = option_map (λ row. row.operation) (find (λ row. bytes_eq target (target_of row.name)) rows)
+
 unfoldable pub operation_named : List ℕ → Option Operation
-operation_named target = find (λ operation. bytes_eq target (target_of (name_of operation))) all_operations
-
--- a row of the code's table: a name, an operation and its fields
-pub record OperationRow : Type 0 where
-  pub name : List ℕ
-  pub operation : Operation
-  pub fields : List FieldRow
-
-abbrev pub row_in : Row → OperationRow
-row_in row = record { name = row.0.now; operation = row.1; fields = map row_of row.2.now }
-
-abbrev pub row_named : List OperationRow → List ℕ → Option OperationRow
-row_named rows target = find (λ row. bytes_eq target (target_of row.name)) rows
+operation_named target = operation_in (map named all_operations) target

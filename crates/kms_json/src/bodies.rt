@@ -1,16 +1,16 @@
 // Requests' bodies, read in the order in which they are judged.
-ghost use Rattle.std.specs.Prelude.{◌≡◌, map, IfOk, Err};
+ghost use Rattle.std.specs.Prelude.{◌≡◌, IfOk, Err};
 ghost use Rattle.std.specs.Option.{option_map};
 ghost use Rattle.serde_json.specs.View.{view};
 ghost use Rattle.kms_json.specs.Asks.{body_data, asked, asked_of_values, AnswersFor};
-ghost use Rattle.kms_json.specs.Fields.{row_of, values_of, refused_by};
+ghost use Rattle.kms_json.specs.Fields.{values_of, refused_by};
 ghost use Rattle.kms_json.specs.Operations.{fields_of};
 ghost use Rattle.kms_json.specs.declared.asks.JsonFault.TheVariants.{NoMemory as OutOfMemory};
 
 use crate::asks::{AskBody, JsonFault};
 use crate::building::asked_from;
-use crate::fields::{Field, FieldFault, first_fault, read_values};
-use crate::operations::{Operation, Row, operation_of};
+use crate::fields::{FieldFault, first_fault, read_values};
+use crate::operations::{Operation, fields, operation_of};
 use kms_names::{NoMemory, Text};
 use serde_json::{Map, Value};
 use std::alloc::Global;
@@ -42,16 +42,11 @@ fn refused(alloc: Global, fault: FieldFault) -> JsonFault
     }
 }
 
-// What an object asks of an operation with these fields.
-fn asked_of_object(
-    alloc: Global,
-    operation: Operation,
-    fields: &[Field],
-    body: &Value,
-) -> Result<AskBody, JsonFault>
-    requires { map row_of fields.now ≡ fields_of operation }
+// What an object asks of an operation.
+fn asked_of_object(alloc: Global, operation: Operation, body: &Value) -> Result<AskBody, JsonFault>
     ensures { AnswersFor (asked_of_values operation (view body.now) (values_of (fields_of operation) (view body.now))) result }
 {
+    let fields = fields(operation);
     let Some(values) = read_values(alloc, fields, body)? else {
         return Err(JsonFault::Serialization);
     };
@@ -73,7 +68,7 @@ fn asked_of_object(
 pub fn read_ask(alloc: Global, target: &[u8], body: &[u8]) -> Result<AskBody, JsonFault>
     ensures { AnswersFor (asked target.now body.now) result }
 {
-    let Some(Row(_, operation, fields)) = operation_of(target) else {
+    let Some(operation) = operation_of(target) else {
         return Err(JsonFault::UnknownOperation);
     };
     let Some(value) = read_body(alloc, body)? else {
@@ -82,5 +77,5 @@ pub fn read_ask(alloc: Global, target: &[u8], body: &[u8]) -> Result<AskBody, Js
     if !value.is_object() {
         return Err(JsonFault::Serialization);
     }
-    asked_of_object(alloc, operation, fields, &value)
+    asked_of_object(alloc, operation, &value)
 }

@@ -80,7 +80,9 @@ pub fn asked_from(
         Operation::Decrypt => Read(cryptography::decrypt(alloc, values)?),
         Operation::ReEncrypt => Read(cryptography::re_encrypt(alloc, values)?),
         Operation::GenerateDataKey => Read(cryptography::generate_data_key(alloc, values)?),
-        Operation::GenerateDataKeyWithoutPlaintext => Read(cryptography::generate_data_key_without_plaintext(alloc, values)?),
+        Operation::GenerateDataKeyWithoutPlaintext => Read(
+            cryptography::generate_data_key_without_plaintext(alloc, values)?,
+        ),
         Operation::GenerateRandom => Read(cryptography::generate_random(values)),
     };
     Ok(body)

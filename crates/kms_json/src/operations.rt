@@ -1,7 +1,7 @@
 // The operations, and the fields that each of them takes.
-ghost use Rattle.std.specs.Prelude.{◌≡◌, map, IfSome, option_map};
+ghost use Rattle.std.specs.Prelude.{◌≡◌, map};
 ghost use Rattle.std.specs.Str.{bytes_eq};
-ghost use Rattle.kms_json.specs.Operations.{target_of, operation_named, fields_of, row_in, row_named};
+ghost use Rattle.kms_json.specs.Operations.{target_of, name_row, operation_in, operation_named, fields_of};
 ghost use Rattle.kms_json.specs.Fields.{row_of};
 
 use crate::fields::Field;
@@ -45,46 +45,49 @@ pub enum Operation {
     GenerateRandom,
 }
 
-/// An operation's name, the operation, and the fields of its body in the order in which they are judged.
+// The name of an operation.
 #[derive(Clone, Copy)]
-pub struct Row(pub &'static str, pub Operation, pub &'static [Field]);
+struct Name(&'static str, Operation);
 
-const OPERATIONS: [Row; 31] = [
-    Row("CreateKey", Operation::CreateKey, &keys::CREATE_KEY),
-    Row("DescribeKey", Operation::DescribeKey, &keys::DESCRIBE_KEY),
-    Row("ListKeys", Operation::ListKeys, &keys::LIST_KEYS),
-    Row("PutKeyPolicy", Operation::PutKeyPolicy, &policies::PUT_KEY_POLICY),
-    Row("GetKeyPolicy", Operation::GetKeyPolicy, &policies::GET_KEY_POLICY),
-    Row("ListKeyPolicies", Operation::ListKeyPolicies, &LIST_OF_KEY),
-    Row("UpdateKeyDescription", Operation::UpdateKeyDescription, &keys::UPDATE_KEY_DESCRIPTION),
-    Row("EnableKey", Operation::EnableKey, &KEY_ALONE),
-    Row("DisableKey", Operation::DisableKey, &KEY_ALONE),
-    Row("ScheduleKeyDeletion", Operation::ScheduleKeyDeletion, &states::SCHEDULE_KEY_DELETION),
-    Row("CancelKeyDeletion", Operation::CancelKeyDeletion, &KEY_ALONE),
-    Row("EnableKeyRotation", Operation::EnableKeyRotation, &rotation::ENABLE_KEY_ROTATION),
-    Row("DisableKeyRotation", Operation::DisableKeyRotation, &KEY_ALONE),
-    Row("RotateKeyOnDemand", Operation::RotateKeyOnDemand, &KEY_ALONE),
-    Row("GetKeyRotationStatus", Operation::GetKeyRotationStatus, &KEY_ALONE),
-    Row("ListKeyRotations", Operation::ListKeyRotations, &LIST_OF_KEY),
-    Row("CreateAlias", Operation::CreateAlias, &aliases::PUT_ALIAS),
-    Row("UpdateAlias", Operation::UpdateAlias, &aliases::PUT_ALIAS),
-    Row("DeleteAlias", Operation::DeleteAlias, &aliases::DELETE_ALIAS),
-    Row("ListAliases", Operation::ListAliases, &aliases::LIST_ALIASES),
-    Row("CreateGrant", Operation::CreateGrant, &grants::CREATE_GRANT),
-    Row("RetireGrant", Operation::RetireGrant, &grants::RETIRE_GRANT),
-    Row("RevokeGrant", Operation::RevokeGrant, &grants::REVOKE_GRANT),
-    Row("ListGrants", Operation::ListGrants, &grants::LIST_GRANTS),
-    Row("ListRetirableGrants", Operation::ListRetirableGrants, &grants::LIST_RETIRABLE_GRANTS),
-    Row("Encrypt", Operation::Encrypt, &cryptography::ENCRYPT),
-    Row("Decrypt", Operation::Decrypt, &cryptography::DECRYPT),
-    Row("ReEncrypt", Operation::ReEncrypt, &cryptography::RE_ENCRYPT),
-    Row("GenerateDataKey", Operation::GenerateDataKey, &cryptography::GENERATE_DATA_KEY),
-    Row("GenerateDataKeyWithoutPlaintext", Operation::GenerateDataKeyWithoutPlaintext, &cryptography::GENERATE_DATA_KEY_WITHOUT_PLAINTEXT),
-    Row("GenerateRandom", Operation::GenerateRandom, &cryptography::GENERATE_RANDOM),
+const NAMES: [Name; 31] = [
+    Name("CreateKey", Operation::CreateKey),
+    Name("DescribeKey", Operation::DescribeKey),
+    Name("ListKeys", Operation::ListKeys),
+    Name("PutKeyPolicy", Operation::PutKeyPolicy),
+    Name("GetKeyPolicy", Operation::GetKeyPolicy),
+    Name("ListKeyPolicies", Operation::ListKeyPolicies),
+    Name("UpdateKeyDescription", Operation::UpdateKeyDescription),
+    Name("EnableKey", Operation::EnableKey),
+    Name("DisableKey", Operation::DisableKey),
+    Name("ScheduleKeyDeletion", Operation::ScheduleKeyDeletion),
+    Name("CancelKeyDeletion", Operation::CancelKeyDeletion),
+    Name("EnableKeyRotation", Operation::EnableKeyRotation),
+    Name("DisableKeyRotation", Operation::DisableKeyRotation),
+    Name("RotateKeyOnDemand", Operation::RotateKeyOnDemand),
+    Name("GetKeyRotationStatus", Operation::GetKeyRotationStatus),
+    Name("ListKeyRotations", Operation::ListKeyRotations),
+    Name("CreateAlias", Operation::CreateAlias),
+    Name("UpdateAlias", Operation::UpdateAlias),
+    Name("DeleteAlias", Operation::DeleteAlias),
+    Name("ListAliases", Operation::ListAliases),
+    Name("CreateGrant", Operation::CreateGrant),
+    Name("RetireGrant", Operation::RetireGrant),
+    Name("RevokeGrant", Operation::RevokeGrant),
+    Name("ListGrants", Operation::ListGrants),
+    Name("ListRetirableGrants", Operation::ListRetirableGrants),
+    Name("Encrypt", Operation::Encrypt),
+    Name("Decrypt", Operation::Decrypt),
+    Name("ReEncrypt", Operation::ReEncrypt),
+    Name("GenerateDataKey", Operation::GenerateDataKey),
+    Name(
+        "GenerateDataKeyWithoutPlaintext",
+        Operation::GenerateDataKeyWithoutPlaintext,
+    ),
+    Name("GenerateRandom", Operation::GenerateRandom),
 ];
 
 // Whether a value of X-Amz-Target is the service's name, a full stop and this name.
-fn names(target: &[u8], name: &str) -> bool
+fn is_target_of(target: &[u8], name: &str) -> bool
     ensures { result ≡ bytes_eq target.now (target_of name.now) }
 {
     match target.strip_prefix(b"TrentService.") {
@@ -93,21 +96,60 @@ fn names(target: &[u8], name: &str) -> bool
     }
 }
 
-fn row_of_target(rows: &[Row], target: &[u8]) -> Option<Row>
-    ensures { option_map row_in result ≡ row_named (map row_in rows.now) target.now }
+fn named(names: &[Name], target: &[u8]) -> Option<Operation>
+    ensures { result ≡ operation_in (map name_row names.now) target.now }
 {
-    for row in rows {
-        if names(target, row.0) {
-            return Some(*row);
+    for row in names {
+        if is_target_of(target, row.0) {
+            return Some(row.1);
         }
     }
     None
 }
 
-/// The row of the operation that a value of the header X-Amz-Target names.
-pub fn operation_of(target: &[u8]) -> Option<Row>
-    ensures operation { option_map (λ row. row.1) result ≡ operation_named target.now }
-    ensures fields { IfSome result (λ row. map row_of row.2.now ≡ fields_of row.1) }
+/// The operation that a value of the header X-Amz-Target names.
+pub fn operation_of(target: &[u8]) -> Option<Operation>
+    ensures { result ≡ operation_named target.now }
 {
-    row_of_target(&OPERATIONS, target)
+    named(&NAMES, target)
+}
+
+/// The fields of an operation's body, in the order in which they are judged.
+pub fn fields(operation: Operation) -> &'static [Field]
+    ensures { map row_of result.now ≡ fields_of operation }
+{
+    match operation {
+        Operation::CreateKey => &keys::CREATE_KEY,
+        Operation::DescribeKey => &keys::DESCRIBE_KEY,
+        Operation::ListKeys => &keys::LIST_KEYS,
+        Operation::PutKeyPolicy => &policies::PUT_KEY_POLICY,
+        Operation::GetKeyPolicy => &policies::GET_KEY_POLICY,
+        Operation::ListKeyPolicies => &LIST_OF_KEY,
+        Operation::UpdateKeyDescription => &keys::UPDATE_KEY_DESCRIPTION,
+        Operation::EnableKey => &KEY_ALONE,
+        Operation::DisableKey => &KEY_ALONE,
+        Operation::ScheduleKeyDeletion => &states::SCHEDULE_KEY_DELETION,
+        Operation::CancelKeyDeletion => &KEY_ALONE,
+        Operation::EnableKeyRotation => &rotation::ENABLE_KEY_ROTATION,
+        Operation::DisableKeyRotation => &KEY_ALONE,
+        Operation::RotateKeyOnDemand => &KEY_ALONE,
+        Operation::GetKeyRotationStatus => &KEY_ALONE,
+        Operation::ListKeyRotations => &LIST_OF_KEY,
+        Operation::CreateAlias => &aliases::PUT_ALIAS,
+        Operation::UpdateAlias => &aliases::PUT_ALIAS,
+        Operation::DeleteAlias => &aliases::DELETE_ALIAS,
+        Operation::ListAliases => &aliases::LIST_ALIASES,
+        Operation::CreateGrant => &grants::CREATE_GRANT,
+        Operation::RetireGrant => &grants::RETIRE_GRANT,
+        Operation::RevokeGrant => &grants::REVOKE_GRANT,
+        Operation::ListGrants => &grants::LIST_GRANTS,
+        Operation::ListRetirableGrants => &grants::LIST_RETIRABLE_GRANTS,
+        Operation::Encrypt => &cryptography::ENCRYPT,
+        Operation::Decrypt => &cryptography::DECRYPT,
+        Operation::ReEncrypt => &cryptography::RE_ENCRYPT,
+        Operation::GenerateDataKey => &cryptography::GENERATE_DATA_KEY,
+        Operation::GenerateDataKeyWithoutPlaintext =>
+            &cryptography::GENERATE_DATA_KEY_WITHOUT_PLAINTEXT,
+        Operation::GenerateRandom => &cryptography::GENERATE_RANDOM,
+    }
 }

@@ -114,7 +114,10 @@ pub fn generate_data_key(alloc: Global, values: &mut VecDeque<Given>) -> Result<
 }
 
 /// GenerateDataKeyWithoutPlaintext: the spec stands before the number of bytes.
-pub fn generate_data_key_without_plaintext(alloc: Global, values: &mut VecDeque<Given>) -> Result<Reading, NoMemory>
+pub fn generate_data_key_without_plaintext(
+    alloc: Global,
+    values: &mut VecDeque<Given>,
+) -> Result<Reading, NoMemory>
     ensures { IfOk result (λ reading. reading ≡ asked.generate_data_key_without_plaintext (held asked.generate_data_key_without_plaintext_fields values.old.items)) }
 {
     let key_id = text_in(alloc, next(values));

@@ -15,7 +15,7 @@ use Rattle.kms_json.proofs.bodies.asked_of_object.Goals as goal
 
 pub first_fault-requires : goal.first_fault-requires
 first_fault-requires c =
-    let fields = c.args.fields.now in
+    let fields = c.fields-fields.result.now in
     let body = view c.args.body.now in
     let all : Some c.in-Some.values.items ≡ values_of (map row_of fields) body =
     subst (λ (read : Option (VecDeque Given Global)). option_map (λ v. v.items) read ≡ values_of (map row_of fields) body) c.in-Some.is c.in_ok-values.ensures in
@@ -23,26 +23,26 @@ first_fault-requires c =
 
 pub returns-in-Some-first_fault : goal.returns-in-Some-first_fault
 returns-in-Some-first_fault c =
-    let fields = c.args.fields.now in
+    let fields = c.fields-fields.result.now in
     let op = c.args.operation in
     let body = view c.args.body.now in
     let values = c.in-Some.values.items in
     let all : Some values ≡ values_of (map row_of fields) body =
     subst (λ (read : Option (VecDeque Given Global)). option_map (λ v. v.items) read ≡ values_of (map row_of fields) body) c.in-Some.is c.in_ok-values.ensures in
-    let read : values_of (fields_of op) body ≡ Some values = subst (λ (rows : List FieldRow). values_of rows body ≡ Some values) c.requires (sym all) in
+    let read : values_of (fields_of op) body ≡ Some values = subst (λ (rows : List FieldRow). values_of rows body ≡ Some values) c.fields-fields.ensures (sym all) in
     let fault : Some (refused_by c.in-Some-first_fault.fault) ≡ first_invalid (fields_of op) body values =
-    subst (λ (rows : List FieldRow). Some (refused_by c.in-Some-first_fault.fault) ≡ first_invalid rows body values) c.requires c.in-Some-first_fault.ensures in
+    subst (λ (rows : List FieldRow). Some (refused_by c.in-Some-first_fault.fault) ≡ first_invalid rows body values) c.fields-fields.ensures c.in-Some-first_fault.ensures in
     subst (λ (wanted : Result AskBody Refusal). AnswersFor wanted (Err c.refused.result)) (sym (refused_is op body values (refused_by c.in-Some-first_fault.fault) read fault)) c.refused.ensures
 
 pub returns : goal.returns
 returns c =
-    let fields = c.args.fields.now in
+    let fields = c.fields-fields.result.now in
     let op = c.args.operation in
     let body = view c.args.body.now in
     let values = c.in-Some.values.items in
     let all : Some values ≡ values_of (map row_of fields) body =
     subst (λ (read : Option (VecDeque Given Global)). option_map (λ v. v.items) read ≡ values_of (map row_of fields) body) c.in-Some.is c.in_ok-values.ensures in
-    let read : values_of (fields_of op) body ≡ Some values = subst (λ (rows : List FieldRow). values_of rows body ≡ Some values) c.requires (sym all) in
+    let read : values_of (fields_of op) body ≡ Some values = subst (λ (rows : List FieldRow). values_of rows body ≡ Some values) c.fields-fields.ensures (sym all) in
     let valid : None ≡ first_invalid (fields_of op) body values =
-    subst (λ (rows : List FieldRow). None ≡ first_invalid rows body values) c.requires c.in_default-first_fault.ensures in
+    subst (λ (rows : List FieldRow). None ≡ first_invalid rows body values) c.fields-fields.ensures c.in_default-first_fault.ensures in
     served_is op body values c.in_ok-asked_from.field-0 read valid c.in_ok-asked_from.ensures
