@@ -14,8 +14,7 @@ use Rattle.kms_json.specs.PageAsks.{page}
 abbrev pub put_alias_fields : List FieldRow
 put_alias_fields =
     field (codes "AliasName") AliasName always ∷
-    key_reference (codes "TargetKeyId") always ∷
-    []
+    key_reference (codes "TargetKeyId") always ∷ []
 
 abbrev pub delete_alias_fields : List FieldRow
 delete_alias_fields = field (codes "AliasName") AliasName always ∷ []

@@ -16,8 +16,7 @@ encrypt_fields =
     field (codes "EncryptionContext") Context maybe ∷
     grant_tokens ∷
     field (codes "EncryptionAlgorithm") AnyText maybe ∷
-    field (codes "DryRun") Flag maybe ∷
-    []
+    field (codes "DryRun") Flag maybe ∷ []
 
 abbrev pub decrypt_fields : List FieldRow
 decrypt_fields =
@@ -27,8 +26,7 @@ decrypt_fields =
     key_reference (codes "KeyId") maybe ∷
     field (codes "EncryptionAlgorithm") AnyText maybe ∷
     field (codes "Recipient") Object maybe ∷
-    field (codes "DryRun") Flag maybe ∷
-    []
+    field (codes "DryRun") Flag maybe ∷ []
 
 abbrev pub re_encrypt_fields : List FieldRow
 re_encrypt_fields =
@@ -40,8 +38,7 @@ re_encrypt_fields =
     field (codes "SourceEncryptionAlgorithm") AnyText maybe ∷
     field (codes "DestinationEncryptionAlgorithm") AnyText maybe ∷
     grant_tokens ∷
-    field (codes "DryRun") Flag maybe ∷
-    []
+    field (codes "DryRun") Flag maybe ∷ []
 
 abbrev pub generate_data_key_fields : List FieldRow
 generate_data_key_fields =
@@ -51,8 +48,7 @@ generate_data_key_fields =
     field (codes "KeySpec") DataKeySpec maybe ∷
     grant_tokens ∷
     field (codes "Recipient") Object maybe ∷
-    field (codes "DryRun") Flag maybe ∷
-    []
+    field (codes "DryRun") Flag maybe ∷ []
 
 abbrev pub generate_data_key_without_plaintext_fields : List FieldRow
 generate_data_key_without_plaintext_fields =
@@ -61,15 +57,13 @@ generate_data_key_without_plaintext_fields =
     field (codes "KeySpec") DataKeySpec maybe ∷
     field (codes "NumberOfBytes") (Whole 1 1024) (instead_of (codes "KeySpec")) ∷
     grant_tokens ∷
-    field (codes "DryRun") Flag maybe ∷
-    []
+    field (codes "DryRun") Flag maybe ∷ []
 
 abbrev pub generate_random_fields : List FieldRow
 generate_random_fields =
     field (codes "NumberOfBytes") (Whole 1 1024) always ∷
     field (codes "CustomKeyStoreId") AnyText maybe ∷
-    field (codes "Recipient") Object maybe ∷
-    []
+    field (codes "Recipient") Object maybe ∷ []
 
 abbrev pub encrypt : (List ℕ → Given) → Reading
 encrypt at = reading.Encrypt record {

@@ -21,8 +21,7 @@ create_grant_fields =
     field (codes "Constraints") GrantConstraint maybe ∷
     grant_tokens ∷
     field (codes "Name") GrantName maybe ∷
-    field (codes "DryRun") Flag maybe ∷
-    []
+    field (codes "DryRun") Flag maybe ∷ []
 
 -- a grant to be retired is named by its token alone, or by its key and its id
 abbrev pub retire_grant_fields : List FieldRow
@@ -30,15 +29,13 @@ retire_grant_fields =
     field (codes "GrantToken") AnyText (instead_of_both (codes "KeyId") (codes "GrantId")) ∷
     key_reference (codes "KeyId") maybe ∷
     field (codes "GrantId") AnyText maybe ∷
-    field (codes "DryRun") Flag maybe ∷
-    []
+    field (codes "DryRun") Flag maybe ∷ []
 
 abbrev pub revoke_grant_fields : List FieldRow
 revoke_grant_fields =
     key_reference (codes "KeyId") always ∷
     field (codes "GrantId") AnyText always ∷
-    field (codes "DryRun") Flag maybe ∷
-    []
+    field (codes "DryRun") Flag maybe ∷ []
 
 abbrev pub list_grants_fields : List FieldRow
 list_grants_fields =
@@ -46,8 +43,7 @@ list_grants_fields =
     field (codes "Limit") (Whole 1 100) maybe ∷
     field (codes "Marker") (Text 1 1024) maybe ∷
     field (codes "GrantId") AnyText maybe ∷
-    principal (codes "GranteePrincipal") maybe ∷
-    []
+    principal (codes "GranteePrincipal") maybe ∷ []
 
 abbrev pub list_retirable_grants_fields : List FieldRow
 list_retirable_grants_fields = principal (codes "RetiringPrincipal") always ∷ page_of 100

@@ -22,20 +22,17 @@ create_key_fields =
     field (codes "BypassPolicyLockoutSafetyCheck") Flag maybe ∷
     field (codes "Tags") Items maybe ∷
     field (codes "MultiRegion") Flag maybe ∷
-    field (codes "XksKeyId") AnyText maybe ∷
-    []
+    field (codes "XksKeyId") AnyText maybe ∷ []
 
 abbrev pub update_key_description_fields : List FieldRow
 update_key_description_fields =
     key_reference (codes "KeyId") always ∷
-    field (codes "Description") (Text 0 8192) always ∷
-    []
+    field (codes "Description") (Text 0 8192) always ∷ []
 
 abbrev pub describe_key_fields : List FieldRow
 describe_key_fields =
     key_reference (codes "KeyId") always ∷
-    grant_tokens ∷
-    []
+    grant_tokens ∷ []
 
 abbrev pub list_keys_fields : List FieldRow
 list_keys_fields = page_of 1000

@@ -15,14 +15,12 @@ put_key_policy_fields =
     key_reference (codes "KeyId") always ∷
     field (codes "PolicyName") PolicyName maybe ∷
     field (codes "Policy") SomeText always ∷
-    field (codes "BypassPolicyLockoutSafetyCheck") Flag maybe ∷
-    []
+    field (codes "BypassPolicyLockoutSafetyCheck") Flag maybe ∷ []
 
 abbrev pub get_key_policy_fields : List FieldRow
 get_key_policy_fields =
     key_reference (codes "KeyId") always ∷
-    field (codes "PolicyName") PolicyName maybe ∷
-    []
+    field (codes "PolicyName") PolicyName maybe ∷ []
 
 abbrev pub put_key_policy : (List ℕ → Given) → Changing
 put_key_policy at = changing.PutKeyPolicy (text_in (at (codes "KeyId"))) (text_in (at (codes "Policy"))) (flag_in (at (codes "BypassPolicyLockoutSafetyCheck")))

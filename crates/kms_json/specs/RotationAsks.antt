@@ -13,8 +13,7 @@ use Rattle.kms_json.specs.PageAsks.{page}
 abbrev pub enable_key_rotation_fields : List FieldRow
 enable_key_rotation_fields =
     key_reference (codes "KeyId") always ∷
-    field (codes "RotationPeriodInDays") (Whole 90 2560) maybe ∷
-    []
+    field (codes "RotationPeriodInDays") (Whole 90 2560) maybe ∷ []
 
 -- a key rotates each 365 days where no number of days is given
 abbrev pub enable_key_rotation : (List ℕ → Given) → Changing

@@ -10,8 +10,7 @@ use Rattle.kms_json.specs.Fields.{FieldRow, always, maybe, field, key_reference}
 abbrev pub schedule_key_deletion_fields : List FieldRow
 schedule_key_deletion_fields =
     key_reference (codes "KeyId") always ∷
-    field (codes "PendingWindowInDays") (Whole 7 30) maybe ∷
-    []
+    field (codes "PendingWindowInDays") (Whole 7 30) maybe ∷ []
 
 -- a key waits 30 days where no number of days is given
 abbrev pub schedule_key_deletion : (List ℕ → Given) → Changing

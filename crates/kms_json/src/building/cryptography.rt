@@ -30,21 +30,14 @@ pub fn encrypt(alloc: Global, values: &mut VecDeque<Given>) -> Result<Reading, N
 pub fn decrypt(alloc: Global, values: &mut VecDeque<Given>) -> Result<Reading, NoMemory>
     ensures { IfOk result (λ reading. reading ≡ asked.decrypt (held asked.decrypt_fields values.old.items)) }
 {
-    let blob = bytes_in(alloc, next(values));
-    let context = context_in(alloc, next(values))?;
-    let grant_tokens = texts_in(alloc, next(values));
-    let key_id = text_if(next(values));
-    let algorithm = text_if(next(values));
-    let recipient = is_given(next(values));
-    let dry_run = flag_in(next(values));
     Ok(Reading::Decrypt(Decrypt {
-        blob,
-        context,
-        grant_tokens,
-        key_id,
-        algorithm,
-        recipient,
-        dry_run,
+        blob: bytes_in(alloc, next(values)),
+        context: context_in(alloc, next(values))?,
+        grant_tokens: texts_in(alloc, next(values)),
+        key_id: text_if(next(values)),
+        algorithm: text_if(next(values)),
+        recipient: is_given(next(values)),
+        dry_run: flag_in(next(values)),
     }))
 }
 
@@ -52,25 +45,16 @@ pub fn decrypt(alloc: Global, values: &mut VecDeque<Given>) -> Result<Reading, N
 pub fn re_encrypt(alloc: Global, values: &mut VecDeque<Given>) -> Result<Reading, NoMemory>
     ensures { IfOk result (λ reading. reading ≡ asked.re_encrypt (held asked.re_encrypt_fields values.old.items)) }
 {
-    let blob = bytes_in(alloc, next(values));
-    let source_context = context_in(alloc, next(values))?;
-    let source_key_id = text_if(next(values));
-    let key_id = text_in(alloc, next(values));
-    let context = context_in(alloc, next(values))?;
-    let source_algorithm = text_if(next(values));
-    let algorithm = text_if(next(values));
-    let grant_tokens = texts_in(alloc, next(values));
-    let dry_run = flag_in(next(values));
     Ok(Reading::ReEncrypt(ReEncrypt {
-        blob,
-        source_context,
-        source_key_id,
-        key_id,
-        context,
-        source_algorithm,
-        algorithm,
-        grant_tokens,
-        dry_run,
+        blob: bytes_in(alloc, next(values)),
+        source_context: context_in(alloc, next(values))?,
+        source_key_id: text_if(next(values)),
+        key_id: text_in(alloc, next(values)),
+        context: context_in(alloc, next(values))?,
+        source_algorithm: text_if(next(values)),
+        algorithm: text_if(next(values)),
+        grant_tokens: texts_in(alloc, next(values)),
+        dry_run: flag_in(next(values)),
     }))
 }
 
@@ -120,18 +104,12 @@ pub fn generate_data_key_without_plaintext(
 ) -> Result<Reading, NoMemory>
     ensures { IfOk result (λ reading. reading ≡ asked.generate_data_key_without_plaintext (held asked.generate_data_key_without_plaintext_fields values.old.items)) }
 {
-    let key_id = text_in(alloc, next(values));
-    let context = context_in(alloc, next(values))?;
-    let spec = next(values);
-    let size = data_key_size(spec, next(values));
-    let grant_tokens = texts_in(alloc, next(values));
-    let dry_run = flag_in(next(values));
     Ok(Reading::GenerateDataKeyWithoutPlaintext(DataKey {
-        key_id,
-        context,
-        size,
-        grant_tokens,
-        dry_run,
+        key_id: text_in(alloc, next(values)),
+        context: context_in(alloc, next(values))?,
+        size: data_key_size(next(values), next(values)),
+        grant_tokens: texts_in(alloc, next(values)),
+        dry_run: flag_in(next(values)),
     }))
 }
 

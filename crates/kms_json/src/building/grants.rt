@@ -43,10 +43,7 @@ fn retired(alloc: Global, token: Given, key_id: Given, grant_id: Given) -> Retir
 pub fn retire_grant(alloc: Global, values: &mut VecDeque<Given>) -> Changing
     ensures { result ≡ asked.retire_grant (held asked.retire_grant_fields values.old.items) }
 {
-    let token = next(values);
-    let key_id = next(values);
-    let grant_id = next(values);
-    let grant = retired(alloc, token, key_id, grant_id);
+    let grant = retired(alloc, next(values), next(values), next(values));
     let dry_run = flag_in(next(values));
     Changing::RetireGrant { grant, dry_run }
 }
