@@ -2,6 +2,7 @@
 ghost use Rattle.std.specs.Prelude.{◌≡◌};
 ghost use Rattle.kms_json.specs.Asks.{changes_account};
 
+mod copies;
 mod cryptography;
 mod grants;
 mod keys;
