@@ -53,7 +53,7 @@ fn asked_of_object(alloc: Global, operation: Operation, body: &Value) -> Result<
     if let Some(fault) = first_fault(fields, body, &values) {
         return Err(refused(alloc, fault));
     }
-    Ok(asked_from(alloc, operation, values)?)
+    Ok(asked_from(alloc, operation, values))
 }
 
 /// What a request asks whose header X-Amz-Target has the value `target` (AWS KMS API Reference,

@@ -1,5 +1,5 @@
 // An operation with its fields, from the values of the fields in their order.
-ghost use Rattle.std.specs.Prelude.{◌≡◌, drop, IfOk};
+ghost use Rattle.std.specs.Prelude.{◌≡◌, drop};
 ghost use Rattle.kms_json.specs.Building.{first_of, held};
 ghost use Rattle.kms_json.specs.Operations.{built, fields_of};
 ghost use Rattle.kms_json.specs.PageAsks.{page_by};
@@ -16,7 +16,6 @@ use crate::asks::AskBody::{Change, Read};
 use crate::asks::{AskBody, Page};
 use crate::given::{Given, number_or, text_if};
 use crate::operations::Operation;
-use kms_names::NoMemory;
 use std::alloc::Global;
 use std::collections::VecDeque;
 
@@ -46,11 +45,11 @@ pub fn asked_from(
     alloc: Global,
     operation: Operation,
     mut values: VecDeque<Given>,
-) -> Result<AskBody, NoMemory>
-    ensures { IfOk result (λ body. body ≡ built operation (held (fields_of operation) values.items)) }
+) -> AskBody
+    ensures { result ≡ built operation (held (fields_of operation) values.items) }
 {
     let values = &mut values;
-    let body = match operation {
+    match operation {
         Operation::CreateKey => Change(keys::create_key(alloc, values)),
         Operation::DescribeKey => Read(keys::describe_key(alloc, values)),
         Operation::ListKeys => Read(keys::list_keys(values)),
@@ -76,14 +75,13 @@ pub fn asked_from(
         Operation::RevokeGrant => Change(grants::revoke_grant(alloc, values)),
         Operation::ListGrants => Read(grants::list_grants(alloc, values)),
         Operation::ListRetirableGrants => Read(grants::list_retirable_grants(alloc, values)),
-        Operation::Encrypt => Read(cryptography::encrypt(alloc, values)?),
-        Operation::Decrypt => Read(cryptography::decrypt(alloc, values)?),
-        Operation::ReEncrypt => Read(cryptography::re_encrypt(alloc, values)?),
-        Operation::GenerateDataKey => Read(cryptography::generate_data_key(alloc, values)?),
+        Operation::Encrypt => Read(cryptography::encrypt(alloc, values)),
+        Operation::Decrypt => Read(cryptography::decrypt(alloc, values)),
+        Operation::ReEncrypt => Read(cryptography::re_encrypt(alloc, values)),
+        Operation::GenerateDataKey => Read(cryptography::generate_data_key(alloc, values)),
         Operation::GenerateDataKeyWithoutPlaintext => Read(
-            cryptography::generate_data_key_without_plaintext(alloc, values)?,
+            cryptography::generate_data_key_without_plaintext(alloc, values),
         ),
         Operation::GenerateRandom => Read(cryptography::generate_random(values)),
-    };
-    Ok(body)
+    }
 }

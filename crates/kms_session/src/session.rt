@@ -78,7 +78,7 @@ fn refusal_in(fault: JsonFault) -> Option<Refusal>
         JsonFault::UnknownOperation => Some(Refusal::UnknownOperation),
         JsonFault::Serialization => Some(Refusal::Serialization),
         JsonFault::Validation(field) => Some(Refusal::Validation(field)),
-        JsonFault::InvalidAliasName => Some(Refusal::InvalidAliasName),
+        JsonFault::AliasName => Some(Refusal::InvalidAliasName),
         JsonFault::NoMemory => None,
     }
 }
