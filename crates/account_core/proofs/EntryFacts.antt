@@ -23,7 +23,7 @@ use Rattle.account_keys.specs.declared.alias_changes.AliasChange.TheVariants as 
 use Rattle.account_keys.specs.declared.key_changes.KeyChange.TheVariants as change
 use Rattle.account_keys.specs.Aliases.{changes_alias}
 use Rattle.account_keys.specs.Grants.{creates_grant, retires_grant, revokes_grant}
-use Rattle.account_keys.specs.KeyChanges.{changes_key, updates_description}
+use Rattle.account_keys.specs.KeyChanges.{changes_key}
 use Rattle.account_keys.specs.Keys.{creates_key}
 use Rattle.account_keys.specs.Policies.{puts_policy}
 use Rattle.account_keys.proofs.Doing as does
@@ -35,7 +35,7 @@ use Rattle.account_core.specs.Decide.{lacking, decide_body, decide, IsProper}
 room_of : (view : View) (body : Changing) (o : Outcome (Option What)) (did : What) → IsSizedChanging body → change_outcome view body ≡ Ok o → o.effect ≡ Some did → HasRoom view did
 room_of view (changing.CreateKey x) o did sized = done_by view (creates_key view x) (does.creates view x) o did
 room_of view (changing.PutKeyPolicy key_id text bypass) o did sized = done_by view (puts_policy view key_id text bypass) (does.puts view key_id text bypass) o did
-room_of view (changing.UpdateKeyDescription key_id text) o did sized = done_by view (updates_description view key_id text) (does.describes view key_id text) o did
+room_of view (changing.UpdateKeyDescription key_id text) o did sized = done_by view (changes_key view key_id (change.Describe text)) (does.changes view key_id (change.Describe text) tt) o did
 room_of view (changing.EnableKey key_id) o did sized = done_by view (changes_key view key_id change.Enable) (does.changes view key_id change.Enable tt) o did
 room_of view (changing.DisableKey key_id) o did sized = done_by view (changes_key view key_id change.Disable) (does.changes view key_id change.Disable tt) o did
 room_of view (changing.ScheduleKeyDeletion key_id days) o did sized = done_by view (changes_key view key_id (change.ScheduleDeletion days)) (does.changes view key_id (change.ScheduleDeletion days) tt) o did

@@ -1,5 +1,6 @@
 -- An entry that may come next fits the rows, and what holds of lawful histories.
 use Rattle.std.proofs.Common.{◌≡◌, ◌⊎◌, inl, inr, ℕ, ◌+◌, ◌<◌, ◌≤◌, ◌^◌, ◌&&◌, max, nat_le, nat_lt, Bool, true, false, List, [], ◌∷◌, ◌++◌, length, take, drop, get_or, codes, Option, Some, None, refl, sym, ap, ap₂, ◌∙◌, subst, if◌then◌else◌, arith, length-append, length-take}
+use Rattle.kms_names.specs.Moment.{year_10000}
 use Rattle.std.specs.Prelude.{All}
 use Rattle.std.specs.Int.{w64, to_be_bytes, from_be_bytes}
 use Rattle.std.proofs.lemmas.Bool.Decides.{nat_tests}
@@ -64,20 +65,8 @@ grant_place facts p fits =
 
 made_here : (facts : RealmFacts) (place : ℕ) (w : What) → place < 2 ^ 48 → IsMadeAt facts place w → IsMadeHere place w
 made_here facts place (what.CreateKey key description policy) fits made = ap place_in made ∙ id_place facts place fits
-made_here facts place (what.Enable key) fits made = tt
-made_here facts place (what.Disable key) fits made = tt
-made_here facts place (what.Schedule key date days) fits made = tt
-made_here facts place (what.Cancel key) fits made = tt
-made_here facts place (what.RotationOn key period) fits made = tt
-made_here facts place (what.RotationOff key) fits made = tt
-made_here facts place (what.RotateNow key) fits made = tt
-made_here facts place (what.Policy key text) fits made = tt
-made_here facts place (what.Description key text) fits made = tt
-made_here facts place (what.AliasPut name key) fits made = tt
-made_here facts place (what.AliasDrop name) fits made = tt
 made_here facts place (what.GrantAdd grant key grantee retiring operations constraint name) fits made = ap place_in_grant made ∙ grant_place facts place fits
-made_here facts place (what.GrantDrop grant) fits made = tt
-made_here facts place what.House fits made = tt
+made_here facts place _ fits made = tt
 
 -- ---- room
 
@@ -136,14 +125,14 @@ pub record ComesNext (facts : RealmFacts) (history : List Entry) (entry : Entry)
 house_made : (facts : RealmFacts) (place : ℕ) (w : What) → w ≡ what.House → IsMadeAt facts place w × IsMadeHere place w × GivesDays w × ((grants : List GrantRow) → HoldsDropped grants w)
 house_made facts place w is = subst (λ (v : What). IsMadeAt facts place v × IsMadeHere place v × GivesDays v × ((grants : List GrantRow) → HoldsDropped grants v)) (sym is) (tt, tt, tt, λ grants. tt)
 
-pub comes_next : (facts : RealmFacts) (history : List Entry) (entry : Entry) → latest_of history < 253402300800 → IsNext facts history entry → ComesNext facts history entry
+pub comes_next : (facts : RealmFacts) (history : List Entry) (entry : Entry) → latest_of history < year_10000 → IsNext facts history entry → ComesNext facts history entry
 comes_next facts history entry latest (appended x proper is) =
     let at = next_entry facts history x entry proper is in
     let limits = both_none (full (view_of facts history x no_places) entry.what) _ at.left in
     let rest = both_none (entries_full (length history)) _ limits.1 in
     let few : length history < 1000000 = few_of (length history) rest.0 in
     let time : entry.time ≡ max x.moment (latest_of history) = at.time in
-    let moment : x.moment < 253402300800 = proper.moment in
+    let moment : x.moment < year_10000 = proper.moment in
     record {
       fits = record {
         bound = omega (arith, time, moment, latest);
@@ -177,7 +166,7 @@ comes_next facts history entry latest (kept clock bound is) =
 -- ---- lawful histories
 
 pub record HasLaws (facts : RealmFacts) (history : List Entry) : Type 0 where
-  pub latest : latest_of history < 253402300800
+  pub latest : latest_of history < year_10000
   pub few : length history ≤ 1000000
   pub rows : AreRows (length history) (replay history).keys
   pub made : AreMadeFrom 0 history
@@ -192,20 +181,7 @@ id_size facts place =
 
 new_size : (facts : RealmFacts) (place time : ℕ) (w : What) → IsMadeAt facts place w → IsNew (λ (row : KeyRow). length row.key ≡ 16) place time w
 new_size facts place time (what.CreateKey key description policy) made = ap length made ∙ id_size facts place
-new_size facts place time (what.Enable key) made = tt
-new_size facts place time (what.Disable key) made = tt
-new_size facts place time (what.Schedule key date days) made = tt
-new_size facts place time (what.Cancel key) made = tt
-new_size facts place time (what.RotationOn key period) made = tt
-new_size facts place time (what.RotationOff key) made = tt
-new_size facts place time (what.RotateNow key) made = tt
-new_size facts place time (what.Policy key text) made = tt
-new_size facts place time (what.Description key text) made = tt
-new_size facts place time (what.AliasPut name key) made = tt
-new_size facts place time (what.AliasDrop name) made = tt
-new_size facts place time (what.GrantAdd grant key grantee retiring operations constraint name) made = tt
-new_size facts place time (what.GrantDrop grant) made = tt
-new_size facts place time what.House made = tt
+new_size facts place time _ made = tt
 
 from_zero : (n : ℕ) → n ≡ 0 + n
 from_zero n = omega arith
@@ -216,7 +192,7 @@ with_next facts history entry laws next =
     let replayed = sym (replay-push history entry) in
     let few : length history < 1000000 = next.fits.few in
     record {
-      latest = subst (λ (t : ℕ). t < 253402300800) (sym (latest-push history entry)) next.fits.bound;
+      latest = subst (λ (t : ℕ). t < year_10000) (sym (latest-push history entry)) next.fits.bound;
       few = omega (arith, few, length-push history entry);
       rows = subst (λ (n : ℕ). AreRows n (replay (history ++ entry ∷ [])).keys) (sym (length-push history entry))
           (subst (AreRows (length history + 1)) replayed (rows_after (length history) entry.time entry.what keys next.fits.made laws.rows));

@@ -1,5 +1,6 @@
 -- What the account of one thread answers.
 use Rattle.std.specs.Prelude.{◌≡◌, ◌==◌, ◌<◌, ℕ, List, [], ◌∷◌, ◌++◌, length, nat_lt, if◌then◌else◌, Option, Some, None, Ok}
+use Rattle.kms_names.specs.Moment.{year_10000}
 use Rattle.kms_json.specs.declared.asks.Ask.{Ask}
 use Rattle.kms_json.specs.declared.asks.AskBody.{AskBody}
 use Rattle.kms_json.specs.declared.asks.AskBody.TheVariants as ask
@@ -58,12 +59,12 @@ pub record IsProper (facts : RealmFacts) (x : Ask) : Type 0 where
   pub text : List ℕ
   pub body : asked target text ≡ Ok x.body
   pub caller : account_of x.caller ≡ facts.account
-  pub moment : x.moment < 253402300800
+  pub moment : x.moment < year_10000
 
 -- the entry is one that a proper request appends to this history, or that housekeeping appends at a clock's answer
 pub data IsNext (facts : RealmFacts) (history : List Entry) (entry : Entry) : Type 0 where
   appended : (request : Ask) → IsProper facts request → (decide facts history request no_places).entry ≡ Some entry → IsNext facts history entry
-  kept : (clock : ℕ) → clock < 253402300800 → housekeeping_of history clock ≡ Some entry → IsNext facts history entry
+  kept : (clock : ℕ) → clock < year_10000 → housekeeping_of history clock ≡ Some entry → IsNext facts history entry
 
 -- each entry is one that may come next after the entries before it
 pub data IsLawful (facts : RealmFacts) : List Entry → Type 0 where

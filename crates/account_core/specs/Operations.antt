@@ -12,20 +12,21 @@ use Rattle.account_steps.specs.Parts.{Outcome, reads, changes}
 use Rattle.account_keys.specs.Keys.{creates_key, describes_key}
 use Rattle.account_keys.specs.Policies.{puts_policy, gets_policy}
 use Rattle.account_keys.specs.declared.key_changes.KeyChange.TheVariants as change
-use Rattle.account_keys.specs.KeyChanges.{changes_key, updates_description, gets_rotation_status}
+use Rattle.account_keys.specs.KeyChanges.{changes_key, gets_rotation_status}
 use Rattle.account_keys.specs.declared.alias_changes.AliasChange.TheVariants as alias
 use Rattle.account_keys.specs.Aliases.{changes_alias}
 use Rattle.account_keys.specs.Grants.{creates_grant, retires_grant, revokes_grant}
 use Rattle.account_lists.specs.declared.lists.AccountList.TheVariants as all
 use Rattle.account_lists.specs.declared.lists.KeyList.TheVariants as of
 use Rattle.account_lists.specs.Lists.{lists_in, lists_on}
-use Rattle.account_crypto.specs.Crypto.{encrypts, decrypts, re_encrypts, generates_data_key, generates_sealed_data_key, generates_random}
+use Rattle.account_crypto.specs.Crypto.{encrypts, decrypts, re_encrypts, generates_data_key, generates_random}
+use Rattle.account_crypto.specs.declared.data_keys.DataKeyForm.TheVariants as form
 
 -- those that change the account
 abbrev pub change_outcome : View → Changing → Result (Outcome (Option What)) Refusal
 change_outcome view (changing.CreateKey x) = changes view (creates_key view x)
 change_outcome view (changing.PutKeyPolicy key_id text bypass) = changes view (puts_policy view key_id text bypass)
-change_outcome view (changing.UpdateKeyDescription key_id text) = changes view (updates_description view key_id text)
+change_outcome view (changing.UpdateKeyDescription key_id text) = changes view (changes_key view key_id (change.Describe text))
 change_outcome view (changing.EnableKey key_id) = changes view (changes_key view key_id change.Enable)
 change_outcome view (changing.DisableKey key_id) = changes view (changes_key view key_id change.Disable)
 change_outcome view (changing.ScheduleKeyDeletion key_id days) = changes view (changes_key view key_id (change.ScheduleDeletion days))
@@ -54,6 +55,6 @@ read_outcome view (reading.GetKeyRotationStatus key_id) = reads view (gets_rotat
 read_outcome view (reading.Encrypt x) = reads view (encrypts view x)
 read_outcome view (reading.Decrypt x) = reads view (decrypts view x)
 read_outcome view (reading.ReEncrypt x) = reads view (re_encrypts view x)
-read_outcome view (reading.GenerateDataKey x recipient) = reads view (generates_data_key view x recipient)
-read_outcome view (reading.GenerateDataKeyWithoutPlaintext x) = reads view (generates_sealed_data_key view x)
+read_outcome view (reading.GenerateDataKey x recipient) = reads view (generates_data_key view x (form.Plaintext recipient))
+read_outcome view (reading.GenerateDataKeyWithoutPlaintext x) = reads view (generates_data_key view x form.Sealed)
 read_outcome view (reading.GenerateRandom size custom_key_store recipient) = reads view (generates_random view size custom_key_store recipient)

@@ -1,10 +1,11 @@
 // The account.
 ghost use Rattle.std.specs.Prelude.{◌≡◌, ◌<◌, ◌++◌, ◌∷◌, [], length, true, false, IfOk};
+ghost use Rattle.kms_names.specs.Moment.{year_10000};
 
 use crate::Decision;
 use crate::decide::{decision_from, lacking_entries};
 use crate::operations::{change_body, read_body};
-use crate::realm::Realm;
+use crate::held_facts::HeldFacts;
 use account_rows::{Entry, Rows};
 use account_steps::{Places, RealmFacts, Stop, View};
 use draw_lines::DrawLine;
@@ -16,14 +17,14 @@ use std::marker::Model;
 /// The account of one thread. Contracts see its facts and the list of its entries; the rows that it
 /// keeps beside them are the list's replay.
 pub struct Account {
-    realm: Realm,
+    facts: HeldFacts,
     rows: Rows,
 }
 
 // Each crate that lets an account go calls this one drop, and doesn't take it apart itself.
 impl Drop for Account {
     fn drop(self) {
-        let Account { realm: _, rows: _ } = self;
+        let Account { facts: _, rows: _ } = self;
     }
 }
 
@@ -33,9 +34,9 @@ impl Model for Account {
 
     ghost Value = { account.Account };
 
-    ghost view = { λ a. record { facts = a.realm; entries = a.rows } };
+    ghost view = { λ a. record { facts = a.facts; entries = a.rows } };
 
-    ghost invariant = { λ a. IsLawful a.realm a.rows };
+    ghost invariant = { λ a. IsLawful a.facts a.rows };
 }
 
 impl Account {
@@ -53,7 +54,7 @@ impl Account {
     {
         let rows = Rows::new(alloc, &facts.account)?;
         Ok(Account {
-            realm: Realm::new(alloc, facts)?,
+            facts: HeldFacts::new(alloc, facts)?,
             rows,
         })
     }
@@ -62,7 +63,7 @@ impl Account {
     pub fn facts(&self) -> &RealmFacts
         ensures { result.now ≡ self.now.facts }
     {
-        self.realm.facts()
+        self.facts.facts()
     }
 
     /// The number of entries. Each of them is one that a proper request, or housekeeping, appends to those before it.
@@ -134,12 +135,12 @@ impl Account {
 
     // What the steps of a request's decision go by.
     fn view<'a>(&'a self, alloc: Global, ask: &'a Ask, places: Places) -> Result<View<'a>, NoMemory>
-        requires { ask.now.moment < 253402300800 }
+        requires { ask.now.moment < year_10000 }
         ensures { IfOk result (λ view. view ≡ view_of self.now.facts self.now.entries ask.now places) }
     {
-        let policies = self.realm.policies_of(alloc, &ask.caller)?;
+        let policies = self.facts.policies_of(alloc, &ask.caller)?;
         Ok(View::new(
-            self.realm.facts(),
+            self.facts.facts(),
             &self.rows,
             ask.moment.max(self.rows.latest()),
             &ask.caller,
@@ -154,7 +155,7 @@ impl Account {
         ensures { IfOk result (λ a. a ≡ record { facts = self.now.facts; entries = self.now.entries ++ entry.now ∷ [] }) }
     {
         Ok(Account {
-            realm: self.realm.share()?,
+            facts: self.facts.share()?,
             rows: self.rows.apply(entry)?,
         })
     }

@@ -6,10 +6,15 @@
 
 mod account;
 mod decide;
+mod held_facts;
 mod operations;
-mod realm;
 mod threads;
 
 pub use account::Account;
+pub use account_rows::{Entry, What};
+pub use account_steps::{Places, RealmFacts};
+pub use authority::{Identity, IdentityList, PolicyList};
 pub use decide::Decision;
+pub use draw_lines::DrawLine;
+pub use kms_json::{Ask, AskBody, Reply};
 pub use threads::account_crosses_threads;

@@ -1,6 +1,7 @@
 // The operations, one arm each.
-ghost use Rattle.std.specs.Prelude.{◌≡◌, true, IfOk};
+ghost use Rattle.std.specs.Prelude.{◌≡◌, ◌≤◌, true, IfOk};
 ghost use Rattle.kms_names.specs.Reading.{is_alias_text};
+ghost use Rattle.account_crypto.specs.Crypto.{generates_data_key};
 ghost use Rattle.account_keys.specs.Aliases.{changes_alias};
 ghost use Rattle.account_keys.specs.Grants.{creates_grant};
 ghost use Rattle.account_lists.specs.Lists.{lists_in, lists_on};
@@ -12,24 +13,28 @@ ghost use Rattle.account_steps.specs.Settling.{Settles, Makes};
 ghost use Rattle.account_core.specs.Operations.{change_outcome, read_outcome};
 
 use account_crypto::{
-    Decrypting, Drawing, Encrypting, GeneratingDataKey, GeneratingRandom, GeneratingSealedDataKey,
-    ReEncrypting,
+    DataKeyForm, Decrypting, Encrypting, GeneratingDataKey, GeneratingRandom, ReEncrypting,
 };
 use account_keys::{
     AliasChange, ChangingAlias, ChangingKey, CreatingKey, DescribingKey, GettingPolicy,
     GettingRotationStatus, KeyChange, PuttingPolicy, RetiringGrant, RevokingGrant,
-    UpdatingDescription, creating_grant,
+    creating_grant,
 };
 use account_lists::{AccountList, KeyList, ListingAccount, ListingKey};
 use account_steps::{LentText, Made, Stop, View, change as apply, lent_if_given, read};
 use draw_lines::DrawLine;
-use kms_json::{Changing, CreateGrant, Page, Reading, Reply};
+use kms_json::{Changing, CreateGrant, DataKey, Page, Reading, Reply};
 use kms_names::{AliasName, NoMemory, Text, read_alias};
 use std::alloc::Global;
 
 // What a request that changes a key's state or rotation comes to.
-fn change_key(alloc: Global, view: &View<'_>, key_id: &Text, how: KeyChange) -> Result<Made, Stop>
-    ensures { Makes (changes view.now (changes_key view.now key_id.now how)) result }
+fn change_key(
+    alloc: Global,
+    view: &View<'_>,
+    key_id: &Text,
+    how: KeyChange<'_>,
+) -> Result<Made, Stop>
+    ensures { Makes (changes view.now (changes_key view.now key_id.now how.entry)) result }
 {
     let changing = ChangingKey {
         view,
@@ -70,10 +75,10 @@ fn change_alias(
 }
 
 // What a request for a grant comes to.
-fn create_grant(alloc: Global, view: &View<'_>, x: &CreateGrant) -> Result<Made, Stop>
-    ensures { Makes (changes view.now (creates_grant view.now x.now)) result }
+fn create_grant(alloc: Global, view: &View<'_>, request: &CreateGrant) -> Result<Made, Stop>
+    ensures { Makes (changes view.now (creates_grant view.now request.now)) result }
 {
-    let creating = creating_grant(view, x)?;
+    let creating = creating_grant(view, request)?;
     apply(alloc, &creating)
 }
 
@@ -114,13 +119,35 @@ fn list_of_key(
     read(alloc, &listing, line)
 }
 
+// A data key.
+fn generate(
+    alloc: Global,
+    view: &View<'_>,
+    request: &DataKey,
+    form: DataKeyForm,
+    line: &mut DrawLine,
+) -> Result<Reply, Stop>
+    requires line { IsLineOf view.now.facts line.old }
+    requires places { view.now.places ≡ places_of line.old }
+    requires some { 1 ≤ request.now.size }
+    requires short { request.now.size ≤ 1024 }
+    ensures { Settles (decided_read (reads view.now (generates_data_key view.now request.now form)) (places_of line.old)) line.old result line.new }
+{
+    let generating = GeneratingDataKey {
+        view,
+        request,
+        form,
+    };
+    read(alloc, &generating, line)
+}
+
 /// What a request that changes the account comes to.
 pub fn change_body(alloc: Global, view: &View<'_>, body: &Changing) -> Result<Made, Stop>
     requires sized { IsSizedChanging body.now }
     ensures { Makes (change_outcome view.now body.now) result }
 {
     match body {
-        Changing::CreateKey(x) => apply(alloc, &CreatingKey { view, x }),
+        Changing::CreateKey(request) => apply(alloc, &CreatingKey { view, request }),
         Changing::PutKeyPolicy {
             key_id,
             policy,
@@ -139,12 +166,8 @@ pub fn change_body(alloc: Global, view: &View<'_>, body: &Changing) -> Result<Ma
             key_id,
             description,
         } => {
-            let updating = UpdatingDescription {
-                view,
-                key_id,
-                description,
-            };
-            apply(alloc, &updating)
+            let text = LentText::new(description);
+            change_key(alloc, view, key_id, KeyChange::Describe { text })
         }
         Changing::EnableKey { key_id } => change_key(alloc, view, key_id, KeyChange::Enable),
         Changing::DisableKey { key_id } => change_key(alloc, view, key_id, KeyChange::Disable),
@@ -250,17 +273,15 @@ pub fn read_body(
         Reading::GetKeyRotationStatus { key_id } => {
             read(alloc, &GettingRotationStatus { view, key_id }, line)
         }
-        Reading::Encrypt(x) => read(alloc, &Encrypting { view, x }, line),
-        Reading::Decrypt(x) => read(alloc, &Decrypting { view, x }, line),
-        Reading::ReEncrypt(x) => read(alloc, &ReEncrypting { view, x }, line),
+        Reading::Encrypt(request) => read(alloc, &Encrypting { view, request }, line),
+        Reading::Decrypt(request) => read(alloc, &Decrypting { view, request }, line),
+        Reading::ReEncrypt(request) => read(alloc, &ReEncrypting { view, request }, line),
         Reading::GenerateDataKey { key, recipient } => {
-            let drawing = Drawing { view, x: key };
             let recipient = *recipient;
-            read(alloc, &GeneratingDataKey { drawing, recipient }, line)
+            generate(alloc, view, key, DataKeyForm::Plaintext { recipient }, line)
         }
-        Reading::GenerateDataKeyWithoutPlaintext(x) => {
-            let drawing = Drawing { view, x };
-            read(alloc, &GeneratingSealedDataKey { drawing }, line)
+        Reading::GenerateDataKeyWithoutPlaintext(key) => {
+            generate(alloc, view, key, DataKeyForm::Sealed, line)
         }
         Reading::GenerateRandom {
             size,

@@ -13,6 +13,9 @@ use Rattle.kms_json.specs.declared.replies.Reply.{Reply}
 use Rattle.kms_json.specs.declared.replies.Reply.TheVariants as reply
 use Rattle.kms_json.specs.declared.refusals.Unsupported.TheVariants.{Recipient, CustomKeyStoreId}
 use Rattle.key_states.specs.declared.rows.KeyRow.{KeyRow}
+use Rattle.account_crypto.specs.declared.data_keys.DataKeyForm.{DataKeyForm}
+use Rattle.account_crypto.specs.declared.data_keys.DataKeyForm.TheVariants as form
+use Rattle.account_crypto.specs.DataKeyForms.{data_key_action, has_recipient}
 use Rattle.account_crypto.specs.declared.re_encrypt.Turning.{Turning}
 use Rattle.account_steps.specs.declared.places.Uses.{Uses}
 use Rattle.account_steps.specs.Places.{nothing_used}
@@ -38,29 +41,29 @@ words_and_iv size = record { words = words_for size; ivs = 1 }
 
 -- Encrypt
 abbrev pub encrypts : View → Encrypt → ReadParts Named ⊤
-encrypts view x = record {
+encrypts view request = record {
   parts = record {
-    found = key_of view x.key_id;
-    questions = λ named. on_key action.Encrypt named.row (of_context view named.row.key named.alias x.context) ∷ [];
-    tokens = x.grant_tokens;
+    found = key_of view request.key_id;
+    questions = λ named. on_key action.Encrypt named.row (of_context view named.row.key named.alias request.context) ∷ [];
+    tokens = request.grant_tokens;
     uses = λ named. record { action = action.Encrypt; key = named.row } ∷ [];
-    own = λ named. unless (unfit x.algorithm) (Ok tt);
-    dry_run = x.dry_run;
-    reply = λ named ready. reply.Encrypted (seals view.facts named.row x.context x.plaintext view.places) (arn_of view.facts named.row.key);
+    own = λ named. unless (unfit request.algorithm) (Ok tt);
+    dry_run = request.dry_run;
+    reply = λ named ready. reply.Encrypted (seals view.facts named.row request.context request.plaintext view.places) (arn_of view.facts named.row.key);
   };
   takes = one_iv;
 }
 
 -- Decrypt
 abbrev pub decrypts : View → Decrypt → ReadParts Source (List ℕ)
-decrypts view x = record {
+decrypts view request = record {
   parts = record {
-    found = source_of view action.Decrypt x.key_id x.blob;
-    questions = λ source. on_key action.Decrypt source.row (of_context view source.row.key source.alias x.context) ∷ [];
-    tokens = x.grant_tokens;
+    found = source_of view action.Decrypt request.key_id request.blob;
+    questions = λ source. on_key action.Decrypt source.row (of_context view source.row.key source.alias request.context) ∷ [];
+    tokens = request.grant_tokens;
     uses = λ source. record { action = action.Decrypt; key = source.row } ∷ [];
-    own = λ source. unless (unfit x.algorithm) (unless (unsupported x.recipient Recipient) (opens view.facts source x.context));
-    dry_run = x.dry_run;
+    own = λ source. unless (unfit request.algorithm) (unless (unsupported request.recipient Recipient) (opens view.facts source request.context));
+    dry_run = request.dry_run;
     reply = λ source plaintext. reply.Decrypted plaintext (arn_of view.facts source.row.key);
   };
   takes = nothing_used;
@@ -72,57 +75,49 @@ same_key turning = bytes_eq turning.source.row.key turning.to.row.key
 
 -- what the request says of the key that sealed the text, and of the one to seal it anew
 abbrev pub of_source : View → ReEncrypt → Turning → Particulars
-of_source view x turning = record (of_context view turning.source.row.key turning.source.alias x.source_context) { same_key = Some (same_key turning) }
+of_source view request turning = record (of_context view turning.source.row.key turning.source.alias request.source_context) { same_key = Some (same_key turning) }
 
 abbrev pub of_destination : View → ReEncrypt → Turning → Particulars
-of_destination view x turning = record (of_context view turning.to.row.key turning.to.alias x.context) { same_key = Some (same_key turning) }
+of_destination view request turning = record (of_context view turning.to.row.key turning.to.alias request.context) { same_key = Some (same_key turning) }
 
 -- ReEncrypt: the key that the text was sealed under is looked up, and then the one that it is sealed under
 abbrev pub re_encrypts : View → ReEncrypt → ReadParts Turning (List ℕ)
-re_encrypts view x = record {
+re_encrypts view request = record {
   parts = record {
-    found = and_then (source_of view action.ReEncryptFrom x.source_key_id x.blob)
-        (λ source. and_then (key_of view x.key_id) (λ to. Ok (record { source = source; to = to })));
+    found = and_then (source_of view action.ReEncryptFrom request.source_key_id request.blob)
+        (λ source. and_then (key_of view request.key_id) (λ to. Ok (record { source = source; to = to })));
     questions = λ turning.
-        on_key action.ReEncryptFrom turning.source.row (of_source view x turning) ∷ on_key action.ReEncryptTo turning.to.row (of_destination view x turning) ∷ [];
-    tokens = x.grant_tokens;
+        on_key action.ReEncryptFrom turning.source.row (of_source view request turning) ∷ on_key action.ReEncryptTo turning.to.row (of_destination view request turning) ∷ [];
+    tokens = request.grant_tokens;
     uses = λ turning. record { action = action.ReEncryptFrom; key = turning.source.row } ∷ record { action = action.ReEncryptTo; key = turning.to.row } ∷ [];
-    own = λ turning. unless (unfit x.source_algorithm) (unless (unfit x.algorithm) (opens view.facts turning.source x.source_context));
-    dry_run = x.dry_run;
-    reply = λ turning plaintext. reply.ReEncrypted (seals view.facts turning.to.row x.context plaintext view.places) (arn_of view.facts turning.to.row.key) (arn_of view.facts turning.source.row.key);
+    own = λ turning. unless (unfit request.source_algorithm) (unless (unfit request.algorithm) (opens view.facts turning.source request.source_context));
+    dry_run = request.dry_run;
+    reply = λ turning plaintext. reply.ReEncrypted (seals view.facts turning.to.row request.context plaintext view.places) (arn_of view.facts turning.to.row.key) (arn_of view.facts turning.source.row.key);
   };
   takes = one_iv;
 }
 
--- a data key: it is drawn first, and then its initialization vector is taken
-abbrev pub data_key_parts : View → DataKey → Action → Bool → (KeyRow → Reply) → ReadParts Named ⊤
-data_key_parts view x op recipient given = record {
-  parts = record {
-    found = key_of view x.key_id;
-    questions = λ named. on_key op named.row (of_context view named.row.key named.alias x.context) ∷ [];
-    tokens = x.grant_tokens;
-    uses = λ named. record { action = op; key = named.row } ∷ [];
-    own = λ named. unless (unsupported recipient Recipient) (Ok tt);
-    dry_run = x.dry_run;
-    reply = λ named ready. given named.row;
-  };
-  takes = words_and_iv x.size;
-}
-
 abbrev pub sealed_key : View → DataKey → KeyRow → List ℕ
-sealed_key view x row = seals view.facts row x.context (draws view.facts x.size view.places) view.places
+sealed_key view request row = seals view.facts row request.context (draws view.facts request.size view.places) view.places
 
--- GenerateDataKey
-abbrev pub generates_data_key : View → DataKey → Bool → ReadParts Named ⊤
-generates_data_key view x recipient =
-    data_key_parts view x action.GenerateDataKey recipient
-    (λ row. reply.DataKey (sealed_key view x row) (draws view.facts x.size view.places) (arn_of view.facts row.key))
+abbrev pub data_key_reply : View → DataKey → DataKeyForm → KeyRow → Reply
+data_key_reply view request (form.Plaintext recipient) row = reply.DataKey (sealed_key view request row) (draws view.facts request.size view.places) (arn_of view.facts row.key)
+data_key_reply view request form.Sealed row = reply.SealedDataKey (sealed_key view request row) (arn_of view.facts row.key)
 
--- GenerateDataKeyWithoutPlaintext
-abbrev pub generates_sealed_data_key : View → DataKey → ReadParts Named ⊤
-generates_sealed_data_key view x =
-    data_key_parts view x action.GenerateDataKeyWithoutPlaintext false
-    (λ row. reply.SealedDataKey (sealed_key view x row) (arn_of view.facts row.key))
+-- GenerateDataKey and GenerateDataKeyWithoutPlaintext: the data key is drawn first, and then its initialization vector is taken
+abbrev pub generates_data_key : View → DataKey → DataKeyForm → ReadParts Named ⊤
+generates_data_key view request given = record {
+  parts = record {
+    found = key_of view request.key_id;
+    questions = λ named. on_key (data_key_action given) named.row (of_context view named.row.key named.alias request.context) ∷ [];
+    tokens = request.grant_tokens;
+    uses = λ named. record { action = data_key_action given; key = named.row } ∷ [];
+    own = λ named. unless (unsupported (has_recipient given) Recipient) (Ok tt);
+    dry_run = request.dry_run;
+    reply = λ named ready. data_key_reply view request given named.row;
+  };
+  takes = words_and_iv request.size;
+}
 
 -- GenerateRandom
 abbrev pub generates_random : View → ℕ → Bool → Bool → ReadParts ⊤ ⊤

@@ -1,1 +1,2 @@
+pub mod DataKeyForms
 pub mod Crypto

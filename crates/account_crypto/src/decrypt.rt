@@ -2,7 +2,7 @@
 ghost use Rattle.account_crypto.specs.Crypto.{decrypts};
 
 use account_steps::{
-    Operation, Reads, Sealed, Stop, Uses, View, find_source, of_context, refuse, unfit, unsupported,
+    Request, Reads, Sealed, Stop, Uses, View, find_source, of_context, refuse, unfit, unsupported,
 };
 use draw_lines::DrawLine;
 use kms_json::{Decrypt, Reply, Unsupported};
@@ -15,17 +15,17 @@ pub struct Decrypting<'a> {
     /// What its steps go by.
     pub view: &'a View<'a>,
     /// What it asks.
-    pub x: &'a Decrypt,
+    pub request: &'a Decrypt,
 }
 
-impl<'a> Operation for Decrypting<'a> {
+impl<'a> Request for Decrypting<'a> {
     type Found = Sealed<'a>;
 
     type Ready = Bytes;
 
     ghost seen = { λ op. op.view.now };
 
-    ghost parts = { λ op. (decrypts op.view.now op.x.now).parts };
+    ghost parts = { λ op. (decrypts op.view.now op.request.now).parts };
 
     fn view(&self) -> &View<'_> {
         self.view
@@ -36,19 +36,19 @@ impl<'a> Operation for Decrypting<'a> {
             alloc,
             self.view,
             Action::Decrypt,
-            &self.x.key_id,
-            self.x.blob.as_slice(),
+            &self.request.key_id,
+            self.request.blob.as_slice(),
         )
     }
 
     fn authorize(&self, alloc: Global, found: &Sealed<'a>) -> Result<(), Stop> {
-        let said = of_context(self.view, found.key(), found.alias(), &self.x.context);
+        let said = of_context(self.view, found.key(), found.alias(), &self.request.context);
         self.view
             .authorize_on(alloc, Action::Decrypt, found.lent(), &said)
     }
 
     fn tokens(&self) -> &[Text] {
-        self.x.grant_tokens.as_slice()
+        self.request.grant_tokens.as_slice()
     }
 
     fn fit(&self, alloc: Global, found: &Sealed<'a>) -> Result<(), Stop> {
@@ -56,18 +56,18 @@ impl<'a> Operation for Decrypting<'a> {
     }
 
     fn own(&self, alloc: Global, found: &Sealed<'a>) -> Result<Bytes, Stop> {
-        refuse(unfit(&self.x.algorithm))?;
-        refuse(unsupported(self.x.recipient, Unsupported::Recipient))?;
-        found.open(alloc, self.view, &self.x.context)
+        refuse(unfit(&self.request.algorithm))?;
+        refuse(unsupported(self.request.recipient, Unsupported::Recipient))?;
+        found.open(alloc, self.view, &self.request.context)
     }
 
     fn dry_run(&self) -> bool {
-        self.x.dry_run
+        self.request.dry_run
     }
 }
 
 impl<'a> Reads for Decrypting<'a> {
-    ghost takes = { λ op. (decrypts op.view.now op.x.now).takes };
+    ghost takes = { λ op. (decrypts op.view.now op.request.now).takes };
 
     fn uses(&self) -> Uses {
         Uses::NOTHING

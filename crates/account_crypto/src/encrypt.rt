@@ -3,7 +3,7 @@ ghost use Rattle.std.specs.Prelude.{◌≤◌, length};
 ghost use Rattle.account_crypto.specs.Crypto.{encrypts};
 
 use crate::crypto::{ONE_IV, seal};
-use account_steps::{Named, Operation, Reads, Stop, Uses, View, key_of, of_context, refuse, unfit};
+use account_steps::{Named, Request, Reads, Stop, Uses, View, key_of, of_context, refuse, unfit};
 use draw_lines::DrawLine;
 use kms_json::{Encrypt, Reply};
 use kms_names::{Action, NoMemory, Text};
@@ -15,37 +15,37 @@ pub struct Encrypting<'a> {
     /// What its steps go by.
     pub view: &'a View<'a>,
     /// What it asks.
-    pub x: &'a Encrypt,
+    pub request: &'a Encrypt,
     ghost some: { 1 ≤ length x.now.plaintext },
     ghost short: { length x.now.plaintext ≤ 4096 },
 }
 
-impl<'a> Operation for Encrypting<'a> {
+impl<'a> Request for Encrypting<'a> {
     type Found = Named<'a>;
 
     type Ready = ();
 
     ghost seen = { λ op. op.view.now };
 
-    ghost parts = { λ op. (encrypts op.view.now op.x.now).parts };
+    ghost parts = { λ op. (encrypts op.view.now op.request.now).parts };
 
     fn view(&self) -> &View<'_> {
         self.view
     }
 
     fn find(&self, alloc: Global) -> Result<Named<'a>, Stop> {
-        key_of(alloc, self.view, &self.x.key_id)
+        key_of(alloc, self.view, &self.request.key_id)
     }
 
     fn authorize(&self, alloc: Global, found: &Named<'a>) -> Result<(), Stop> {
         let key = &found.row.row().key;
-        let said = of_context(self.view, key, &found.alias, &self.x.context);
+        let said = of_context(self.view, key, &found.alias, &self.request.context);
         self.view
             .authorize_on(alloc, Action::Encrypt, &found.row, &said)
     }
 
     fn tokens(&self) -> &[Text] {
-        self.x.grant_tokens.as_slice()
+        self.request.grant_tokens.as_slice()
     }
 
     fn fit(&self, alloc: Global, found: &Named<'a>) -> Result<(), Stop> {
@@ -53,16 +53,16 @@ impl<'a> Operation for Encrypting<'a> {
     }
 
     fn own(&self, _alloc: Global, _found: &Named<'a>) -> Result<(), Stop> {
-        refuse(unfit(&self.x.algorithm))
+        refuse(unfit(&self.request.algorithm))
     }
 
     fn dry_run(&self) -> bool {
-        self.x.dry_run
+        self.request.dry_run
     }
 }
 
 impl<'a> Reads for Encrypting<'a> {
-    ghost takes = { λ op. (encrypts op.view.now op.x.now).takes };
+    ghost takes = { λ op. (encrypts op.view.now op.request.now).takes };
 
     fn uses(&self) -> Uses {
         ONE_IV
@@ -80,8 +80,8 @@ impl<'a> Reads for Encrypting<'a> {
             alloc,
             self.view,
             &found.row,
-            &self.x.context,
-            self.x.plaintext.as_slice(),
+            &self.request.context,
+            self.request.plaintext.as_slice(),
             line,
         )?;
         Ok(Reply::Encrypted { blob, arn })

@@ -1,6 +1,6 @@
 //! The cryptographic operations: what Encrypt, Decrypt, ReEncrypt, the data key calls and GenerateRandom say of the steps of a decision.
 //!
-//! Each is an `Operation` of `account_steps`, whose `Parts` are a function of plain values.
+//! Each is a `Request` of `account_steps`, whose `Parts` are a function of plain values.
 #![tactic(auto)]
 
 mod crypto;
@@ -10,7 +10,7 @@ mod encrypt;
 mod random;
 mod re_encrypt;
 
-pub use data_keys::{Drawing, GeneratingDataKey, GeneratingSealedDataKey};
+pub use data_keys::{DataKeyForm, GeneratingDataKey};
 pub use decrypt::Decrypting;
 pub use encrypt::Encrypting;
 pub use random::GeneratingRandom;

@@ -4,7 +4,7 @@ ghost use Rattle.account_crypto.specs.Crypto.{re_encrypts};
 use crate::crypto::{ONE_IV, Sealable, seal};
 use account_rows::same_key;
 use account_steps::{
-    Named, Operation, Reads, Sealed, Stop, Uses, View, find_source, key_of, of_context, refuse,
+    Named, Request, Reads, Sealed, Stop, Uses, View, find_source, key_of, of_context, refuse,
     unfit,
 };
 use authority::Particulars;
@@ -40,7 +40,7 @@ pub struct ReEncrypting<'a> {
     /// What its steps go by.
     pub view: &'a View<'a>,
     /// What it asks.
-    pub x: &'a ReEncrypt,
+    pub request: &'a ReEncrypt,
 }
 
 impl<'a> ReEncrypting<'a> {
@@ -49,7 +49,7 @@ impl<'a> ReEncrypting<'a> {
 
     // What the request says of the key that sealed the text.
     fn from<'b>(&'b self, found: &'b Turning<'a>) -> Particulars<'b>
-        ensures { result ≡ of_source self.now.view.now self.now.x.now found.now }
+        ensures { result ≡ of_source self.now.view.now self.now.request.now found.now }
     {
         let source = &found.source;
         Particulars {
@@ -58,31 +58,31 @@ impl<'a> ReEncrypting<'a> {
                 self.view,
                 source.key(),
                 source.alias(),
-                &self.x.source_context,
+                &self.request.source_context,
             )
         }
     }
 
     // What it says of the key to seal it anew.
     fn to<'b>(&'b self, found: &'b Turning<'a>) -> Particulars<'b>
-        ensures { result ≡ of_destination self.now.view.now self.now.x.now found.now }
+        ensures { result ≡ of_destination self.now.view.now self.now.request.now found.now }
     {
         let key = &found.to.row.row().key;
         Particulars {
             same_key: Some(found.turns_to_same()),
-            ..of_context(self.view, key, &found.to.alias, &self.x.context)
+            ..of_context(self.view, key, &found.to.alias, &self.request.context)
         }
     }
 }
 
-impl<'a> Operation for ReEncrypting<'a> {
+impl<'a> Request for ReEncrypting<'a> {
     type Found = Turning<'a>;
 
     type Ready = Sealable;
 
     ghost seen = { λ op. op.view.now };
 
-    ghost parts = { λ op. (re_encrypts op.view.now op.x.now).parts };
+    ghost parts = { λ op. (re_encrypts op.view.now op.request.now).parts };
 
     fn view(&self) -> &View<'_> {
         self.view
@@ -93,10 +93,10 @@ impl<'a> Operation for ReEncrypting<'a> {
             alloc,
             self.view,
             Action::ReEncryptFrom,
-            &self.x.source_key_id,
-            self.x.blob.as_slice(),
+            &self.request.source_key_id,
+            self.request.blob.as_slice(),
         )?;
-        let to = key_of(alloc, self.view, &self.x.key_id)?;
+        let to = key_of(alloc, self.view, &self.request.key_id)?;
         Ok(Turning { source, to })
     }
 
@@ -109,7 +109,7 @@ impl<'a> Operation for ReEncrypting<'a> {
     }
 
     fn tokens(&self) -> &[Text] {
-        self.x.grant_tokens.as_slice()
+        self.request.grant_tokens.as_slice()
     }
 
     fn fit(&self, alloc: Global, found: &Turning<'a>) -> Result<(), Stop> {
@@ -119,19 +119,19 @@ impl<'a> Operation for ReEncrypting<'a> {
     }
 
     fn own(&self, alloc: Global, found: &Turning<'a>) -> Result<Sealable, Stop> {
-        refuse(unfit(&self.x.source_algorithm))?;
-        refuse(unfit(&self.x.algorithm))?;
-        let text = found.source.open(alloc, self.view, &self.x.source_context)?;
+        refuse(unfit(&self.request.source_algorithm))?;
+        refuse(unfit(&self.request.algorithm))?;
+        let text = found.source.open(alloc, self.view, &self.request.source_context)?;
         Ok(Sealable::new(text))
     }
 
     fn dry_run(&self) -> bool {
-        self.x.dry_run
+        self.request.dry_run
     }
 }
 
 impl<'a> Reads for ReEncrypting<'a> {
-    ghost takes = { λ op. (re_encrypts op.view.now op.x.now).takes };
+    ghost takes = { λ op. (re_encrypts op.view.now op.request.now).takes };
 
     fn uses(&self) -> Uses {
         ONE_IV
@@ -150,7 +150,7 @@ impl<'a> Reads for ReEncrypting<'a> {
             alloc,
             self.view,
             &found.to.row,
-            &self.x.context,
+            &self.request.context,
             ready.as_slice(),
             line,
         )?;

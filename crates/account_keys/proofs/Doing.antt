@@ -27,7 +27,7 @@ use Rattle.account_keys.specs.declared.key_changes.KeyChange.{KeyChange}
 use Rattle.account_keys.specs.declared.key_changes.KeyChange.TheVariants as change
 use Rattle.account_keys.specs.Aliases.{changes_alias, done_to}
 use Rattle.account_keys.specs.Grants.{creates_grant, retires_grant, revokes_grant, made_unless, same_grant, if_of_key, grant_of, retired_of}
-use Rattle.account_keys.specs.KeyChanges.{done_at, does_unless, is_disabled, is_period, is_off, changes_key, updates_description}
+use Rattle.account_keys.specs.KeyChanges.{done_at, does_unless, is_disabled, is_period, is_off, changes_key}
 use Rattle.account_keys.specs.Keys.{creates_key}
 use Rattle.account_keys.specs.Policies.{puts_policy}
 
@@ -39,18 +39,10 @@ creates view x found ready did found_is own_is e = does_this view _ did (record 
 pub puts : (view : View) (key_id text : List ℕ) (bypass : Bool) → DoesWell view (puts_policy view key_id text bypass)
 puts view key_id text bypass found ready did found_is own_is e = does_this view _ did (record { made = tt; gives = tt; holds = tt }) e
 
-pub describes : (view : View) (key_id text : List ℕ) → DoesWell view (updates_description view key_id text)
-describes view key_id text found ready did found_is own_is e = does_this view _ did (record { made = tt; gives = tt; holds = tt }) e
-
 -- a period has 90 days at least
 abbrev pub HasDays : KeyChange → Type 0
-HasDays change.Enable = Unit {0}
-HasDays change.Disable = Unit {0}
-HasDays (change.ScheduleDeletion days) = Unit {0}
-HasDays change.CancelDeletion = Unit {0}
 HasDays (change.RotateEvery period) = 90 ≤ period
-HasDays change.RotateNoMore = Unit {0}
-HasDays change.RotateNow = Unit {0}
+HasDays _ = Unit {0}
 
 unless_done : (view : View) (done : Bool) (this did : What) → IsDone view this → does_unless done this ≡ Some did → IsDone view did
 unless_done view true this did well e = cc
@@ -65,6 +57,7 @@ changed view row (change.RotateEvery period) did days e =
     unless_done view (is_period period row.period) (what.RotationOn row.key period) did (record { made = tt; gives = omega (arith, days); holds = tt }) e
 changed view row change.RotateNoMore did days e = unless_done view (is_off row.period) (what.RotationOff row.key) did (record { made = tt; gives = tt; holds = tt }) e
 changed view row change.RotateNow did days e = does_this view (what.RotateNow row.key) did (record { made = tt; gives = tt; holds = tt }) e
+changed view row (change.Describe text) did days e = does_this view (what.Description row.key text) did (record { made = tt; gives = tt; holds = tt }) e
 
 pub changes : (view : View) (key_id : List ℕ) (c : KeyChange) → HasDays c → DoesWell view (changes_key view key_id c)
 changes view key_id c days found ready did found_is own_is e = changed view found c did days e

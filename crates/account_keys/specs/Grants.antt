@@ -46,27 +46,27 @@ pairs_of (constraint.Subset pairs) = pairs
 -- ---- CreateGrant
 
 abbrev pub granting_of : View → CreateGrant → Result Granting Refusal
-granting_of view x =
-    and_then (only_key_of view x.key_id)
-    (λ row. and_then (principal_in x.grantee)
-    (λ grantee. and_then (principal_if_given x.retiring)
+granting_of view request =
+    and_then (only_key_of view request.key_id)
+    (λ row. and_then (principal_in request.grantee)
+    (λ grantee. and_then (principal_if_given request.retiring)
     (λ retiring. Ok (record { row = row; grantee = grantee; retiring = retiring }))))
 
 abbrev pub said_of : CreateGrant → Granting → GrantSaid
-said_of x granting = record { operations = x.operations; grantee = granting.grantee; retiring = granting.retiring; constraint = constraint_of x.constraint }
+said_of request granting = record { operations = request.operations; grantee = granting.grantee; retiring = granting.retiring; constraint = constraint_of request.constraint }
 
 abbrev pub of_grant : View → CreateGrant → Granting → Particulars
-of_grant view x granting = record (of_key view granting.row.key) { context = pairs_of (constraint_of x.constraint); grant = Some (said_of x granting) }
+of_grant view request granting = record (of_key view granting.row.key) { context = pairs_of (constraint_of request.constraint); grant = Some (said_of request granting) }
 
 -- the grant of the key that is the same, where the request names it
 abbrev pub same_grant : View → CreateGrant → Granting → Option GrantRow
-same_grant view x granting =
-    option_and_then (λ name. same_as view.grants granting.row.key name granting.grantee granting.retiring x.operations (constraint_of x.constraint)) x.name
+same_grant view request granting =
+    option_and_then (λ name. same_as view.grants granting.row.key name granting.grantee granting.retiring request.operations (constraint_of request.constraint)) request.name
 
 abbrev pub made_unless : Option GrantRow → View → CreateGrant → Granting → Option What
-made_unless (Some grant) view x granting = None
-made_unless None view x granting =
-    Some (what.GrantAdd (grant_id_at view.facts view.place) granting.row.key granting.grantee granting.retiring x.operations (constraint_of x.constraint) x.name)
+made_unless (Some grant) view request granting = None
+made_unless None view request granting =
+    Some (what.GrantAdd (grant_id_at view.facts view.place) granting.row.key granting.grantee granting.retiring request.operations (constraint_of request.constraint) request.name)
 
 abbrev pub id_or : List ℕ → Option GrantRow → List ℕ
 id_or id None = id
@@ -74,17 +74,17 @@ id_or id (Some grant) = grant.grant
 
 -- CreateGrant: where the key has the grant of this name already, with all else the same, the reply is that grant's id
 abbrev pub creates_grant : View → CreateGrant → ChangeParts Granting ⊤
-creates_grant view x = record {
+creates_grant view request = record {
   parts = record {
-    found = granting_of view x;
-    questions = λ granting. on_key action.CreateGrant granting.row (of_grant view x granting) ∷ [];
-    tokens = x.grant_tokens;
+    found = granting_of view request;
+    questions = λ granting. on_key action.CreateGrant granting.row (of_grant view request granting) ∷ [];
+    tokens = request.grant_tokens;
     uses = λ granting. record { action = action.CreateGrant; key = granting.row } ∷ [];
     own = λ granting. Ok tt;
-    dry_run = x.dry_run;
-    reply = λ granting ready. reply.Granted (id_or (grant_id_at view.facts view.place) (same_grant view x granting));
+    dry_run = request.dry_run;
+    reply = λ granting ready. reply.Granted (id_or (grant_id_at view.facts view.place) (same_grant view request granting));
   };
-  does = λ granting ready. made_unless (same_grant view x granting) view x granting;
+  does = λ granting ready. made_unless (same_grant view request granting) view request granting;
 }
 
 -- ---- RetireGrant and RevokeGrant
@@ -102,9 +102,9 @@ retired_of view (retired.OfKey key_id id) = and_then (only_key_of view key_id) (
 
 -- RetireGrant
 abbrev pub retires_grant : View → RetiredGrant → Bool → ChangeParts GrantRow ⊤
-retires_grant view x dry_run = record {
+retires_grant view request dry_run = record {
   parts = record {
-    found = retired_of view x;
+    found = retired_of view request;
     questions = λ grant. retiring grant ∷ [];
     tokens = [];
     uses = λ grant. [];

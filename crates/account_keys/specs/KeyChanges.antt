@@ -31,16 +31,13 @@ action_of change.CancelDeletion = action.CancelKeyDeletion
 action_of (change.RotateEvery period) = action.EnableKeyRotation
 action_of change.RotateNoMore = action.DisableKeyRotation
 action_of change.RotateNow = action.RotateKeyOnDemand
+action_of (change.Describe text) = action.UpdateKeyDescription
 
 -- what the request says to conditions, beside the key
 abbrev pub said_of : KeyChange → Particulars → Particulars
-said_of change.Enable of_key = of_key
-said_of change.Disable of_key = of_key
 said_of (change.ScheduleDeletion days) of_key = record of_key { window = Some days }
-said_of change.CancelDeletion of_key = of_key
 said_of (change.RotateEvery period) of_key = record of_key { period = Some period }
-said_of change.RotateNoMore of_key = of_key
-said_of change.RotateNow of_key = of_key
+said_of _ of_key = of_key
 
 -- ---- what has nothing to do
 
@@ -72,17 +69,15 @@ done_at moment row change.CancelDeletion = Some (what.Cancel row.key)
 done_at moment row (change.RotateEvery period) = does_unless (is_period period row.period) (what.RotationOn row.key period)
 done_at moment row change.RotateNoMore = does_unless (is_off row.period) (what.RotationOff row.key)
 done_at moment row change.RotateNow = Some (what.RotateNow row.key)
+done_at moment row (change.Describe text) = Some (what.Description row.key text)
 
 abbrev pub reply_of : View → KeyRow → KeyChange → Reply
-reply_of view row change.Enable = reply.Done
-reply_of view row change.Disable = reply.Done
 reply_of view row (change.ScheduleDeletion days) = reply.DeletionScheduled (arn_of view.facts row.key) (days_after view.moment days) days
 reply_of view row change.CancelDeletion = reply.DeletionCancelled (arn_of view.facts row.key)
-reply_of view row (change.RotateEvery period) = reply.Done
-reply_of view row change.RotateNoMore = reply.Done
 reply_of view row change.RotateNow = reply.Rotated row.key
+reply_of view row _ = reply.Done
 
--- EnableKey, DisableKey, ScheduleKeyDeletion, CancelKeyDeletion, EnableKeyRotation, DisableKeyRotation, RotateKeyOnDemand
+-- EnableKey, DisableKey, ScheduleKeyDeletion, CancelKeyDeletion, EnableKeyRotation, DisableKeyRotation, RotateKeyOnDemand, UpdateKeyDescription
 abbrev pub changes_key : View → List ℕ → KeyChange → ChangeParts KeyRow ⊤
 changes_key view reference change = record {
   parts = record {
@@ -95,21 +90,6 @@ changes_key view reference change = record {
     reply = λ row ready. reply_of view row change;
   };
   does = λ row ready. done_at view.moment row change;
-}
-
--- UpdateKeyDescription
-abbrev pub updates_description : View → List ℕ → List ℕ → ChangeParts KeyRow ⊤
-updates_description view reference text = record {
-  parts = record {
-    found = only_key_of view reference;
-    questions = λ row. on_key action.UpdateKeyDescription row (of_key view row.key) ∷ [];
-    tokens = [];
-    uses = λ row. record { action = action.UpdateKeyDescription; key = row } ∷ [];
-    own = λ row. Ok tt;
-    dry_run = false;
-    reply = λ row ready. reply.Done;
-  };
-  does = λ row ready. Some (what.Description row.key text);
 }
 
 -- the next automatic rotation, and its period

@@ -35,15 +35,15 @@ unsupported_unless wanted (Some given) name = if bytes_eq given wanted then None
 
 -- what isn't served: only symmetric keys for encryption, made here and in one region, without tags
 abbrev pub unserved_key : CreateKey → Option Refusal
-unserved_key x =
-    or_else (unsupported_unless (codes "ENCRYPT_DECRYPT") x.key_usage field.KeyUsage)
-    (or_else (unsupported_unless symmetric_default x.customer_master_key_spec field.CustomerMasterKeySpec)
-    (or_else (unsupported_unless symmetric_default x.key_spec field.KeySpec)
-    (or_else (unsupported_unless (codes "AWS_KMS") x.origin field.Origin)
-    (or_else (unsupported x.custom_key_store_id field.CustomKeyStoreId)
-    (or_else (unsupported x.tags field.Tags)
-    (or_else (unsupported x.multi_region field.MultiRegion)
-    (unsupported x.xks_key_id field.XksKeyId)))))))
+unserved_key request =
+    or_else (unsupported_unless (codes "ENCRYPT_DECRYPT") request.key_usage field.KeyUsage)
+    (or_else (unsupported_unless symmetric_default request.customer_master_key_spec field.CustomerMasterKeySpec)
+    (or_else (unsupported_unless symmetric_default request.key_spec field.KeySpec)
+    (or_else (unsupported_unless (codes "AWS_KMS") request.origin field.Origin)
+    (or_else (unsupported request.custom_key_store_id field.CustomKeyStoreId)
+    (or_else (unsupported request.tags field.Tags)
+    (or_else (unsupported request.multi_region field.MultiRegion)
+    (unsupported request.xks_key_id field.XksKeyId)))))))
 
 -- the policy of the key: what is given, or the default policy
 abbrev pub policy_or_default : List ℕ → Option (List ℕ) → List ℕ
@@ -57,17 +57,17 @@ refused_if_given view (Some text) bypass = policy_refused view (key_id_at view.f
 
 -- CreateKey: a key whose id is that of the next place
 abbrev pub creates_key : View → CreateKey → ChangeParts ⊤ ⊤
-creates_key view x = record {
+creates_key view request = record {
   parts = record {
     found = Ok tt;
-    questions = λ found. on_other action.CreateKey (codes "*") (record of_new_key { bypass = Some x.bypass_lockout_check }) ∷ [];
+    questions = λ found. on_other action.CreateKey (codes "*") (record of_new_key { bypass = Some request.bypass_lockout_check }) ∷ [];
     tokens = [];
     uses = λ found. [];
-    own = λ found. unless (unserved_key x) (unless (refused_if_given view x.policy x.bypass_lockout_check) (Ok tt));
+    own = λ found. unless (unserved_key request) (unless (refused_if_given view request.policy request.bypass_lockout_check) (Ok tt));
     dry_run = false;
-    reply = λ found ready. reply.Metadata (description_of view.facts (key_id_at view.facts view.place) view.moment x.description state.Enabled);
+    reply = λ found ready. reply.Metadata (description_of view.facts (key_id_at view.facts view.place) view.moment request.description state.Enabled);
   };
-  does = λ found ready. Some (what.CreateKey (key_id_at view.facts view.place) x.description (policy_or_default view.facts.account x.policy));
+  does = λ found ready. Some (what.CreateKey (key_id_at view.facts view.place) request.description (policy_or_default view.facts.account request.policy));
 }
 
 -- DescribeKey

@@ -4,7 +4,7 @@ ghost use Rattle.account_keys.specs.Aliases.{action_of, changes_alias};
 
 use account_rows::{Lent, What};
 use account_steps::{
-    Changes, LentText, Made, Operation, Stop, View, key_of_alias, of_key, of_none, only_key_of,
+    Changes, LentText, Made, Request, Stop, View, key_of_alias, of_key, of_none, only_key_of,
     refuse,
 };
 use kms_json::{Refusal, Reply};
@@ -113,7 +113,7 @@ impl<'a> ChangingAlias<'a> {
     }
 }
 
-impl<'a> Operation for ChangingAlias<'a> {
+impl<'a> Request for ChangingAlias<'a> {
     type Found = Moving<'a>;
 
     type Ready = ();

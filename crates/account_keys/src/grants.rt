@@ -7,7 +7,7 @@ ghost use Rattle.account_keys.specs.Grants.{constraint_of, pairs_of, grant_of, c
 
 use account_rows::{Lent, What, same_key};
 use account_steps::{
-    Changes, LentGrant, Made, Operation, Stop, View, grant_id, grant_id_in, grant_of_token, of_key,
+    Changes, LentGrant, Made, Request, Stop, View, grant_id, grant_id_in, grant_of_token, of_key,
     only_key_of, principal_if_given, principal_in,
 };
 use authority::{GrantSaid, Particulars};
@@ -65,23 +65,23 @@ pub struct CreatingGrant<'a> {
     /// What its steps go by.
     pub view: &'a View<'a>,
     /// What it asks.
-    pub x: &'a CreateGrant,
+    pub request: &'a CreateGrant,
     /// What the grant is to ask of encryption contexts.
     pub constraint: Constraint,
-    ghost same: { constraint ≡ constraint_of x.now.constraint },
+    ghost same: { constraint ≡ constraint_of request.now.constraint },
 }
 
 /// The request with its constraint.
 pub fn creating_grant<'a>(
     view: &'a View<'a>,
-    x: &'a CreateGrant,
+    request: &'a CreateGrant,
 ) -> Result<CreatingGrant<'a>, NoMemory>
-    ensures { IfOk result (λ op. (op.view.now ≡ view.now) × (op.x.now ≡ x.now)) }
+    ensures { IfOk result (λ op. (op.view.now ≡ view.now) × (op.request.now ≡ request.now)) }
 {
-    let constraint = constraint_of(&x.constraint)?;
+    let constraint = constraint_of(&request.constraint)?;
     Ok(CreatingGrant {
         view,
-        x,
+        request,
         constraint,
     })
 }
@@ -93,12 +93,12 @@ impl<'a> CreatingGrant<'a> {
 
     // What the request says of itself.
     fn said<'b>(&'b self, found: &'b Granting<'a>) -> Particulars<'b>
-        ensures { result ≡ of_grant self.now.view.now self.now.x.now found.now }
+        ensures { result ≡ of_grant self.now.view.now self.now.request.now found.now }
     {
         Particulars {
             context: context_of(&self.constraint),
             grant: Some(GrantSaid {
-                operations: self.x.operations,
+                operations: self.request.operations,
                 grantee: &found.grantee,
                 retiring: found.retiring.as_ref(),
                 constraint: &self.constraint,
@@ -109,15 +109,15 @@ impl<'a> CreatingGrant<'a> {
 
     // The grant of the key that is the same, where the request names it.
     fn same_grant(&self, found: &Granting<'a>) -> Option<&'a GrantRow>
-        ensures { option_map (λ grant. grant.now) result ≡ same_grant self.now.view.now self.now.x.now found.now }
+        ensures { option_map (λ grant. grant.now) result ≡ same_grant self.now.view.now self.now.request.now found.now }
     {
-        match &self.x.name {
+        match &self.request.name {
             Some(name) => self.view.grants().same_as(
                 &found.row.row().key,
                 name,
                 &found.grantee,
                 &found.retiring,
-                &self.x.operations,
+                &self.request.operations,
                 &self.constraint,
             ),
             None => None,
@@ -127,9 +127,9 @@ impl<'a> CreatingGrant<'a> {
     // The grant that is made.
     fn added(&self, found: Granting<'a>, grant: GrantId) -> Result<What, NoMemory>
         requires { grant ≡ grant_id_at self.now.view.now.facts self.now.view.now.place }
-        ensures { IfOk result (λ what. Some what ≡ made_unless None self.now.view.now self.now.x.now found.entry) }
+        ensures { IfOk result (λ what. Some what ≡ made_unless None self.now.view.now self.now.request.now found.entry) }
     {
-        let name = match &self.x.name {
+        let name = match &self.request.name {
             Some(name) => Some(name.copy()?),
             None => None,
         };
@@ -138,30 +138,30 @@ impl<'a> CreatingGrant<'a> {
             key: found.row.row().key,
             grantee: found.grantee,
             retiring: found.retiring,
-            operations: self.x.operations,
+            operations: self.request.operations,
             constraint: self.constraint.copy()?,
             name,
         })
     }
 }
 
-impl<'a> Operation for CreatingGrant<'a> {
+impl<'a> Request for CreatingGrant<'a> {
     type Found = Granting<'a>;
 
     type Ready = ();
 
     ghost seen = { λ op. op.view.now };
 
-    ghost parts = { λ op. (creates_grant op.view.now op.x.now).parts };
+    ghost parts = { λ op. (creates_grant op.view.now op.request.now).parts };
 
     fn view(&self) -> &View<'_> {
         self.view
     }
 
     fn find(&self, alloc: Global) -> Result<Granting<'a>, Stop> {
-        let row = only_key_of(alloc, self.view, &self.x.key_id)?;
-        let grantee = principal_in(alloc, &self.x.grantee)?;
-        let retiring = principal_if_given(alloc, &self.x.retiring)?;
+        let row = only_key_of(alloc, self.view, &self.request.key_id)?;
+        let grantee = principal_in(alloc, &self.request.grantee)?;
+        let retiring = principal_if_given(alloc, &self.request.retiring)?;
         Ok(Granting {
             row,
             grantee,
@@ -175,7 +175,7 @@ impl<'a> Operation for CreatingGrant<'a> {
     }
 
     fn tokens(&self) -> &[Text] {
-        self.x.grant_tokens.as_slice()
+        self.request.grant_tokens.as_slice()
     }
 
     fn fit(&self, alloc: Global, found: &Granting<'a>) -> Result<(), Stop> {
@@ -187,12 +187,12 @@ impl<'a> Operation for CreatingGrant<'a> {
     }
 
     fn dry_run(&self) -> bool {
-        self.x.dry_run
+        self.request.dry_run
     }
 }
 
 impl<'a> Changes for CreatingGrant<'a> {
-    ghost does = { λ op. (creates_grant op.view.now op.x.now).does };
+    ghost does = { λ op. (creates_grant op.view.now op.request.now).does };
 
     fn make(&self, _alloc: Global, found: Granting<'a>, _ready: ()) -> Result<Made, NoMemory> {
         if let Some(same) = self.same_grant(&found) {
@@ -220,7 +220,7 @@ pub struct RetiringGrant<'a> {
     pub dry_run: bool,
 }
 
-impl<'a> Operation for RetiringGrant<'a> {
+impl<'a> Request for RetiringGrant<'a> {
     type Found = LentGrant<'a>;
 
     type Ready = ();
@@ -310,7 +310,7 @@ pub struct RevokingGrant<'a> {
     pub dry_run: bool,
 }
 
-impl<'a> Operation for RevokingGrant<'a> {
+impl<'a> Request for RevokingGrant<'a> {
     type Found = Revoking<'a>;
 
     type Ready = LentGrant<'a>;

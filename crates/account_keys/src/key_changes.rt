@@ -1,9 +1,12 @@
 // The operations on the state, the rotation and the description of a key.
 ghost use Rattle.std.specs.Prelude.{◌≡◌, ◌<◌, ◌≤◌, IfOk};
-ghost use Rattle.account_keys.specs.KeyChanges.{action_of, said_of, done_at, reply_of, rotation_of, changes_key, updates_description, gets_rotation_status};
+ghost use Rattle.kms_names.specs.Moment.{year_10000};
+ghost use Rattle.account_keys.specs.KeyChanges.{action_of, said_of, done_at, reply_of, rotation_of, changes_key, gets_rotation_status};
 
 use account_rows::{Lent, What, days_after};
-use account_steps::{Changes, Made, Operation, Reads, Stop, Uses, View, of_key, only_key_of};
+use account_steps::{
+    Changes, LentText, Made, Reads, Request, Stop, Uses, View, of_key, only_key_of,
+};
 use authority::Particulars;
 use draw_lines::DrawLine;
 use key_states::{KeyRow, Stored};
@@ -12,8 +15,8 @@ use kms_names::{Action, NoMemory, Text};
 use std::alloc::Global;
 
 /// What is done to the state or the rotation of a key.
-#[derive(Clone, Copy)]
-pub enum KeyChange {
+#[derive(Drop)]
+pub enum KeyChange<'a> {
     /// EnableKey.
     Enable,
     /// DisableKey.
@@ -28,12 +31,14 @@ pub enum KeyChange {
     RotateNoMore,
     /// RotateKeyOnDemand.
     RotateNow,
+    /// UpdateKeyDescription, with the new description.
+    Describe { text: LentText<'a> },
 }
 
-impl KeyChange {
+impl KeyChange<'_> {
     // What it is called where it is authorized.
-    fn action(self) -> Action
-        ensures { result ≡ action_of self }
+    fn action(&self) -> Action
+        ensures { result ≡ action_of self.now }
     {
         match self {
             KeyChange::Enable => Action::EnableKey,
@@ -43,53 +48,57 @@ impl KeyChange {
             KeyChange::RotateEvery { .. } => Action::EnableKeyRotation,
             KeyChange::RotateNoMore => Action::DisableKeyRotation,
             KeyChange::RotateNow => Action::RotateKeyOnDemand,
+            KeyChange::Describe { .. } => Action::UpdateKeyDescription,
         }
     }
 
     // What it says to conditions, beside the key.
-    fn said<'a>(self, of_key: Particulars<'a>) -> Particulars<'a>
-        ensures { result ≡ said_of self of_key.entry }
+    fn said<'a>(&self, of_key: Particulars<'a>) -> Particulars<'a>
+        ensures { result ≡ said_of self.now of_key.entry }
     {
         match self {
             KeyChange::ScheduleDeletion { days } => Particulars {
-                window: Some(days),
+                window: Some(*days),
                 ..of_key
             },
             KeyChange::RotateEvery { period } => Particulars {
-                period: Some(period),
+                period: Some(*period),
                 ..of_key
             },
-            KeyChange::Enable
-            | KeyChange::Disable
-            | KeyChange::CancelDeletion
-            | KeyChange::RotateNoMore
-            | KeyChange::RotateNow => of_key,
+            _ => of_key,
         }
     }
 }
 
 // What is done at a moment, where there is something to do.
-fn done_at(row: &KeyRow, moment: u64, change: KeyChange) -> Option<What>
-    requires { moment < 253402300800 }
-    ensures { result ≡ done_at moment row.now change }
+fn done_at(row: &KeyRow, moment: u64, change: &KeyChange<'_>) -> Result<Option<What>, NoMemory>
+    requires { moment < year_10000 }
+    ensures { IfOk result (λ did. did ≡ done_at moment row.now change.now) }
 {
     let key = row.key;
-    Some(match change {
-        KeyChange::Enable if row.stored == Stored::Enabled => return None,
-        KeyChange::Enable => What::Enable { key },
-        KeyChange::Disable if row.stored == Stored::Disabled => return None,
-        KeyChange::Disable => What::Disable { key },
-        KeyChange::ScheduleDeletion { days } => What::Schedule {
+    Ok(match change {
+        KeyChange::Enable if row.stored == Stored::Enabled => None,
+        KeyChange::Enable => Some(What::Enable { key }),
+        KeyChange::Disable if row.stored == Stored::Disabled => None,
+        KeyChange::Disable => Some(What::Disable { key }),
+        KeyChange::ScheduleDeletion { days } => Some(What::Schedule {
             key,
-            date: days_after(moment, days),
-            days,
-        },
-        KeyChange::CancelDeletion => What::Cancel { key },
-        KeyChange::RotateEvery { period } if row.period == Some(period) => return None,
-        KeyChange::RotateEvery { period } => What::RotationOn { key, period },
-        KeyChange::RotateNoMore if row.period.is_none() => return None,
-        KeyChange::RotateNoMore => What::RotationOff { key },
-        KeyChange::RotateNow => What::RotateNow { key },
+            date: days_after(moment, *days),
+            days: *days,
+        }),
+        KeyChange::CancelDeletion => Some(What::Cancel { key }),
+        KeyChange::RotateEvery { period } if row.period == Some(*period) => None,
+        KeyChange::RotateEvery { period } => Some(What::RotationOn {
+            key,
+            period: *period,
+        }),
+        KeyChange::RotateNoMore if row.period.is_none() => None,
+        KeyChange::RotateNoMore => Some(What::RotationOff { key }),
+        KeyChange::RotateNow => Some(What::RotateNow { key }),
+        KeyChange::Describe { text } => Some(What::Description {
+            key,
+            text: text.text().copy()?,
+        }),
     })
 }
 
@@ -101,7 +110,7 @@ pub struct ChangingKey<'a> {
     /// The reference to the key.
     pub key_id: &'a Text,
     /// What is done to the key.
-    pub change: KeyChange,
+    pub change: KeyChange<'a>,
 }
 
 impl<'a> ChangingKey<'a> {
@@ -113,23 +122,20 @@ impl<'a> ChangingKey<'a> {
         ensures { IfOk result (λ reply. reply ≡ reply_of self.now.view.now row.now self.now.change) }
     {
         let arn = self.view.arn(alloc, &row.key)?;
-        Ok(match self.change {
+        Ok(match &self.change {
             KeyChange::ScheduleDeletion { days } => Reply::DeletionScheduled {
                 arn,
-                deletion_date: days_after(self.view.moment(), days),
-                days: u64::from(days),
+                deletion_date: days_after(self.view.moment(), *days),
+                days: u64::from(*days),
             },
             KeyChange::CancelDeletion => Reply::DeletionCancelled { arn },
             KeyChange::RotateNow => Reply::Rotated { key: row.key },
-            KeyChange::Enable
-            | KeyChange::Disable
-            | KeyChange::RotateEvery { .. }
-            | KeyChange::RotateNoMore => Reply::Done,
+            _ => Reply::Done,
         })
     }
 }
 
-impl<'a> Operation for ChangingKey<'a> {
+impl<'a> Request for ChangingKey<'a> {
     type Found = Lent<'a>;
 
     type Ready = ();
@@ -176,73 +182,7 @@ impl<'a> Changes for ChangingKey<'a> {
         let row = found.row();
         Ok(Made {
             reply: self.reply(alloc, row)?,
-            what: done_at(row, self.view.moment(), self.change),
-        })
-    }
-}
-
-/// UpdateKeyDescription.
-#[derive(Drop)]
-pub struct UpdatingDescription<'a> {
-    /// What its steps go by.
-    pub view: &'a View<'a>,
-    /// The reference to the key.
-    pub key_id: &'a Text,
-    /// The key's new description.
-    pub description: &'a Text,
-}
-
-impl<'a> Operation for UpdatingDescription<'a> {
-    type Found = Lent<'a>;
-
-    type Ready = ();
-
-    ghost seen = { λ op. op.view.now };
-
-    ghost parts = { λ op. (updates_description op.view.now op.key_id.now op.description.now).parts };
-
-    fn view(&self) -> &View<'_> {
-        self.view
-    }
-
-    fn find(&self, alloc: Global) -> Result<Lent<'a>, Stop> {
-        only_key_of(alloc, self.view, self.key_id)
-    }
-
-    fn authorize(&self, alloc: Global, found: &Lent<'a>) -> Result<(), Stop> {
-        let said = of_key(self.view, &found.row().key);
-        self.view
-            .authorize_on(alloc, Action::UpdateKeyDescription, found, &said)
-    }
-
-    fn tokens(&self) -> &[Text] {
-        &[]
-    }
-
-    fn fit(&self, alloc: Global, found: &Lent<'a>) -> Result<(), Stop> {
-        self.view.fit(alloc, Action::UpdateKeyDescription, found)
-    }
-
-    fn own(&self, _alloc: Global, _found: &Lent<'a>) -> Result<(), Stop> {
-        Ok(())
-    }
-
-    fn dry_run(&self) -> bool {
-        false
-    }
-}
-
-impl<'a> Changes for UpdatingDescription<'a> {
-    ghost does = { λ op. (updates_description op.view.now op.key_id.now op.description.now).does };
-
-    fn make(&self, _alloc: Global, found: Lent<'a>, _ready: ()) -> Result<Made, NoMemory> {
-        let text = self.description.copy()?;
-        Ok(Made {
-            reply: Reply::Done,
-            what: Some(What::Description {
-                key: found.row().key,
-                text,
-            }),
+            what: done_at(row, self.view.moment(), &self.change)?,
         })
     }
 }
@@ -269,7 +209,7 @@ pub struct GettingRotationStatus<'a> {
     pub key_id: &'a Text,
 }
 
-impl<'a> Operation for GettingRotationStatus<'a> {
+impl<'a> Request for GettingRotationStatus<'a> {
     type Found = Lent<'a>;
 
     type Ready = ();

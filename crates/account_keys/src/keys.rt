@@ -7,7 +7,7 @@ ghost use Rattle.account_keys.specs.Keys.{description_of, creates_key, describes
 use crate::policies::accept;
 use account_rows::What;
 use account_steps::{
-    Changes, Made, Named, Operation, Reads, Stop, Uses, View, key_id, key_of, of_named, of_new_key,
+    Changes, Made, Named, Request, Reads, Stop, Uses, View, key_id, key_of, of_named, of_new_key,
     refuse, told_state, unsupported,
 };
 use authority::{Particulars, default_policy_text};
@@ -48,21 +48,21 @@ fn unsupported_unless(wanted: &str, given: &Option<Text>, field: Unsupported) ->
 }
 
 // Stops at what isn't served.
-fn serve_only(x: &CreateKey) -> Result<(), Stop>
-    ensures { Passes (unserved_key x.now) result }
+fn serve_only(request: &CreateKey) -> Result<(), Stop>
+    ensures { Passes (unserved_key request.now) result }
 {
-    refuse(unsupported_unless("ENCRYPT_DECRYPT", &x.key_usage, Unsupported::KeyUsage))?;
+    refuse(unsupported_unless("ENCRYPT_DECRYPT", &request.key_usage, Unsupported::KeyUsage))?;
     refuse(unsupported_unless(
         SYMMETRIC_DEFAULT,
-        &x.customer_master_key_spec,
+        &request.customer_master_key_spec,
         Unsupported::CustomerMasterKeySpec,
     ))?;
-    refuse(unsupported_unless(SYMMETRIC_DEFAULT, &x.key_spec, Unsupported::KeySpec))?;
-    refuse(unsupported_unless("AWS_KMS", &x.origin, Unsupported::Origin))?;
-    refuse(unsupported(x.custom_key_store_id, Unsupported::CustomKeyStoreId))?;
-    refuse(unsupported(x.tags, Unsupported::Tags))?;
-    refuse(unsupported(x.multi_region, Unsupported::MultiRegion))?;
-    refuse(unsupported(x.xks_key_id, Unsupported::XksKeyId))
+    refuse(unsupported_unless(SYMMETRIC_DEFAULT, &request.key_spec, Unsupported::KeySpec))?;
+    refuse(unsupported_unless("AWS_KMS", &request.origin, Unsupported::Origin))?;
+    refuse(unsupported(request.custom_key_store_id, Unsupported::CustomKeyStoreId))?;
+    refuse(unsupported(request.tags, Unsupported::Tags))?;
+    refuse(unsupported(request.multi_region, Unsupported::MultiRegion))?;
+    refuse(unsupported(request.xks_key_id, Unsupported::XksKeyId))
 }
 
 // Stops at the refusal of a policy that is given.
@@ -103,17 +103,17 @@ pub struct CreatingKey<'a> {
     /// What its steps go by.
     pub view: &'a View<'a>,
     /// What it asks.
-    pub x: &'a CreateKey,
+    pub request: &'a CreateKey,
 }
 
-impl<'a> Operation for CreatingKey<'a> {
+impl<'a> Request for CreatingKey<'a> {
     type Found = ();
 
     type Ready = ();
 
     ghost seen = { λ op. op.view.now };
 
-    ghost parts = { λ op. (creates_key op.view.now op.x.now).parts };
+    ghost parts = { λ op. (creates_key op.view.now op.request.now).parts };
 
     fn view(&self) -> &View<'_> {
         self.view
@@ -125,7 +125,7 @@ impl<'a> Operation for CreatingKey<'a> {
 
     fn authorize(&self, alloc: Global, _found: &()) -> Result<(), Stop> {
         let said = Particulars {
-            bypass: Some(self.x.bypass_lockout_check),
+            bypass: Some(self.request.bypass_lockout_check),
             ..of_new_key()
         };
         self.view.authorize(alloc, Action::CreateKey, "*", &said)
@@ -140,12 +140,12 @@ impl<'a> Operation for CreatingKey<'a> {
     }
 
     fn own(&self, alloc: Global, _found: &()) -> Result<(), Stop> {
-        serve_only(self.x)?;
+        serve_only(self.request)?;
         accept_if_given(
             alloc,
             self.view,
-            &self.x.policy,
-            self.x.bypass_lockout_check,
+            &self.request.policy,
+            self.request.bypass_lockout_check,
         )
     }
 
@@ -155,15 +155,15 @@ impl<'a> Operation for CreatingKey<'a> {
 }
 
 impl<'a> Changes for CreatingKey<'a> {
-    ghost does = { λ op. (creates_key op.view.now op.x.now).does };
+    ghost does = { λ op. (creates_key op.view.now op.request.now).does };
 
     fn make(&self, alloc: Global, _found: (), _ready: ()) -> Result<Made, NoMemory> {
         let time = self.view.moment();
         let facts = self.view.facts();
         let key = key_id(facts, self.view.place());
-        let metadata = metadata(self.view, key, time, &self.x.description, KeyState::Enabled)?;
-        let description = self.x.description.copy()?;
-        let policy = policy_or_default(alloc, &facts.account, &self.x.policy)?;
+        let metadata = metadata(self.view, key, time, &self.request.description, KeyState::Enabled)?;
+        let description = self.request.description.copy()?;
+        let policy = policy_or_default(alloc, &facts.account, &self.request.policy)?;
         Ok(Made {
             reply: Reply::Metadata(metadata),
             what: Some(What::CreateKey {
@@ -186,7 +186,7 @@ pub struct DescribingKey<'a> {
     pub grant_tokens: &'a TextList,
 }
 
-impl<'a> Operation for DescribingKey<'a> {
+impl<'a> Request for DescribingKey<'a> {
     type Found = Named<'a>;
 
     type Ready = ();

@@ -8,7 +8,7 @@ ghost use Rattle.account_steps.specs.Steps.{Passes};
 ghost use Rattle.account_keys.specs.Policies.{StopsAt, IsStopAt, may_put_again, locked_out, policy_refused, puts_policy, gets_policy};
 
 use account_rows::{Lent, What};
-use account_steps::{Changes, Made, Operation, Reads, Stop, Uses, View, of_key, only_key_of};
+use account_steps::{Changes, Made, Request, Reads, Stop, Uses, View, of_key, only_key_of};
 use authority::{KeyPolicy, Particulars};
 use draw_lines::DrawLine;
 use kms_json::{PolicyFlaw, Refusal, Reply};
@@ -127,7 +127,7 @@ pub struct PuttingPolicy<'a> {
     pub bypass: bool,
 }
 
-impl<'a> Operation for PuttingPolicy<'a> {
+impl<'a> Request for PuttingPolicy<'a> {
     type Found = Lent<'a>;
 
     type Ready = ();
@@ -191,7 +191,7 @@ pub struct GettingPolicy<'a> {
     pub key_id: &'a Text,
 }
 
-impl<'a> Operation for GettingPolicy<'a> {
+impl<'a> Request for GettingPolicy<'a> {
     type Found = Lent<'a>;
 
     type Ready = ();

@@ -39,7 +39,8 @@ use Rattle.account_steps.specs.View.{View, view_of, unless_gone, key_held, alias
 use Rattle.account_rows.specs.Changes.{is_gone}
 use Rattle.account_steps.specs.Steps.{unless, or_else, and_then, unfit, named_by_id, named_by, named_by_alias, key_of_alias, alias_of, key_referred, reference_of, key_of, key_if_given, blob_name, other_key, held_key, source_in, source_of, newest_version, opens, seals, draws, arn_of}
 use Rattle.account_steps.specs.Parts.{Outcome, spent, no_more_draws, no_more_ivs, after}
-use Rattle.account_crypto.specs.Crypto.{one_iv, words_and_iv, encrypts, re_encrypts, generates_data_key, generates_sealed_data_key}
+use Rattle.account_crypto.specs.Crypto.{one_iv, words_and_iv, encrypts, re_encrypts, generates_data_key}
+use Rattle.account_crypto.specs.declared.data_keys.DataKeyForm.TheVariants as form
 use Rattle.account_core.specs.Decide.{decide, IsProper}
 use Rattle.account_laws.specs.Laws.{Sealing, HasSealed, encrypted, re_encrypted, data_key, sealed_data_key}
 use Rattle.account_steps.proofs.Openings.{size_of_opened}
@@ -269,7 +270,7 @@ is_sealed facts history x places s (re_encrypted r blob plaintext arn source_arn
 is_sealed facts history x places s (data_key key recipient blob plaintext arn body replied) =
     let seen = view_of facts history x places in
     let served = serves_of facts history x places (reading.GenerateDataKey key recipient) (reply.DataKey blob plaintext arn) body (λ why same. cc) replied in
-    let p = read_passed seen (generates_data_key seen key recipient) served.out served.is in
+    let p = read_passed seen (generates_data_key seen key (form.Plaintext recipient)) served.out served.is in
     let came : reply.DataKey (seals facts p.found.row key.context (draws facts key.size places) places) (draws facts key.size places) (arn_of facts p.found.row.key) ≡ reply.DataKey blob plaintext arn =
     ap (λ (o : Outcome Uses). o.reply) p.outcome_is ∙ served.reply_is in
     let one = leaves_one facts history x places (reading.GenerateDataKey key recipient) (reply.DataKey blob plaintext arn) (words_and_iv key.size) served refl p.left (ap (λ (o : Outcome Uses). o.effect) p.outcome_is) in
@@ -288,7 +289,7 @@ is_sealed facts history x places s (data_key key recipient blob plaintext arn bo
 is_sealed facts history x places s (sealed_data_key key blob arn body replied) =
     let seen = view_of facts history x places in
     let served = serves_of facts history x places (reading.GenerateDataKeyWithoutPlaintext key) (reply.SealedDataKey blob arn) body (λ why same. cc) replied in
-    let p = read_passed seen (generates_sealed_data_key seen key) served.out served.is in
+    let p = read_passed seen (generates_data_key seen key form.Sealed) served.out served.is in
     let came : reply.SealedDataKey (seals facts p.found.row key.context (draws facts key.size places) places) (arn_of facts p.found.row.key) ≡ reply.SealedDataKey blob arn =
     ap (λ (o : Outcome Uses). o.reply) p.outcome_is ∙ served.reply_is in
     let one = leaves_one facts history x places (reading.GenerateDataKeyWithoutPlaintext key) (reply.SealedDataKey blob arn) (words_and_iv key.size) served refl p.left (ap (λ (o : Outcome Uses). o.effect) p.outcome_is) in

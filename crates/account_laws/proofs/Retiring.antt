@@ -34,18 +34,6 @@ still : (grant : List ℕ) (n : ℕ) (grants : List GrantRow) → IsAway grant n
 still grant n grants away = record { gone = away.gone; told = let t = away.told in omega (arith, t) }
 
 stays : (grant : List ℕ) (n time : ℕ) (w : What) (keys : List KeyRow) (grants : List GrantRow) → IsMadeHere n w → IsAway grant n grants → IsAway grant (n + 1) (grants_after n time w keys grants)
-stays grant n time (what.CreateKey key description policy) keys grants here away = still grant n grants away
-stays grant n time (what.Enable key) keys grants here away = still grant n grants away
-stays grant n time (what.Disable key) keys grants here away = still grant n grants away
-stays grant n time (what.Schedule key date days) keys grants here away = still grant n grants away
-stays grant n time (what.Cancel key) keys grants here away = still grant n grants away
-stays grant n time (what.RotationOn key period) keys grants here away = still grant n grants away
-stays grant n time (what.RotationOff key) keys grants here away = still grant n grants away
-stays grant n time (what.RotateNow key) keys grants here away = still grant n grants away
-stays grant n time (what.Policy key text) keys grants here away = still grant n grants away
-stays grant n time (what.Description key text) keys grants here away = still grant n grants away
-stays grant n time (what.AliasPut name key) keys grants here away = still grant n grants away
-stays grant n time (what.AliasDrop name) keys grants here away = still grant n grants away
 stays grant n time (what.GrantAdd id key grantee retiring operations constraint name) keys grants here away =
     let other : id ≢ grant = λ same. let at : place_in_grant grant ≡ n = ap place_in_grant (sym same) ∙ here in let t = away.told in absurd (omega (arith, at, t)) in
     record {
@@ -60,6 +48,7 @@ stays grant n time what.House keys grants here away = record {
   gone = All-filter (λ (row : GrantRow). not (is_of_any (gone_keys time keys) row)) (Differs grant) grants away.gone;
   told = let t = away.told in omega (arith, t);
 }
+stays grant n time _ keys grants here away = still grant n grants away
 
 -- ---- where it is dropped
 

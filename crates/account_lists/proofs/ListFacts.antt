@@ -8,7 +8,7 @@ use Rattle.kms_names.specs.declared.principals.Principal.{Principal}
 use Rattle.kms_names.proofs.Behind.{find_in_filter}
 use Rattle.key_states.specs.declared.versions.Version.{Version}
 use Rattle.grant_table.specs.declared.rows.GrantRow.{GrantRow}
-use Rattle.grant_table.specs.Grants.{AreGrants, is_of_key, has_retiring, is_after, grant_of_key, grant_retirable}
+use Rattle.grant_table.specs.Grants.{AreGrants, is_of_key, has_retiring, grant_of_key, grant_retirable}
 use Rattle.account_lists.specs.declared.listings.Numbered.{Numbered}
 use Rattle.key_states.specs.declared.rows.KeyRow.{KeyRow}
 use Rattle.kms_json.specs.declared.replies.Reply.TheVariants as reply
@@ -31,9 +31,9 @@ find_alike : {X : Type 0} (test other : X → Bool) → ((x : X) → test x ≡ 
 find_alike test other same [] = refl
 find_alike {X = X} test other same (x ∷ xs) = ap (λ (b : Bool). cond b (Some x) (find test xs)) (same x) ∙ ap (λ (o : Option X). cond (other x) (Some x) o) (find_alike test other same xs)
 
-first_of : (test : GrantRow → Bool) (rows : List GrantRow) (after : Option ℕ) → find (λ (row : GrantRow). test row && is_after after row) rows ≡ find (λ (row : GrantRow). is_behind after row.born) (filter test rows)
+first_of : (test : GrantRow → Bool) (rows : List GrantRow) (after : Option ℕ) → find (λ (row : GrantRow). test row && is_behind after row.born) rows ≡ find (λ (row : GrantRow). is_behind after row.born) (filter test rows)
 first_of test rows after =
-    find_alike (λ (row : GrantRow). test row && is_after after row) (λ (row : GrantRow). is_behind after row.born && test row) (λ row. turned (test row) (is_after after row)) rows
+    find_alike (λ (row : GrantRow). test row && is_behind after row.born) (λ (row : GrantRow). is_behind after row.born && test row) (λ row. turned (test row) (is_behind after row.born)) rows
     ∙ sym (find_in_filter test (λ (row : GrantRow). is_behind after row.born) rows)
 
 pub first_of_key : (key : List ℕ) (rows : List GrantRow) (after : Option ℕ) → grant_of_key rows key after ≡ find (λ (row : GrantRow). is_behind after row.born) (filter (is_of_key key) rows)

@@ -1,7 +1,7 @@
 -- Parts of lists (AWS KMS API Reference, the members Limit, Marker, NextMarker and Truncated of ListKeys and its kin).
 use Rattle.std.specs.Prelude.{◌≡◌, ℕ, ◌<◌, ◌≤◌, List, ◌++◌, length, take, filter, nat_lt, if◌then◌else◌, Option, Some, None, option_map, Result, Ok, Err, AllPairs}
 use Rattle.std.specs.List.{last_or}
-use Rattle.http_front.specs.Digits.{number_in}
+use Rattle.kms_names.specs.Digits.{number_in}
 use Rattle.kms_names.specs.Place.{is_behind}
 use Rattle.kms_json.specs.declared.refusals.Refusal.{Refusal}
 use Rattle.kms_json.specs.declared.refusals.Refusal.TheVariants as refusal

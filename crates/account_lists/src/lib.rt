@@ -1,6 +1,6 @@
 //! The operations that list: what each says of the steps of a decision, and the parts in which a list is shown.
 //!
-//! Each is an `Operation` of `account_steps`, whose `Parts` are a function of plain values.
+//! Each is a `Request` of `account_steps`, whose `Parts` are a function of plain values.
 #![tactic(auto)]
 
 mod listings;

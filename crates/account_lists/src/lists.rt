@@ -8,7 +8,7 @@ use crate::listings::{AliasesListed, GrantsOfKey, KeysListed, RetirableGrants, R
 use crate::pages::{behind_marker, part_behind};
 use account_rows::Lent;
 use account_steps::{
-    LentText, Operation, Reads, Stop, Uses, View, grant_id_in, of_key, of_none, only_key_of,
+    LentText, Request, Reads, Stop, Uses, View, grant_id_in, of_key, of_none, only_key_of,
     principal_in,
 };
 use draw_lines::DrawLine;
@@ -144,7 +144,7 @@ impl<'a> ListingAccount<'a> {
     }
 }
 
-impl<'a> Operation for ListingAccount<'a> {
+impl<'a> Request for ListingAccount<'a> {
     type Found = ListedIn;
 
     type Ready = Option<u64>;
@@ -363,7 +363,7 @@ impl<'a> ListingKey<'a> {
     }
 }
 
-impl<'a> Operation for ListingKey<'a> {
+impl<'a> Request for ListingKey<'a> {
     type Found = ListedOf<'a>;
 
     type Ready = Option<u64>;

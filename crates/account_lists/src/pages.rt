@@ -5,7 +5,7 @@ ghost use Rattle.account_steps.specs.Steps.{Gives};
 ghost use Rattle.account_lists.specs.Pages.{behind_marker, part_of};
 
 use account_steps::Stop;
-use http_front::decimal;
+use kms_names::decimal;
 use kms_json::{Page, Refusal};
 use kms_names::{NoMemory, Text};
 use std::alloc::Global;

@@ -10,9 +10,8 @@ use Rattle.alias_map.specs.declared.rows.AliasRow.{AliasRow}
 use Rattle.alias_map.specs.Aliases.{has_name, names_any, row_named, with_row, without, without_keys, AreBefore, MayPut}
 use Rattle.account_rows.specs.declared.entries.Entry.{Entry}
 use Rattle.account_rows.specs.declared.entries.What.{What}
-use Rattle.account_rows.specs.declared.entries.What.TheVariants as what
 use Rattle.account_rows.specs.Changes.{gone_keys}
-use Rattle.account_rows.specs.AliasChanges.{put_row, aliases_after}
+use Rattle.account_rows.specs.AliasChanges.{AliasChange, puts, drops, houses, alias_change, aliases_by, put_row, aliases_after}
 use Rattle.account_rows.specs.History.{step, nothing_yet, replay}
 use Rattle.account_rows.proofs.RowFacts.{replay-entries}
 
@@ -69,23 +68,15 @@ put_before n time name key aliases before = by_row (row_named aliases name) refl
     by_row None is = omega arith
     by_row (Some row) is = let old : row.born < n = named_all (λ (r : AliasRow). r.born < n) aliases name row is before in omega (arith, old)
 
-pub before_after : (n time : ℕ) (w : What) (keys : List KeyRow) (aliases : List AliasRow) → AreBefore aliases n → AreBefore (aliases_after n time w keys aliases) (n + 1)
-before_after n time (what.CreateKey key description policy) keys aliases before = later n aliases before
-before_after n time (what.Enable key) keys aliases before = later n aliases before
-before_after n time (what.Disable key) keys aliases before = later n aliases before
-before_after n time (what.Schedule key date days) keys aliases before = later n aliases before
-before_after n time (what.Cancel key) keys aliases before = later n aliases before
-before_after n time (what.RotationOn key period) keys aliases before = later n aliases before
-before_after n time (what.RotationOff key) keys aliases before = later n aliases before
-before_after n time (what.RotateNow key) keys aliases before = later n aliases before
-before_after n time (what.Policy key text) keys aliases before = later n aliases before
-before_after n time (what.Description key text) keys aliases before = later n aliases before
-before_after n time (what.AliasPut name key) keys aliases before =
+before_by : (n time : ℕ) (by : Option AliasChange) (keys : List KeyRow) (aliases : List AliasRow) → AreBefore aliases n → AreBefore (aliases_by n time keys by aliases) (n + 1)
+before_by n time None keys aliases before = later n aliases before
+before_by n time (Some (puts name key)) keys aliases before =
     all_with_row (λ (r : AliasRow). r.born < n + 1) aliases (put_row n time name key (row_named aliases name)) (later n aliases before) (put_before n time name key aliases before)
-before_after n time (what.AliasDrop name) keys aliases before = All-filter (λ row. not (has_name name row)) (λ (r : AliasRow). r.born < n + 1) aliases (later n aliases before)
-before_after n time (what.GrantAdd grant key grantee retiring operations constraint name) keys aliases before = later n aliases before
-before_after n time (what.GrantDrop grant) keys aliases before = later n aliases before
-before_after n time what.House keys aliases before = All-filter (λ row. not (names_any (gone_keys time keys) row)) (λ (r : AliasRow). r.born < n + 1) aliases (later n aliases before)
+before_by n time (Some (drops name)) keys aliases before = All-filter (λ row. not (has_name name row)) (λ (r : AliasRow). r.born < n + 1) aliases (later n aliases before)
+before_by n time (Some houses) keys aliases before = All-filter (λ row. not (names_any (gone_keys time keys) row)) (λ (r : AliasRow). r.born < n + 1) aliases (later n aliases before)
+
+pub before_after : (n time : ℕ) (w : What) (keys : List KeyRow) (aliases : List AliasRow) → AreBefore aliases n → AreBefore (aliases_after n time w keys aliases) (n + 1)
+before_after n time w keys aliases before = before_by n time (alias_change w) keys aliases before
 
 -- ---- a history with one more entry
 

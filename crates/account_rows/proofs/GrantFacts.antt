@@ -1,5 +1,5 @@
 -- The grants that a history makes.
-use Rattle.std.proofs.Common.{◌≡◌, ℕ, ◌+◌, Bool, true, false, not, cond, List, [], ◌∷◌, ◌++◌, length, None, Some, refl, sym, ◌∙◌, ap, arith}
+use Rattle.std.proofs.Common.{◌≡◌, ℕ, ◌+◌, Bool, true, false, not, cond, List, [], ◌∷◌, ◌++◌, length, Option, None, Some, refl, sym, ◌∙◌, ap, arith}
 use Rattle.std.specs.Prelude.{◌==◌, All}
 use Rattle.std.proofs.lemmas.Bool.Decides.{nat_tests}
 use Rattle.std.proofs.lemmas.List.Elements.{All-filter, All-push}
@@ -12,8 +12,8 @@ use Rattle.account_rows.specs.declared.entries.Entry.{Entry}
 use Rattle.account_rows.specs.declared.entries.What.{What}
 use Rattle.account_rows.specs.declared.entries.What.TheVariants as what
 use Rattle.account_rows.specs.Changes.{gone_keys}
-use Rattle.account_rows.specs.GrantChanges.{new_grant, grants_after}
-use Rattle.account_rows.specs.History.{step, nothing_yet, replay, IsMadeHere, IsGrantOf}
+use Rattle.account_rows.specs.GrantChanges.{GrantChange, adds, drops, houses, grant_change, grants_by, grants_after}
+use Rattle.account_rows.specs.History.{step, nothing_yet, replay, place_in_grant, IsMadeHere, IsGrantOf}
 use Rattle.account_rows.proofs.RowFacts.{replay-entries}
 
 -- where none has the id, none is dropped
@@ -38,23 +38,25 @@ none_of grants (key ∷ keys) none = absurd (omega (arith, no_length (length (ke
 later : (n : ℕ) (grants : List GrantRow) → All (IsGrantOf n) grants → All (IsGrantOf (n + 1)) grants
 later n grants all k d lt = record { before = omega (arith, (all k d lt).before); named = (all k d lt).named }
 
+-- a grant that is added was made here
+abbrev AddedBy : ℕ → Option GrantChange → Type 0
+AddedBy n None = Unit {0}
+AddedBy n (Some (adds row)) = (row.born ≡ n) × (place_in_grant row.grant ≡ n)
+AddedBy n (Some (drops grant)) = Unit {0}
+AddedBy n (Some houses) = Unit {0}
+
+added_by : (n time : ℕ) (w : What) → IsMadeHere n w → AddedBy n (grant_change n time w)
+added_by n time (what.GrantAdd grant key grantee retiring operations constraint name) here = (refl, here)
+added_by n time _ here = tt
+
+rise_by : (n time : ℕ) (by : Option GrantChange) (keys : List KeyRow) (grants : List GrantRow) → AddedBy n by → All (IsGrantOf n) grants → All (IsGrantOf (n + 1)) (grants_by time keys by grants)
+rise_by n time None keys grants here all = later n grants all
+rise_by n time (Some (adds row)) keys grants here all = All-push (IsGrantOf (n + 1)) grants row (later n grants all) (record { before = omega (arith, here.0); named = here.1 ∙ sym here.0 })
+rise_by n time (Some (drops grant)) keys grants here all = All-filter (λ row. not (has_id grant row)) (IsGrantOf (n + 1)) grants (later n grants all)
+rise_by n time (Some houses) keys grants here all = All-filter (λ row. not (is_of_any (gone_keys time keys) row)) (IsGrantOf (n + 1)) grants (later n grants all)
+
 pub grants_rise : (n time : ℕ) (w : What) (keys : List KeyRow) (grants : List GrantRow) → IsMadeHere n w → All (IsGrantOf n) grants → All (IsGrantOf (n + 1)) (grants_after n time w keys grants)
-grants_rise n time (what.CreateKey key description policy) keys grants here all = later n grants all
-grants_rise n time (what.Enable key) keys grants here all = later n grants all
-grants_rise n time (what.Disable key) keys grants here all = later n grants all
-grants_rise n time (what.Schedule key date days) keys grants here all = later n grants all
-grants_rise n time (what.Cancel key) keys grants here all = later n grants all
-grants_rise n time (what.RotationOn key period) keys grants here all = later n grants all
-grants_rise n time (what.RotationOff key) keys grants here all = later n grants all
-grants_rise n time (what.RotateNow key) keys grants here all = later n grants all
-grants_rise n time (what.Policy key text) keys grants here all = later n grants all
-grants_rise n time (what.Description key text) keys grants here all = later n grants all
-grants_rise n time (what.AliasPut name key) keys grants here all = later n grants all
-grants_rise n time (what.AliasDrop name) keys grants here all = later n grants all
-grants_rise n time (what.GrantAdd grant key grantee retiring operations constraint name) keys grants here all =
-    All-push (IsGrantOf (n + 1)) grants (new_grant n time grant key grantee retiring operations constraint name) (later n grants all) (record { before = omega arith; named = here })
-grants_rise n time (what.GrantDrop grant) keys grants here all = All-filter (λ row. not (has_id grant row)) (IsGrantOf (n + 1)) grants (later n grants all)
-grants_rise n time what.House keys grants here all = All-filter (λ row. not (is_of_any (gone_keys time keys) row)) (IsGrantOf (n + 1)) grants (later n grants all)
+grants_rise n time w keys grants here all = rise_by n time (grant_change n time w) keys grants (added_by n time w here) all
 
 -- ---- a history with one more entry
 

@@ -2,7 +2,6 @@
 use Rattle.std.proofs.Common.{◌≡◌, ℕ, ◌+◌, ◌<◌, ◌≤◌, Bool, true, false, not, ◌&&◌, ◌||◌, List, [], ◌∷◌, ◌++◌, length, get_or, map, filter, max, Option, Some, None, refl, sym, ◌∙◌, ap, subst, arith, if◌then◌else◌, cond}
 use Rattle.std.specs.Prelude.{All, nat_le, nat_lt, is_some}
 use Rattle.std.specs.List.{list_any}
-use Rattle.std.specs.Str.{bytes_eq}
 use Rattle.std.proofs.lemmas.Bool.Decides.{nat_tests}
 use Rattle.std.proofs.lemmas.List.Elements.{All-map, All-push, All-filter, filter_passes}
 use Rattle.std.proofs.lemmas.List.Folds.{list_any_none}
@@ -11,10 +10,10 @@ use Rattle.key_states.specs.States.{state_of, is_due, is_enabled}
 use Rattle.account_rows.specs.declared.entries.Entry.{Entry}
 use Rattle.account_rows.specs.declared.entries.What.{What}
 use Rattle.account_rows.specs.declared.entries.What.TheVariants as what
-use Rattle.account_rows.specs.Changes.{with_version, rotated, rotated_if_due, next_date, days_after, is_gone, house_kept, keys_after, wants_house, changed, new_key}
+use Rattle.account_rows.specs.Changes.{with_version, rotated, rotated_if_due, next_date, days_after, is_gone, house_kept, key_change, keys_after, wants_house}
 use Rattle.account_rows.specs.History.{replay, latest_of, moment_of, has_room, housekeeping_of}
 use Rattle.account_rows.specs.Sizes.{size_of}
-use Rattle.account_rows.proofs.RowFacts.{replay-push, latest-push, found_all}
+use Rattle.account_rows.proofs.RowFacts.{replay-push, latest-push, found_all, KeepsBy, all_by}
 
 -- a period of automatic rotation has at least one day
 abbrev pub HasDays : Option ℕ → Type 0
@@ -23,21 +22,8 @@ HasDays (Some period) = 1 ≤ period
 
 -- an entry gives no other period
 abbrev pub GivesDays : What → Type 0
-GivesDays (what.CreateKey key description policy) = Unit {0}
-GivesDays (what.Enable key) = Unit {0}
-GivesDays (what.Disable key) = Unit {0}
-GivesDays (what.Schedule key date days) = Unit {0}
-GivesDays (what.Cancel key) = Unit {0}
 GivesDays (what.RotationOn key period) = 1 ≤ period
-GivesDays (what.RotationOff key) = Unit {0}
-GivesDays (what.RotateNow key) = Unit {0}
-GivesDays (what.Policy key text) = Unit {0}
-GivesDays (what.Description key text) = Unit {0}
-GivesDays (what.AliasPut name key) = Unit {0}
-GivesDays (what.AliasDrop name) = Unit {0}
-GivesDays (what.GrantAdd grant key grantee retiring operations constraint name) = Unit {0}
-GivesDays (what.GrantDrop grant) = Unit {0}
-GivesDays what.House = Unit {0}
+GivesDays _ = Unit {0}
 
 abbrev pub RowsHaveDays : List KeyRow → Type 0
 RowsHaveDays rows = All (λ (row : KeyRow). HasDays row.period) rows
@@ -46,31 +32,22 @@ choose : (b : Bool) (row new : KeyRow) → HasDays row.period → HasDays new.pe
 choose true row new old is = is
 choose false row new old is = old
 
-module _ (change : KeyRow → KeyRow) (has : (row : KeyRow) → HasDays row.period → HasDays (change row).period) where
-  days_changed : (key : List ℕ) (rows : List KeyRow) → RowsHaveDays rows → RowsHaveDays (changed key change rows)
-  days_changed key rows all =
-      All-map (λ (row : KeyRow). HasDays row.period) (λ (row : KeyRow). if bytes_eq row.key key then change row else row) rows
-      (λ k d lt. choose (bytes_eq (get_or rows k d).key key) (get_or rows k d) (change (get_or rows k d)) (all k d lt) (has (get_or rows k d) (all k d lt)))
+days_by : (n time : ℕ) (w : What) → GivesDays w → KeepsBy (λ (row : KeyRow). HasDays row.period) (key_change n time w)
+days_by n time (what.CreateKey key description policy) gives = tt
+days_by n time (what.Enable key) gives = λ row is. is
+days_by n time (what.Disable key) gives = λ row is. is
+days_by n time (what.Schedule key date days) gives = λ row is. is
+days_by n time (what.Cancel key) gives = λ row is. is
+days_by n time (what.RotationOn key period) gives = λ row is. gives
+days_by n time (what.RotationOff key) gives = λ row is. tt
+days_by n time (what.RotateNow key) gives = λ row is. is
+days_by n time (what.Policy key text) gives = λ row is. is
+days_by n time (what.Description key text) gives = λ row is. is
+days_by n time what.House gives = λ row is. choose (is_due row time) row (rotated time row) is is
+days_by n time _ gives = tt
 
 pub days_after_entry : (n time : ℕ) (w : What) (rows : List KeyRow) → GivesDays w → RowsHaveDays rows → RowsHaveDays (keys_after n time w rows)
-days_after_entry n time (what.CreateKey key description policy) rows gives all = All-push (λ (row : KeyRow). HasDays row.period) rows (new_key n time key description policy) all tt
-days_after_entry n time (what.Enable key) rows gives all = days_changed _ (λ row is. is) key rows all
-days_after_entry n time (what.Disable key) rows gives all = days_changed _ (λ row is. is) key rows all
-days_after_entry n time (what.Schedule key date days) rows gives all = days_changed _ (λ row is. is) key rows all
-days_after_entry n time (what.Cancel key) rows gives all = days_changed _ (λ row is. is) key rows all
-days_after_entry n time (what.RotationOn key period) rows gives all = days_changed _ (λ row is. gives) key rows all
-days_after_entry n time (what.RotationOff key) rows gives all = days_changed _ (λ row is. tt) key rows all
-days_after_entry n time (what.RotateNow key) rows gives all = days_changed _ (λ row is. is) key rows all
-days_after_entry n time (what.Policy key text) rows gives all = days_changed _ (λ row is. is) key rows all
-days_after_entry n time (what.Description key text) rows gives all = days_changed _ (λ row is. is) key rows all
-days_after_entry n time (what.AliasPut name key) rows gives all = all
-days_after_entry n time (what.AliasDrop name) rows gives all = all
-days_after_entry n time (what.GrantAdd grant key grantee retiring operations constraint name) rows gives all = all
-days_after_entry n time (what.GrantDrop grant) rows gives all = all
-days_after_entry n time what.House rows gives all =
-    All-map (λ (row : KeyRow). HasDays row.period) (rotated_if_due time) (filter (λ row. not (is_gone time row)) rows)
-    (λ k d lt. let old = All-filter (λ row. not (is_gone time row)) (λ (row : KeyRow). HasDays row.period) rows all k d lt in
-    choose (is_due (get_or (filter (λ row. not (is_gone time row)) rows) k d) time) (get_or (filter (λ row. not (is_gone time row)) rows) k d) (rotated time (get_or (filter (λ row. not (is_gone time row)) rows) k d)) old old)
+days_after_entry n time w rows gives all = all_by (λ (row : KeyRow). HasDays row.period) (key_change n time w) rows (days_by n time w gives) all
 
 -- ---- a row that was kept
 

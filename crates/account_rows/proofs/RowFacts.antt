@@ -1,5 +1,5 @@
 -- The rows that a history makes.
-use Rattle.std.proofs.Common.{◌≡◌, ◌≢◌, ℕ, ◌+◌, ◌<◌, ◌≤◌, Bool, true, false, not, cond, List, [], ◌∷◌, ◌++◌, length, length-append, get_or, map, filter, fold, None, Some, refl, sym, ◌∙◌, ap, subst, arith, if◌then◌else◌}
+use Rattle.std.proofs.Common.{◌≡◌, ◌≢◌, ℕ, ◌+◌, ◌<◌, ◌≤◌, Bool, true, false, not, cond, List, [], ◌∷◌, ◌++◌, length, length-append, get_or, map, filter, fold, Option, None, Some, refl, sym, ◌∙◌, ap, subst, arith, if◌then◌else◌}
 use Rattle.std.specs.Prelude.{All, AllPairs}
 use Rattle.std.specs.Str.{bytes_eq}
 use Rattle.std.proofs.lemmas.List.{get_or-map, length-map}
@@ -13,7 +13,7 @@ use Rattle.key_states.specs.States.{is_due}
 use Rattle.account_rows.specs.declared.entries.Entry.{Entry}
 use Rattle.account_rows.specs.declared.entries.What.{What}
 use Rattle.account_rows.specs.declared.entries.What.TheVariants as what
-use Rattle.account_rows.specs.Changes.{with_stored, with_period, with_version, with_policy, with_description, new_key, changed, rotated, rotated_if_due, next_date, is_gone, house_kept, keys_after, days_after}
+use Rattle.account_rows.specs.Changes.{KeyChange, makes, changes, houses, key_change, keys_by, with_version, new_key, changed, rotated, rotated_if_due, next_date, is_gone, house_kept, keys_after}
 use Rattle.account_rows.specs.History.{State, step, nothing_yet, replay, latest_of, key_with, place_in, IsMadeHere, IsRowOf, AreRows}
 use Rattle.account_rows.specs.Sizes.{size_of, bytes_in}
 
@@ -96,51 +96,75 @@ house_rows time n rows are =
       each = All-filter (λ row. not (is_gone time row)) (IsRowOf n) rows are.each;
     })
 
+-- ---- what a change of keys keeps
+
+-- a change makes of each row one that follows it
+abbrev FollowsBy : Option KeyChange → Type 0
+FollowsBy None = Unit {0}
+FollowsBy (Some (makes row)) = Unit {0}
+FollowsBy (Some (changes key f)) = (row : KeyRow) → Follows row (f row)
+FollowsBy (Some (houses time)) = Unit {0}
+
+follows_by : (n time : ℕ) (w : What) → FollowsBy (key_change n time w)
+follows_by n time (what.Enable key) = λ row. alike _ row refl refl refl refl
+follows_by n time (what.Disable key) = λ row. alike _ row refl refl refl refl
+follows_by n time (what.Schedule key date days) = λ row. alike _ row refl refl refl refl
+follows_by n time (what.Cancel key) = λ row. alike _ row refl refl refl refl
+follows_by n time (what.RotationOn key period) = λ row. alike _ row refl refl refl refl
+follows_by n time (what.RotationOff key) = λ row. alike _ row refl refl refl refl
+follows_by n time (what.RotateNow key) = λ row. versioned time true row.next row
+follows_by n time (what.Policy key text) = λ row. alike _ row refl refl refl refl
+follows_by n time (what.Description key text) = λ row. alike _ row refl refl refl refl
+follows_by n time _ = tt
+
+-- a key that is made has P, and what becomes of a row that has P has it too
+module _ (P : KeyRow → Type 0) where
+  abbrev pub KeepsBy : Option KeyChange → Type 0
+  KeepsBy None = Unit {0}
+  KeepsBy (Some (makes row)) = P row
+  KeepsBy (Some (changes key f)) = (row : KeyRow) → P row → P (f row)
+  KeepsBy (Some (houses time)) = (row : KeyRow) → P row → P (rotated_if_due time row)
+
+  chosen : (b : Bool) (row new : KeyRow) → P row → P new → P (if b then new else row)
+  chosen true row new old is = is
+  chosen false row new old is = old
+
+  pub all_by : (by : Option KeyChange) (rows : List KeyRow) → KeepsBy by → All P rows → All P (keys_by by rows)
+  all_by None rows keeps all = all
+  all_by (Some (makes row)) rows keeps all = All-push P rows row all keeps
+  all_by (Some (changes key f)) rows keeps all =
+      All-map P (λ row. if bytes_eq row.key key then f row else row) rows
+      (λ k d lt. chosen (bytes_eq (get_or rows k d).key key) (get_or rows k d) (f (get_or rows k d)) (all k d lt) (keeps (get_or rows k d) (all k d lt)))
+  all_by (Some (houses time)) rows keeps all =
+      let kept = filter (λ row. not (is_gone time row)) rows in
+      All-map P (rotated_if_due time) kept (λ k d lt. keeps (get_or kept k d) (All-filter (λ row. not (is_gone time row)) P rows all k d lt))
+
 -- ---- what holds of every row
 
 -- a key that an entry makes is such a row
 abbrev pub IsNew : (KeyRow → Type 0) → ℕ → ℕ → What → Type 0
 IsNew P place time (what.CreateKey key description policy) = P (new_key place time key description policy)
-IsNew P place time (what.Enable key) = Unit {0}
-IsNew P place time (what.Disable key) = Unit {0}
-IsNew P place time (what.Schedule key date days) = Unit {0}
-IsNew P place time (what.Cancel key) = Unit {0}
-IsNew P place time (what.RotationOn key period) = Unit {0}
-IsNew P place time (what.RotationOff key) = Unit {0}
-IsNew P place time (what.RotateNow key) = Unit {0}
-IsNew P place time (what.Policy key text) = Unit {0}
-IsNew P place time (what.Description key text) = Unit {0}
-IsNew P place time (what.AliasPut name key) = Unit {0}
-IsNew P place time (what.AliasDrop name) = Unit {0}
-IsNew P place time (what.GrantAdd grant key grantee retiring operations constraint name) = Unit {0}
-IsNew P place time (what.GrantDrop grant) = Unit {0}
-IsNew P place time what.House = Unit {0}
+IsNew P place time _ = Unit {0}
 
 module _ (P : KeyRow → Type 0) (keeps : (row new : KeyRow) → Follows row new → P row → P new) where
-  all_map : (f : KeyRow → KeyRow) → ((row : KeyRow) → Follows row (f row)) → (rows : List KeyRow) → All P rows → All P (map f rows)
-  all_map f follows rows all = All-map P f rows (λ k d lt. keeps (get_or rows k d) (f (get_or rows k d)) (follows (get_or rows k d)) (all k d lt))
+  abbrev NewBy : Option KeyChange → Type 0
+  NewBy None = Unit {0}
+  NewBy (Some (makes row)) = P row
+  NewBy (Some (changes key f)) = Unit {0}
+  NewBy (Some (houses time)) = Unit {0}
 
-  all_changed : (key : List ℕ) (change : KeyRow → KeyRow) → ((row : KeyRow) → Follows row (change row)) → (rows : List KeyRow) → All P rows → All P (changed key change rows)
-  all_changed key change follows rows all =
-      all_map (λ row. if bytes_eq row.key key then change row else row) (λ row. choose (bytes_eq row.key key) row (change row) (follows row)) rows all
+  new_by : (n time : ℕ) (w : What) → IsNew P n time w → NewBy (key_change n time w)
+  new_by n time (what.CreateKey key description policy) new = new
+  new_by n time _ new = tt
+
+  keeps_by : (by : Option KeyChange) → FollowsBy by → NewBy by → KeepsBy P by
+  keeps_by None follows new = tt
+  keeps_by (Some (makes row)) follows new = new
+  keeps_by (Some (changes key f)) follows new = λ row. keeps row (f row) (follows row)
+  keeps_by (Some (houses time)) follows new = λ row. keeps row (rotated_if_due time row) (due_follows time row)
 
   pub all_after : (n time : ℕ) (w : What) (rows : List KeyRow) → IsNew P n time w → All P rows → All P (keys_after n time w rows)
-  all_after n time (what.CreateKey key description policy) rows new all = All-push P rows (new_key n time key description policy) all new
-  all_after n time (what.Enable key) rows new all = all_changed key _ (λ row. alike _ row refl refl refl refl) rows all
-  all_after n time (what.Disable key) rows new all = all_changed key _ (λ row. alike _ row refl refl refl refl) rows all
-  all_after n time (what.Schedule key date days) rows new all = all_changed key _ (λ row. alike _ row refl refl refl refl) rows all
-  all_after n time (what.Cancel key) rows new all = all_changed key _ (λ row. alike _ row refl refl refl refl) rows all
-  all_after n time (what.RotationOn key period) rows new all = all_changed key _ (λ row. alike _ row refl refl refl refl) rows all
-  all_after n time (what.RotationOff key) rows new all = all_changed key _ (λ row. alike _ row refl refl refl refl) rows all
-  all_after n time (what.RotateNow key) rows new all = all_changed key _ (λ row. versioned time true row.next row) rows all
-  all_after n time (what.Policy key text) rows new all = all_changed key _ (λ row. alike _ row refl refl refl refl) rows all
-  all_after n time (what.Description key text) rows new all = all_changed key _ (λ row. alike _ row refl refl refl refl) rows all
-  all_after n time (what.AliasPut name key) rows new all = all
-  all_after n time (what.AliasDrop name) rows new all = all
-  all_after n time (what.GrantAdd grant key grantee retiring operations constraint name) rows new all = all
-  all_after n time (what.GrantDrop grant) rows new all = all
-  all_after n time what.House rows new all =
-      all_map (rotated_if_due time) (due_follows time) (filter (λ row. not (is_gone time row)) rows) (All-filter (λ row. not (is_gone time row)) P rows all)
+  all_after n time w rows new all = all_by P (key_change n time w) rows (keeps_by (key_change n time w) (follows_by n time w) (new_by n time w new)) all
 
 -- what holds of all rows holds of the one that is found
 pub found_all : (P : KeyRow → Type 0) (rows : List KeyRow) (id : List ℕ) (row : KeyRow) → key_with rows id ≡ Some row → All P rows → P row
@@ -173,23 +197,26 @@ new_rows time n key description policy rows here are = record {
 later_rows : (n : ℕ) (rows : List KeyRow) → AreRows n rows → AreRows (n + 1) rows
 later_rows n rows are = record { rise = are.rise; each = All-weaker (IsRowOf n) (IsRowOf (n + 1)) (later_row n) rows are.each }
 
+-- a key that is made has an id that ends with the place, and was made there
+abbrev MadeBy : ℕ → Option KeyChange → Type 0
+MadeBy n None = Unit {0}
+MadeBy n (Some (makes row)) = (time : ℕ) × (key : List ℕ) × (description : List ℕ) × (policy : List ℕ) × (row ≡ new_key n time key description policy) × (place_in key ≡ n)
+MadeBy n (Some (changes key f)) = Unit {0}
+MadeBy n (Some (houses time)) = Unit {0}
+
+made_by : (n time : ℕ) (w : What) → IsMadeHere n w → MadeBy n (key_change n time w)
+made_by n time (what.CreateKey key description policy) here = (time, key, description, policy, refl, here)
+made_by n time _ here = tt
+
+rows_by : (n : ℕ) (by : Option KeyChange) (rows : List KeyRow) → FollowsBy by → MadeBy n by → AreRows n rows → AreRows (n + 1) (keys_by by rows)
+rows_by n None rows follows made are = later_rows n rows are
+rows_by n (Some (makes row)) rows follows made are = subst (λ (r : KeyRow). AreRows (n + 1) (rows ++ r ∷ [])) (sym made.4) (new_rows made.0 n made.1 made.2 made.3 rows made.5 are)
+rows_by n (Some (changes key f)) rows follows made are = changed_rows key f follows n rows are
+rows_by n (Some (houses time)) rows follows made are = house_rows time n rows are
+
 -- one entry more
 pub rows_after : (n time : ℕ) (w : What) (rows : List KeyRow) → IsMadeHere n w → AreRows n rows → AreRows (n + 1) (keys_after n time w rows)
-rows_after n time (what.CreateKey key description policy) rows here are = new_rows time n key description policy rows here are
-rows_after n time (what.Enable key) rows here are = changed_rows key _ (λ row. alike _ row refl refl refl refl) n rows are
-rows_after n time (what.Disable key) rows here are = changed_rows key _ (λ row. alike _ row refl refl refl refl) n rows are
-rows_after n time (what.Schedule key date days) rows here are = changed_rows key _ (λ row. alike _ row refl refl refl refl) n rows are
-rows_after n time (what.Cancel key) rows here are = changed_rows key _ (λ row. alike _ row refl refl refl refl) n rows are
-rows_after n time (what.RotationOn key period) rows here are = changed_rows key _ (λ row. alike _ row refl refl refl refl) n rows are
-rows_after n time (what.RotationOff key) rows here are = changed_rows key _ (λ row. alike _ row refl refl refl refl) n rows are
-rows_after n time (what.RotateNow key) rows here are = changed_rows key _ (λ row. versioned time true row.next row) n rows are
-rows_after n time (what.Policy key text) rows here are = changed_rows key _ (λ row. alike _ row refl refl refl refl) n rows are
-rows_after n time (what.Description key text) rows here are = changed_rows key _ (λ row. alike _ row refl refl refl refl) n rows are
-rows_after n time (what.AliasPut name key) rows here are = later_rows n rows are
-rows_after n time (what.AliasDrop name) rows here are = later_rows n rows are
-rows_after n time (what.GrantAdd grant key grantee retiring operations constraint name) rows here are = later_rows n rows are
-rows_after n time (what.GrantDrop grant) rows here are = later_rows n rows are
-rows_after n time what.House rows here are = house_rows time n rows are
+rows_after n time w rows here are = rows_by n (key_change n time w) rows (follows_by n time w) (made_by n time w here) are
 
 pub no_rows : (n : ℕ) (rows : List KeyRow) → rows ≡ [] → AreRows n rows
 no_rows n rows none = record { rise = λ i j d before within. absurd (omega (arith, within, ap length none)); each = λ k d lt. absurd (omega (arith, lt, ap length none)) }

@@ -36,20 +36,7 @@ module _ (versions : ℕ) (id : List ℕ) where
 
   new_at : (n time : ℕ) (w : What) → IsMadeHere n w → place_in id < n → IsNew (λ (row : KeyRow). row.key ≡ id → versions ≤ length row.versions) n time w
   new_at n time (what.CreateKey key description policy) here before = λ is. absurd (omega (arith, ap place_in is, here, before))
-  new_at n time (what.Enable key) here before = tt
-  new_at n time (what.Disable key) here before = tt
-  new_at n time (what.Schedule key date days) here before = tt
-  new_at n time (what.Cancel key) here before = tt
-  new_at n time (what.RotationOn key period) here before = tt
-  new_at n time (what.RotationOff key) here before = tt
-  new_at n time (what.RotateNow key) here before = tt
-  new_at n time (what.Policy key text) here before = tt
-  new_at n time (what.Description key text) here before = tt
-  new_at n time (what.AliasPut name key) here before = tt
-  new_at n time (what.AliasDrop name) here before = tt
-  new_at n time (what.GrantAdd grant key grantee retiring operations constraint name) here before = tt
-  new_at n time (what.GrantDrop grant) here before = tt
-  new_at n time what.House here before = tt
+  new_at n time _ here before = tt
 
   least_from : (state : State) (more : List Entry) → AreMadeFrom state.entries more → place_in id < state.entries → AtLeast versions id state.keys → AtLeast versions id (fold step state more).keys
   least_from state [] made before least = least

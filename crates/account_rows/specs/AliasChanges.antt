@@ -4,7 +4,7 @@ use Rattle.key_states.specs.declared.rows.KeyRow.{KeyRow}
 use Rattle.alias_map.specs.declared.rows.AliasRow.{AliasRow}
 use Rattle.alias_map.specs.Aliases.{row_named, with_row, without, without_keys}
 use Rattle.account_rows.specs.declared.entries.What.{What}
-use Rattle.account_rows.specs.declared.entries.What.TheVariants.{CreateKey, Enable, Disable, Schedule, Cancel, RotationOn, RotationOff, RotateNow, Policy, Description, AliasPut, AliasDrop, GrantAdd, GrantDrop, House}
+use Rattle.account_rows.specs.declared.entries.What.TheVariants.{AliasPut, AliasDrop, House}
 use Rattle.account_rows.specs.Changes.{gone_keys}
 
 -- an alias that is put: made here and now where none has its name, and as old as that one otherwise
@@ -16,21 +16,26 @@ put_row place time name key (Some old) = record { name = name; born = old.born; 
 abbrev pub with_alias : ℕ → ℕ → List ℕ → List ℕ → List AliasRow → List AliasRow
 with_alias place time name key aliases = with_row aliases (put_row place time name key (row_named aliases name))
 
--- what an entry at this place and time does to the aliases of an account with these keys: housekeeping removes those of
--- the keys that are gone
+-- what is done to the aliases: one is put, the one of a name is dropped, or housekeeping at a time
+pub data AliasChange : Type 0 where
+  puts : List ℕ → List ℕ → AliasChange
+  drops : List ℕ → AliasChange
+  houses : AliasChange
+
+-- what an entry does to the aliases, where it touches them
+abbrev pub alias_change : What → Option AliasChange
+alias_change (AliasPut name key) = Some (puts name key)
+alias_change (AliasDrop name) = Some (drops name)
+alias_change House = Some houses
+alias_change _ = None
+
+-- housekeeping removes the aliases of the keys that are gone
+abbrev pub aliases_by : ℕ → ℕ → List KeyRow → Option AliasChange → List AliasRow → List AliasRow
+aliases_by place time keys None aliases = aliases
+aliases_by place time keys (Some (puts name key)) aliases = with_alias place time name key aliases
+aliases_by place time keys (Some (drops name)) aliases = without aliases name
+aliases_by place time keys (Some houses) aliases = without_keys aliases (gone_keys time keys)
+
+-- the aliases of an account with these keys behind an entry at this place and time
 abbrev pub aliases_after : ℕ → ℕ → What → List KeyRow → List AliasRow → List AliasRow
-aliases_after place time (CreateKey key description policy) keys aliases = aliases
-aliases_after place time (Enable key) keys aliases = aliases
-aliases_after place time (Disable key) keys aliases = aliases
-aliases_after place time (Schedule key date days) keys aliases = aliases
-aliases_after place time (Cancel key) keys aliases = aliases
-aliases_after place time (RotationOn key period) keys aliases = aliases
-aliases_after place time (RotationOff key) keys aliases = aliases
-aliases_after place time (RotateNow key) keys aliases = aliases
-aliases_after place time (Policy key text) keys aliases = aliases
-aliases_after place time (Description key text) keys aliases = aliases
-aliases_after place time (AliasPut name key) keys aliases = with_alias place time name key aliases
-aliases_after place time (AliasDrop name) keys aliases = without aliases name
-aliases_after place time (GrantAdd grant key grantee retiring operations constraint name) keys aliases = aliases
-aliases_after place time (GrantDrop grant) keys aliases = aliases
-aliases_after place time House keys aliases = without_keys aliases (gone_keys time keys)
+aliases_after place time what keys aliases = aliases_by place time keys (alias_change what) aliases

@@ -11,7 +11,7 @@ use Rattle.key_states.specs.declared.states.Stored.TheVariants.{Enabled, Disable
 use Rattle.key_states.specs.declared.versions.Version.{Version}
 use Rattle.key_states.specs.States.{state_of, is_due}
 use Rattle.account_rows.specs.declared.entries.What.{What}
-use Rattle.account_rows.specs.declared.entries.What.TheVariants.{CreateKey, Enable, Disable, Schedule, Cancel, RotationOn, RotationOff, RotateNow, Policy, Description, AliasPut, AliasDrop, GrantAdd, GrantDrop, House}
+use Rattle.account_rows.specs.declared.entries.What.TheVariants.{CreateKey, Enable, Disable, Schedule, Cancel, RotationOn, RotationOff, RotateNow, Policy, Description, House}
 
 -- ---- one row
 
@@ -36,73 +36,22 @@ new_key place time key description policy = record {
 }
 
 abbrev pub with_policy : List ℕ → KeyRow → KeyRow
-with_policy text row = record {
-  key = row.key;
-  born = row.born;
-  made = row.made;
-  description = row.description;
-  policy = text;
-  stored = row.stored;
-  versions = row.versions;
-  period = row.period;
-  next = row.next;
-  on_demand = row.on_demand;
-}
+with_policy text row = record row { policy = text }
 
 abbrev pub with_description : List ℕ → KeyRow → KeyRow
-with_description text row = record {
-  key = row.key;
-  born = row.born;
-  made = row.made;
-  description = text;
-  policy = row.policy;
-  stored = row.stored;
-  versions = row.versions;
-  period = row.period;
-  next = row.next;
-  on_demand = row.on_demand;
-}
+with_description text row = record row { description = text }
 
 abbrev pub with_stored : Stored → KeyRow → KeyRow
-with_stored stored row = record {
-  key = row.key;
-  born = row.born;
-  made = row.made;
-  description = row.description;
-  policy = row.policy;
-  stored = stored;
-  versions = row.versions;
-  period = row.period;
-  next = row.next;
-  on_demand = row.on_demand;
-}
+with_stored stored row = record row { stored = stored }
 
 -- another period of automatic rotation, and the next date
 abbrev pub with_period : Option ℕ → ℕ → KeyRow → KeyRow
-with_period period next row = record {
-  key = row.key;
-  born = row.born;
-  made = row.made;
-  description = row.description;
-  policy = row.policy;
-  stored = row.stored;
-  versions = row.versions;
-  period = period;
-  next = next;
-  on_demand = row.on_demand;
-}
+with_period period next row = record row { period = period; next = next }
 
 -- one version more, which is on demand or not, and the next date
 abbrev pub with_version : ℕ → Bool → ℕ → KeyRow → KeyRow
-with_version time on_demand next row = record {
-  key = row.key;
-  born = row.born;
-  made = row.made;
-  description = row.description;
-  policy = row.policy;
-  stored = row.stored;
+with_version time on_demand next row = record row {
   versions = row.versions ++ record { time = time; on_demand = on_demand } ∷ [];
-  period = row.period;
   next = next;
   on_demand = if on_demand then row.on_demand + 1 else row.on_demand;
 }
@@ -144,23 +93,36 @@ rotated_if_due time row = if is_due row time then rotated time row else row
 abbrev pub house_kept : ℕ → List KeyRow → List KeyRow
 house_kept time keys = map (rotated_if_due time) (filter (λ row. not (is_gone time row)) keys)
 
--- what an entry at this place and time does to the keys
+-- what is done to the keys: one is made, the one of an id is changed, or housekeeping at a time
+pub data KeyChange : Type 0 where
+  makes : KeyRow → KeyChange
+  changes : List ℕ → (KeyRow → KeyRow) → KeyChange
+  houses : ℕ → KeyChange
+
+-- what an entry at this place and time does to the keys, where it touches them
+abbrev pub key_change : ℕ → ℕ → What → Option KeyChange
+key_change place time (CreateKey key description policy) = Some (makes (new_key place time key description policy))
+key_change place time (Enable key) = Some (changes key (with_stored Enabled))
+key_change place time (Disable key) = Some (changes key (with_stored Disabled))
+key_change place time (Schedule key date days) = Some (changes key (with_stored (Pending date days)))
+key_change place time (Cancel key) = Some (changes key (with_stored Disabled))
+key_change place time (RotationOn key period) = Some (changes key (with_period (Some period) (days_after time period)))
+key_change place time (RotationOff key) = Some (changes key (λ row. with_period None row.next row))
+key_change place time (RotateNow key) = Some (changes key (λ row. with_version time true row.next row))
+key_change place time (Policy key text) = Some (changes key (with_policy text))
+key_change place time (Description key text) = Some (changes key (with_description text))
+key_change place time House = Some (houses time)
+key_change place time _ = None
+
+abbrev pub keys_by : Option KeyChange → List KeyRow → List KeyRow
+keys_by None keys = keys
+keys_by (Some (makes row)) keys = keys ++ row ∷ []
+keys_by (Some (changes key f)) keys = changed key f keys
+keys_by (Some (houses time)) keys = house_kept time keys
+
+-- the keys behind an entry at this place and time
 abbrev pub keys_after : ℕ → ℕ → What → List KeyRow → List KeyRow
-keys_after place time (CreateKey key description policy) keys = keys ++ new_key place time key description policy ∷ []
-keys_after place time (Enable key) keys = changed key (with_stored Enabled) keys
-keys_after place time (Disable key) keys = changed key (with_stored Disabled) keys
-keys_after place time (Schedule key date days) keys = changed key (with_stored (Pending date days)) keys
-keys_after place time (Cancel key) keys = changed key (with_stored Disabled) keys
-keys_after place time (RotationOn key period) keys = changed key (with_period (Some period) (days_after time period)) keys
-keys_after place time (RotationOff key) keys = changed key (λ row. with_period None row.next row) keys
-keys_after place time (RotateNow key) keys = changed key (λ row. with_version time true row.next row) keys
-keys_after place time (Policy key text) keys = changed key (with_policy text) keys
-keys_after place time (Description key text) keys = changed key (with_description text) keys
-keys_after place time (AliasPut name alias) keys = keys
-keys_after place time (AliasDrop name) keys = keys
-keys_after place time (GrantAdd grant key grantee retiring operations constraint name) keys = keys
-keys_after place time (GrantDrop grant) keys = keys
-keys_after place time House keys = house_kept time keys
+keys_after place time what keys = keys_by (key_change place time what) keys
 
 -- the ids of the keys that are gone
 abbrev pub gone_keys : ℕ → List KeyRow → List (List ℕ)

@@ -1,5 +1,6 @@
 -- The history of an account, and the rows that its replay makes.
 use Rattle.std.specs.Prelude.{◌≡◌, ℕ, ◌+◌, ◌≤◌, ◌<◌, List, [], ◌∷◌, ◌++◌, length, drop, max, fold, find, Bool, ◌&&◌, nat_lt, nat_le, Option, Some, None, if◌then◌else◌, All, AllPairs}
+use Rattle.kms_names.specs.Moment.{year_10000}
 use Rattle.std.specs.Int.{from_be_bytes, w64}
 use Rattle.std.specs.Str.{bytes_eq}
 use Rattle.kms_names.specs.Place.{is_behind}
@@ -8,7 +9,7 @@ use Rattle.alias_map.specs.declared.rows.AliasRow.{AliasRow}
 use Rattle.grant_table.specs.declared.rows.GrantRow.{GrantRow}
 use Rattle.account_rows.specs.declared.entries.Entry.{Entry}
 use Rattle.account_rows.specs.declared.entries.What.{What}
-use Rattle.account_rows.specs.declared.entries.What.TheVariants.{CreateKey, Enable, Disable, Schedule, Cancel, RotationOn, RotationOff, RotateNow, Policy, Description, AliasPut, AliasDrop, GrantAdd, GrantDrop, House}
+use Rattle.account_rows.specs.declared.entries.What.TheVariants.{CreateKey, GrantAdd, House}
 use Rattle.account_rows.specs.Sizes.{size_of, bytes_in}
 use Rattle.account_rows.specs.Changes.{keys_after, wants_house}
 use Rattle.account_rows.specs.AliasChanges.{aliases_after}
@@ -89,24 +90,12 @@ place_in_grant id = from_be_bytes w64 (0 ∷ 0 ∷ drop 26 id)
 -- a key or grant that an entry makes has an id that ends with the entry's place
 abbrev pub IsMadeHere : ℕ → What → Type 0
 IsMadeHere place (CreateKey key description policy) = place_in key ≡ place
-IsMadeHere place (Enable key) = Unit {0}
-IsMadeHere place (Disable key) = Unit {0}
-IsMadeHere place (Schedule key date days) = Unit {0}
-IsMadeHere place (Cancel key) = Unit {0}
-IsMadeHere place (RotationOn key period) = Unit {0}
-IsMadeHere place (RotationOff key) = Unit {0}
-IsMadeHere place (RotateNow key) = Unit {0}
-IsMadeHere place (Policy key text) = Unit {0}
-IsMadeHere place (Description key text) = Unit {0}
-IsMadeHere place (AliasPut name key) = Unit {0}
-IsMadeHere place (AliasDrop name) = Unit {0}
 IsMadeHere place (GrantAdd grant key grantee retiring operations constraint name) = place_in_grant grant ≡ place
-IsMadeHere place (GrantDrop grant) = Unit {0}
-IsMadeHere place House = Unit {0}
+IsMadeHere place _ = Unit {0}
 
 -- an entry may come behind a history: its time is before the year 10000, and there is room for it
 pub record IsFitting (history : List Entry) (entry : Entry) : Type 0 where
-  pub bound : entry.time < 253402300800
+  pub bound : entry.time < year_10000
   pub made : IsMadeHere (length history) entry.what
   pub few : length history < most_entries
   pub fits : bytes_in history + size_of entry.what ≤ most_bytes

@@ -7,7 +7,7 @@ use Rattle.grant_table.specs.declared.constraints.Constraint.{Constraint}
 use Rattle.grant_table.specs.declared.constraints.Constraint.TheVariants.{Free, Equals, Subset}
 use Rattle.account_rows.specs.declared.entries.Entry.{Entry}
 use Rattle.account_rows.specs.declared.entries.What.{What}
-use Rattle.account_rows.specs.declared.entries.What.TheVariants.{CreateKey, Enable, Disable, Schedule, Cancel, RotationOn, RotationOff, RotateNow, Policy, Description, AliasPut, AliasDrop, GrantAdd, GrantDrop, House}
+use Rattle.account_rows.specs.declared.entries.What.TheVariants.{CreateKey, Policy, Description, AliasPut, AliasDrop, GrantAdd}
 
 -- the bytes of a grant's name, where it has one
 abbrev pub name_size : Option (List ℕ) → ℕ
@@ -29,20 +29,12 @@ constraint_size (Subset pairs) = length (encoding_of pairs)
 -- printed ARNs of its grantee and retiring principal, and of the encoded context of its constraint
 abbrev pub size_of : What → ℕ
 size_of (CreateKey key description policy) = 64 + length description + length policy
-size_of (Enable key) = 64
-size_of (Disable key) = 64
-size_of (Schedule key date days) = 64
-size_of (Cancel key) = 64
-size_of (RotationOn key period) = 64
-size_of (RotationOff key) = 64
-size_of (RotateNow key) = 64
 size_of (Policy key text) = 64 + length text
 size_of (Description key text) = 64 + length text
 size_of (AliasPut name key) = 64 + length name
 size_of (AliasDrop name) = 64 + length name
 size_of (GrantAdd grant key grantee retiring operations constraint name) = 64 + name_size name + length (principal_text grantee) + retiring_size retiring + constraint_size constraint
-size_of (GrantDrop grant) = 64
-size_of House = 64
+size_of _ = 64
 
 -- those of a history
 abbrev pub bytes_in : List Entry → ℕ

@@ -1,6 +1,7 @@
 //! What entries do to the rows of keys.
 
 ghost use Rattle.std.specs.Prelude.{◌≡◌, ◌<◌, ◌++◌, ◌∷◌, [], IfOk, All, if◌then◌else◌};
+ghost use Rattle.kms_names.specs.Moment.{year_10000};
 ghost use Rattle.std.specs.Str.{bytes_eq};
 ghost use Rattle.account_rows.specs.Changes.{changed, days_after, is_gone, gone_keys, new_key, house_kept, keys_after, next_date, rotated_if_due, wants_house, with_version};
 ghost use Rattle.account_rows.specs.Replaying.{CanTurn, change_by};
@@ -34,7 +35,7 @@ pub fn same_key(key: &KeyId, other: &KeyId) -> bool
 
 /// Some days after a time, both in seconds since 1970. It takes no memory.
 pub fn days_after(time: u64, days: u32) -> u64
-    requires { time < 253402300800 }
+    requires { time < year_10000 }
     ensures { result ≡ days_after time days }
 {
     time + u64::from(days) * DAY
@@ -218,7 +219,7 @@ pub fn is_gone(row: &KeyRow, moment: u64) -> bool
 
 // The row, rotated where it is due.
 fn rotated_if_due(alloc: Global, held: &HeldKey, time: u64) -> Result<HeldKey, NoMemory>
-    requires time { time < 253402300800 }
+    requires time { time < year_10000 }
     requires turns { CanTurn held.now }
     ensures { IfOk result (λ row. row ≡ rotated_if_due time held.now) }
 {
@@ -235,7 +236,7 @@ fn rotated_if_due(alloc: Global, held: &HeldKey, time: u64) -> Result<HeldKey, N
 
 // The rows after housekeeping.
 fn house_kept(alloc: Global, keys: &[HeldKey], time: u64) -> Result<Vec<HeldKey>, NoMemory>
-    requires time { time < 253402300800 }
+    requires time { time < year_10000 }
     requires turns { All CanTurn keys.now }
     ensures { IfOk result (λ all. all.items ≡ house_kept time keys.now) }
 {
@@ -282,7 +283,7 @@ pub fn keys_after(
     entry: &Entry,
     default: &DefaultPolicy,
 ) -> Result<Vec<HeldKey>, NoMemory>
-    requires time { entry.now.time < 253402300800 }
+    requires time { entry.now.time < year_10000 }
     requires turns { All CanTurn keys.now }
     ensures { IfOk result (λ all. all.items ≡ keys_after place entry.now.time entry.now.what keys.now) }
 {

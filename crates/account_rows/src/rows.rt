@@ -15,7 +15,7 @@ use crate::held::{DefaultPolicy, HeldKey};
 use crate::replay::{keys_after, same_key, wants_house};
 use alias_map::AliasMap;
 use grant_table::GrantTable;
-use kms_names::{AccountNumber, KeyId, NoMemory};
+use kms_names::{AccountNumber, KeyId, NoMemory, is_behind};
 use std::alloc::Global;
 use std::marker::Model;
 
@@ -100,16 +100,6 @@ fn place_in(key: &KeyId) -> u64
     let mut bytes = [0; 8];
     bytes[2..].copy_from_slice(&key.as_bytes()[10..]);
     u64::from_be_bytes(bytes)
-}
-
-// Whether what was made at the second place is behind the first, where one is given.
-fn is_behind(after: Option<u64>, born: u64) -> bool
-    ensures { result ≡ is_behind after born }
-{
-    match after {
-        Some(place) => place < born,
-        None => true,
-    }
 }
 
 impl Rows {

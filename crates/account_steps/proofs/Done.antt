@@ -14,38 +14,13 @@ use Rattle.account_steps.proofs.Passing.{change_passed}
 -- a key or grant that it makes has the id of its place
 abbrev pub IsMadeAt : RealmFacts → ℕ → What → Type 0
 IsMadeAt facts place (what.CreateKey key description policy) = key ≡ key_id_at facts place
-IsMadeAt facts place (what.Enable key) = Unit {0}
-IsMadeAt facts place (what.Disable key) = Unit {0}
-IsMadeAt facts place (what.Schedule key date days) = Unit {0}
-IsMadeAt facts place (what.Cancel key) = Unit {0}
-IsMadeAt facts place (what.RotationOn key period) = Unit {0}
-IsMadeAt facts place (what.RotationOff key) = Unit {0}
-IsMadeAt facts place (what.RotateNow key) = Unit {0}
-IsMadeAt facts place (what.Policy key text) = Unit {0}
-IsMadeAt facts place (what.Description key text) = Unit {0}
-IsMadeAt facts place (what.AliasPut name key) = Unit {0}
-IsMadeAt facts place (what.AliasDrop name) = Unit {0}
 IsMadeAt facts place (what.GrantAdd grant key grantee retiring operations constraint name) = grant ≡ grant_id_at facts place
-IsMadeAt facts place (what.GrantDrop grant) = Unit {0}
-IsMadeAt facts place what.House = Unit {0}
+IsMadeAt facts place _ = Unit {0}
 
 -- a grant that it drops is there
 abbrev pub HoldsDropped : List GrantRow → What → Type 0
-HoldsDropped grants (what.CreateKey key description policy) = Unit {0}
-HoldsDropped grants (what.Enable key) = Unit {0}
-HoldsDropped grants (what.Disable key) = Unit {0}
-HoldsDropped grants (what.Schedule key date days) = Unit {0}
-HoldsDropped grants (what.Cancel key) = Unit {0}
-HoldsDropped grants (what.RotationOn key period) = Unit {0}
-HoldsDropped grants (what.RotationOff key) = Unit {0}
-HoldsDropped grants (what.RotateNow key) = Unit {0}
-HoldsDropped grants (what.Policy key text) = Unit {0}
-HoldsDropped grants (what.Description key text) = Unit {0}
-HoldsDropped grants (what.AliasPut name key) = Unit {0}
-HoldsDropped grants (what.AliasDrop name) = Unit {0}
-HoldsDropped grants (what.GrantAdd grant key grantee retiring operations constraint name) = Unit {0}
 HoldsDropped grants (what.GrantDrop grant) = (id : List ℕ) × (row : GrantRow) × (grant_with grants id ≡ Some row) × (row.grant ≡ grant)
-HoldsDropped grants what.House = Unit {0}
+HoldsDropped grants _ = Unit {0}
 
 -- a key or grant that it makes has the id of its place, a period that it gives has days, and a grant that it drops is there
 pub record IsDone (view : View) (did : What) : Type 0 where

@@ -1,11 +1,12 @@
 -- Whether the caller may do what a request asks (IAM User Guide, "Policy evaluation logic"; AWS KMS Developer Guide, "Key policies" and "Grants in AWS KMS").
-use Rattle.std.specs.Prelude.{◌≡◌, ◌⊎◌, ℕ, List, [], ◌∷◌, Bool, true, false, ◌&&◌, ◌||◌, IsTrue, Option, Some, None, is_some, Any}
+use Rattle.std.specs.Prelude.{◌≡◌, ◌==◌, ◌⊎◌, ℕ, find, List, [], ◌∷◌, Bool, true, false, ◌&&◌, ◌||◌, IsTrue, Option, Some, None, is_some, Any}
 use Rattle.enc_context.specs.declared.pairs.Pair.{Pair}
 use Rattle.kms_names.specs.declared.actions.Action.{Action}
 use Rattle.kms_names.specs.declared.actions.Action.TheVariants as action
 use Rattle.kms_names.specs.declared.operations.GrantOp.{GrantOp}
 use Rattle.kms_names.specs.declared.operations.GrantOp.TheVariants as op
-use Rattle.kms_names.specs.GrantOps.{contains}
+use Rattle.kms_names.specs.Action.{action_number}
+use Rattle.kms_names.specs.GrantOps.{contains, action_of as granted_action}
 use Rattle.kms_names.specs.declared.principals.Principal.{Principal}
 use Rattle.kms_json.specs.declared.refusals.Refusal.{Refusal}
 use Rattle.kms_json.specs.declared.refusals.Refusal.TheVariants as refusal
@@ -50,40 +51,14 @@ setting_of view = record {
 
 -- ---- grants
 
+-- the operations that a grant permits by actions of their names: all but RetireGrant, of which no policy and no grant of the key is asked
+abbrev pub granting : List GrantOp
+granting =
+    op.Encrypt ∷ op.Decrypt ∷ op.GenerateDataKey ∷ op.GenerateDataKeyWithoutPlaintext ∷ op.ReEncryptFrom ∷ op.ReEncryptTo ∷ op.CreateGrant ∷ op.DescribeKey ∷ []
+
 -- the operation that a grant permits by an action, if any
 abbrev pub grant_op_of : Action → Option GrantOp
-grant_op_of action.Encrypt = Some op.Encrypt
-grant_op_of action.Decrypt = Some op.Decrypt
-grant_op_of action.ReEncryptFrom = Some op.ReEncryptFrom
-grant_op_of action.ReEncryptTo = Some op.ReEncryptTo
-grant_op_of action.GenerateDataKey = Some op.GenerateDataKey
-grant_op_of action.GenerateDataKeyWithoutPlaintext = Some op.GenerateDataKeyWithoutPlaintext
-grant_op_of action.DescribeKey = Some op.DescribeKey
-grant_op_of action.CreateGrant = Some op.CreateGrant
-grant_op_of action.RetireGrant = None
-grant_op_of action.CreateKey = None
-grant_op_of action.ListKeys = None
-grant_op_of action.EnableKey = None
-grant_op_of action.DisableKey = None
-grant_op_of action.ScheduleKeyDeletion = None
-grant_op_of action.CancelKeyDeletion = None
-grant_op_of action.EnableKeyRotation = None
-grant_op_of action.DisableKeyRotation = None
-grant_op_of action.GetKeyRotationStatus = None
-grant_op_of action.RotateKeyOnDemand = None
-grant_op_of action.ListKeyRotations = None
-grant_op_of action.PutKeyPolicy = None
-grant_op_of action.GetKeyPolicy = None
-grant_op_of action.ListKeyPolicies = None
-grant_op_of action.UpdateKeyDescription = None
-grant_op_of action.CreateAlias = None
-grant_op_of action.UpdateAlias = None
-grant_op_of action.DeleteAlias = None
-grant_op_of action.ListAliases = None
-grant_op_of action.ListGrants = None
-grant_op_of action.ListRetirableGrants = None
-grant_op_of action.RevokeGrant = None
-grant_op_of action.GenerateRandom = None
+grant_op_of a = find (λ o. action_number (granted_action o) == action_number a) granting
 
 -- some grant of the key permits the caller an operation under its encryption context, or CreateGrant of such a grant
 abbrev pub granted_op : View → List ℕ → Particulars → Option GrantSaid → Option GrantOp → Bool

@@ -137,20 +137,10 @@ grants_full view key =
 -- what an entry would add to
 abbrev pub full : View → What → Option Refusal
 full view (what.CreateKey key description policy) = keys_full (length view.keys)
-full view (what.Enable key) = None
-full view (what.Disable key) = None
-full view (what.Schedule key date days) = None
-full view (what.Cancel key) = None
-full view (what.RotationOn key period) = None
-full view (what.RotationOff key) = None
 full view (what.RotateNow key) = rotations_full (key_with view.keys key)
-full view (what.Policy key text) = None
-full view (what.Description key text) = None
 full view (what.AliasPut name key) = aliases_full view name
-full view (what.AliasDrop name) = None
 full view (what.GrantAdd grant key grantee retiring operations constraint name) = grants_full view key
-full view (what.GrantDrop grant) = None
-full view what.House = None
+full view _ = None
 
 -- there are 1,000,000 entries
 abbrev pub entries_full : ℕ → Option Refusal

@@ -38,7 +38,7 @@ const GRANTS: usize = 50_000;
 const ALIASES: usize = 10_000;
 
 /// What an operation says of the steps of a decision.
-pub trait Operation {
+pub trait Request {
     /// What its references name.
     type Found: Drop;
 
@@ -79,7 +79,7 @@ pub trait Operation {
 }
 
 /// An operation that doesn't change the account.
-pub trait Reads: Operation {
+pub trait Reads: Request {
     ghost takes: { Self → TakenUses };
 
     /// What it takes of the pass where it is served.
@@ -112,7 +112,7 @@ pub struct Made {
 }
 
 /// An operation that changes the account.
-pub trait Changes: Operation {
+pub trait Changes: Request {
     ghost does: { Self → Self.Found → Self.Ready → Option DoneWhat };
 
     /// Its reply and what it does, where all steps but the limits have passed.
@@ -262,7 +262,7 @@ fn limited(view: &View<'_>, what: &Option<What>) -> Option<Refusal>
 }
 
 // The steps up to an operation's own refusals.
-fn clear<O: Operation>(alloc: Global, operation: &O) -> Result<(O::Found, O::Ready), Stop>
+fn clear<O: Request>(alloc: Global, operation: &O) -> Result<(O::Found, O::Ready), Stop>
     ensures { Gives (cleared (O.seen operation.now) (O.parts operation.now)) result }
 {
     let found = operation.find(alloc)?;
@@ -286,7 +286,7 @@ pub fn read<O: Reads>(alloc: Global, operation: &O, line: &mut DrawLine) -> Resu
 }
 
 // The limits of what is done, and then DryRun.
-fn pass<O: Operation>(operation: &O, what: &Option<What>) -> Result<(), Stop>
+fn pass<O: Request>(operation: &O, what: &Option<What>) -> Result<(), Stop>
     ensures { Passes (or_else (limited (O.seen operation.now) what.now) (only_asked (O.parts operation.now).dry_run)) result }
 {
     refuse(limited(operation.view(), what))?;
@@ -294,7 +294,7 @@ fn pass<O: Operation>(operation: &O, what: &Option<What>) -> Result<(), Stop>
 }
 
 // What was made, where the limits and DryRun let it pass.
-fn let_pass<O: Operation>(operation: &O, made: Made) -> Result<Made, Stop>
+fn let_pass<O: Request>(operation: &O, made: Made) -> Result<Made, Stop>
     ensures { Makes (unless (or_else (limited (O.seen operation.now) made.what) (only_asked (O.parts operation.now).dry_run)) (Ok (record { reply = made.reply; effect = made.what }))) result }
 {
     match pass(operation, &made.what) {

@@ -1,5 +1,6 @@
 // What every step of a decision goes by.
 ghost use Rattle.std.specs.Prelude.{◌≡◌, [], IfOk};
+ghost use Rattle.kms_names.specs.Moment.{year_10000};
 ghost use Rattle.account_steps.specs.Parts.{told_state};
 ghost use Rattle.account_steps.specs.Authority.{grant_op_of, may_retire};
 ghost use Rattle.key_states.specs.Permissions.{refusal_of, need_of};
@@ -55,7 +56,7 @@ impl<'a> Model for View<'a> {
 
     ghost invariant = { λ v. record {
       policies : v.policies.now ≡ callers_policies v.facts.now.identities v.caller.now;
-      moment : v.moment < 253402300800;
+      moment : v.moment < year_10000;
     } };
 }
 
@@ -81,7 +82,7 @@ impl<'a> View<'a> {
         places: Places,
     ) -> View<'a>
         requires policies { policies.now ≡ callers_policies facts.now.identities caller.now }
-        requires moment { moment < 253402300800 }
+        requires moment { moment < year_10000 }
         ensures { result ≡ record { facts = facts.now; keys = (replay rows.now).keys; aliases = (replay rows.now).aliases; grants = (replay rows.now).grants; place = length rows.now; bytes = bytes_in rows.now; moment = moment; caller = caller.now; places = places } }
     {
         View {
@@ -209,7 +210,7 @@ impl<'a> View<'a> {
     /// The moment, in seconds since 1970: before the year 10000.
     pub fn moment(&self) -> u64
         ensures moment { result ≡ self.now.moment }
-        ensures bound { result < 253402300800 }
+        ensures bound { result < year_10000 }
     {
         self.moment
     }
@@ -267,7 +268,7 @@ impl<'a> View<'a> {
         }
         let permitting = match said.context {
             Some(context) => grants.permitting(key, self.caller, op, context),
-            None => grants.permitting(key, self.caller, op, &no_pairs(alloc)?),
+            None => grants.permitting(key, self.caller, op, &Context::new(alloc)),
         };
         Ok(permitting.is_some())
     }
@@ -398,16 +399,6 @@ fn grant_op_of(action: Action) -> Option<GrantOp>
         Action::DescribeKey => Some(GrantOp::DescribeKey),
         Action::CreateGrant => Some(GrantOp::CreateGrant),
         _ => None,
-    }
-}
-
-// The encryption context without pairs.
-fn no_pairs(alloc: Global) -> Result<Context, NoMemory>
-    ensures { IfOk result (λ context. context ≡ []) }
-{
-    match Context::from_pairs(alloc, Vec::new(alloc)) {
-        Ok(context) => Ok(context),
-        Err(_) => Err(NoMemory),
     }
 }
 

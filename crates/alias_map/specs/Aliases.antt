@@ -11,21 +11,17 @@ has_name name row = bytes_eq row.name name
 abbrev pub names_key : List ℕ → AliasRow → Bool
 names_key key row = bytes_eq row.key key
 
--- the alias was made behind the place; every one was where none is given
-abbrev pub is_after : Option ℕ → AliasRow → Bool
-is_after after row = is_behind after row.born
-
 -- the first alias of a name
 abbrev pub row_named : List AliasRow → List ℕ → Option AliasRow
 row_named rows name = find (has_name name) rows
 
 -- the first that was made behind a place
 abbrev pub row_after : List AliasRow → Option ℕ → Option AliasRow
-row_after rows after = find (is_after after) rows
+row_after rows after = find (λ (row : AliasRow). is_behind after row.born) rows
 
 -- the first of a key that was made behind a place
 abbrev pub row_of_key : List AliasRow → List ℕ → Option ℕ → Option AliasRow
-row_of_key rows key after = find (λ row. names_key key row && is_after after row) rows
+row_of_key rows key after = find (λ row. names_key key row && is_behind after row.born) rows
 
 -- a row in the place of the first of its name, or behind all where none has it
 abbrev pub with_row : List AliasRow → AliasRow → List AliasRow

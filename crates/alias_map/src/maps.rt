@@ -1,12 +1,13 @@
 //! The aliases of an account.
 
 ghost use Rattle.std.specs.Prelude.{◌≡◌, find, position, IfOk};
+ghost use Rattle.kms_names.specs.Place.{is_behind};
 ghost use Rattle.std.specs.Option.{option_map};
 ghost use Rattle.alias_map.specs.Aliases.{has_name, names_key, with_row};
 ghost use Rattle.alias_map.specs.Index.{AreByName};
 
 use crate::rows::AliasRow;
-use kms_names::{AliasName, KeyId, NoMemory};
+use kms_names::{AliasName, KeyId, NoMemory, is_behind};
 use std::alloc::Global;
 use std::marker::Model;
 
@@ -83,7 +84,7 @@ fn placed(
 impl AliasMap {
     ghost use Rattle.std.specs.Prelude.{◌≡◌, [], length, filter, position, IfOk};
     ghost use Rattle.std.specs.Option.{option_map};
-    ghost use Rattle.alias_map.specs.Aliases.{has_name, is_after, row_named, row_after, row_of_key, with_row, without, without_keys, MayPut, IsThere, AreAliases};
+    ghost use Rattle.alias_map.specs.Aliases.{has_name, row_named, row_after, row_of_key, with_row, without, without_keys, MayPut, IsThere, AreAliases};
 
     /// No aliases; no memory is taken. The map and those that are made of it keep the allocator.
     pub fn new(alloc: Global) -> AliasMap
@@ -143,9 +144,9 @@ impl AliasMap {
 
     /// The aliases that were made behind a place, or all.
     fn behind(&self, after: Option<u64>) -> &[AliasRow]
-        ensures { result.now ≡ filter (is_after after) self.now }
+        ensures { result.now ≡ filter (λ row. is_behind after row.born) self.now }
     {
-        let start = self.rows.partition_point(|row| !row.is_after(after));
+        let start = self.rows.partition_point(|row| !is_behind(after, row.born));
         &self.rows[start..]
     }
 

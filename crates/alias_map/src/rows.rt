@@ -2,7 +2,7 @@
 
 ghost use Rattle.std.specs.Prelude.{◌≡◌, ◌&&◌, IfOk};
 ghost use Rattle.std.specs.Str.{bytes_eq};
-ghost use Rattle.alias_map.specs.Aliases.{has_name, names_key, names_any, is_after};
+ghost use Rattle.alias_map.specs.Aliases.{has_name, names_key, names_any};
 
 use kms_names::{AliasName, KeyId, NoMemory};
 
@@ -54,15 +54,5 @@ impl AliasRow {
         ensures { result ≡ names_any keys.now self.now }
     {
         keys.iter().any(|key| self.names_key(key))
-    }
-
-    /// Whether it was made behind this place; every alias was where none is given.
-    pub(crate) fn is_after(&self, after: Option<u64>) -> bool
-        ensures { result ≡ is_after after self.now }
-    {
-        match after {
-            Some(place) => place < self.born,
-            None => true,
-        }
     }
 }

@@ -1,6 +1,7 @@
 -- What a request says to conditions of policies (AWS KMS Developer Guide, "Condition keys for AWS KMS"; IAM User Guide, "AWS
 -- global condition context keys").
 use Rattle.std.specs.Prelude.{ℕ, ◌==◌, Bool, true, false, if◌then◌else◌, List, [], ◌∷◌, ◌++◌, map, fold, codes, decimal, Option, Some, None, option_map}
+use Rattle.kms_names.specs.Action.{is_among}
 use Rattle.kms_names.specs.GrantOps.{grant_op_name, members}
 use Rattle.kms_names.specs.Principal.{principal_text, account_of}
 use Rattle.kms_names.specs.declared.actions.Action.{Action}
@@ -81,39 +82,8 @@ abbrev pub context_facts : List Pair → List Fact
 context_facts pairs = map pair_fact pairs ++ keys_fact pairs
 
 -- the actions by which texts are sealed or opened
-abbrev pub seals_or_opens : Action → Bool
-seals_or_opens action.Encrypt = true
-seals_or_opens action.Decrypt = true
-seals_or_opens action.ReEncryptFrom = true
-seals_or_opens action.ReEncryptTo = true
-seals_or_opens action.GenerateDataKey = true
-seals_or_opens action.GenerateDataKeyWithoutPlaintext = true
-seals_or_opens action.CreateKey = false
-seals_or_opens action.DescribeKey = false
-seals_or_opens action.ListKeys = false
-seals_or_opens action.EnableKey = false
-seals_or_opens action.DisableKey = false
-seals_or_opens action.ScheduleKeyDeletion = false
-seals_or_opens action.CancelKeyDeletion = false
-seals_or_opens action.EnableKeyRotation = false
-seals_or_opens action.DisableKeyRotation = false
-seals_or_opens action.GetKeyRotationStatus = false
-seals_or_opens action.RotateKeyOnDemand = false
-seals_or_opens action.ListKeyRotations = false
-seals_or_opens action.PutKeyPolicy = false
-seals_or_opens action.GetKeyPolicy = false
-seals_or_opens action.ListKeyPolicies = false
-seals_or_opens action.UpdateKeyDescription = false
-seals_or_opens action.CreateAlias = false
-seals_or_opens action.UpdateAlias = false
-seals_or_opens action.DeleteAlias = false
-seals_or_opens action.ListAliases = false
-seals_or_opens action.CreateGrant = false
-seals_or_opens action.ListGrants = false
-seals_or_opens action.ListRetirableGrants = false
-seals_or_opens action.RetireGrant = false
-seals_or_opens action.RevokeGrant = false
-seals_or_opens action.GenerateRandom = false
+abbrev pub sealing : List Action
+sealing = action.Encrypt ∷ action.Decrypt ∷ action.ReEncryptFrom ∷ action.ReEncryptTo ∷ action.GenerateDataKey ∷ action.GenerateDataKeyWithoutPlaintext ∷ []
 
 abbrev pub algorithm_facts : Bool → List Fact
 algorithm_facts false = []
@@ -139,39 +109,8 @@ grant_facts None = []
 grant_facts (Some grant) = said_facts grant
 
 -- the actions on the grants of a key by which a service of AWS may act for a caller
-abbrev pub is_on_grants : Action → Bool
-is_on_grants action.CreateGrant = true
-is_on_grants action.ListGrants = true
-is_on_grants action.RevokeGrant = true
-is_on_grants action.Encrypt = false
-is_on_grants action.Decrypt = false
-is_on_grants action.ReEncryptFrom = false
-is_on_grants action.ReEncryptTo = false
-is_on_grants action.GenerateDataKey = false
-is_on_grants action.GenerateDataKeyWithoutPlaintext = false
-is_on_grants action.CreateKey = false
-is_on_grants action.DescribeKey = false
-is_on_grants action.ListKeys = false
-is_on_grants action.EnableKey = false
-is_on_grants action.DisableKey = false
-is_on_grants action.ScheduleKeyDeletion = false
-is_on_grants action.CancelKeyDeletion = false
-is_on_grants action.EnableKeyRotation = false
-is_on_grants action.DisableKeyRotation = false
-is_on_grants action.GetKeyRotationStatus = false
-is_on_grants action.RotateKeyOnDemand = false
-is_on_grants action.ListKeyRotations = false
-is_on_grants action.PutKeyPolicy = false
-is_on_grants action.GetKeyPolicy = false
-is_on_grants action.ListKeyPolicies = false
-is_on_grants action.UpdateKeyDescription = false
-is_on_grants action.CreateAlias = false
-is_on_grants action.UpdateAlias = false
-is_on_grants action.DeleteAlias = false
-is_on_grants action.ListAliases = false
-is_on_grants action.ListRetirableGrants = false
-is_on_grants action.RetireGrant = false
-is_on_grants action.GenerateRandom = false
+abbrev pub on_grants : List Action
+on_grants = action.CreateGrant ∷ action.ListGrants ∷ action.RevokeGrant ∷ []
 
 -- no service of AWS acts for a caller
 abbrev pub for_service_facts : Bool → List Fact
@@ -195,12 +134,12 @@ named_facts particulars =
 abbrev pub sealing_facts : Action → Particulars → List Fact
 sealing_facts op particulars =
     context_facts particulars.context
-    ++ (algorithm_facts (seals_or_opens op)
+    ++ (algorithm_facts (is_among sealing op)
     ++ truth_facts (codes "kms:ReEncryptOnSameKey") particulars.same_key)
 
 -- which grant is made, or whose
 abbrev pub granting_facts : Action → Particulars → List Fact
-granting_facts op particulars = grant_facts particulars.grant ++ for_service_facts (is_on_grants op)
+granting_facts op particulars = grant_facts particulars.grant ++ for_service_facts (is_among on_grants op)
 
 -- how the key is changed
 abbrev pub changing_facts : Particulars → List Fact

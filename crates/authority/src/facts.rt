@@ -1,6 +1,7 @@
 //! What a request says to conditions of policies.
 ghost use Rattle.std.specs.Prelude.{◌≡◌, ◌≢◌, ◌++◌, ◌∷◌, [], All, IfOk, OnOk, MatchOption, map, codes};
-ghost use Rattle.authority.specs.Facts.{behind_slash, caller_facts, user_facts, time_facts, service_facts, key_facts, pair_fact, context_facts, several_facts, seals_or_opens, algorithm_facts, setting_facts, named_facts, sealing_facts, changing_facts, facts_of};
+ghost use Rattle.kms_names.specs.Action.{is_among};
+ghost use Rattle.authority.specs.Facts.{behind_slash, caller_facts, user_facts, time_facts, service_facts, key_facts, pair_fact, context_facts, several_facts, sealing, algorithm_facts, setting_facts, named_facts, sealing_facts, changing_facts, facts_of};
 
 use crate::grants::put_granting;
 use crate::puts::{put, put_all, put_given, put_number, put_some, put_text, put_truth};
@@ -139,7 +140,7 @@ fn put_context(facts: &mut Vec<Fact>, pairs: &[Pair]) -> Result<(), NoMemory>
 }
 
 fn seals_or_opens(op: Action) -> bool
-    ensures { result ≡ seals_or_opens op }
+    ensures { result ≡ is_among sealing op }
 {
     matches!(
         op,
@@ -153,7 +154,7 @@ fn seals_or_opens(op: Action) -> bool
 }
 
 fn put_algorithm(facts: &mut Vec<Fact>, op: Action) -> Result<(), NoMemory>
-    ensures { OnOk result (facts.new.items ≡ facts.old.items ++ algorithm_facts (seals_or_opens op)) }
+    ensures { OnOk result (facts.new.items ≡ facts.old.items ++ algorithm_facts (is_among sealing op)) }
 {
     if seals_or_opens(op) {
         put_text(facts, "kms:EncryptionAlgorithm", "SYMMETRIC_DEFAULT")

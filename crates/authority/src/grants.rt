@@ -1,8 +1,9 @@
 //! What requests about grants say to conditions.
 ghost use Rattle.std.specs.Prelude.{◌≡◌, ◌++◌, ◌∷◌, [], IfOk, OnOk, map, filter, codes, option_map};
+ghost use Rattle.kms_names.specs.Action.{is_among};
 ghost use Rattle.kms_names.specs.GrantOps.{grant_op_name, contains, members};
 ghost use Rattle.kms_names.specs.Principal.{principal_text};
-ghost use Rattle.authority.specs.Facts.{single, text_facts, constraint_type, said_facts, grant_facts, is_on_grants, for_service_facts, granting_facts};
+ghost use Rattle.authority.specs.Facts.{single, text_facts, constraint_type, said_facts, grant_facts, on_grants, for_service_facts, granting_facts};
 
 use crate::puts::{put_given, put_text, put_values};
 use crate::settings::{GrantSaid, Particulars};
@@ -87,7 +88,7 @@ fn put_grant(facts: &mut Vec<Fact>, particulars: &Particulars<'_>) -> Result<(),
 }
 
 fn is_on_grants(op: Action) -> bool
-    ensures { result ≡ is_on_grants op }
+    ensures { result ≡ is_among on_grants op }
 {
     matches!(
         op,
@@ -97,7 +98,7 @@ fn is_on_grants(op: Action) -> bool
 
 // Adds that no service of AWS acts for the caller.
 fn put_for_service(facts: &mut Vec<Fact>, op: Action) -> Result<(), NoMemory>
-    ensures { OnOk result (facts.new.items ≡ facts.old.items ++ for_service_facts (is_on_grants op)) }
+    ensures { OnOk result (facts.new.items ≡ facts.old.items ++ for_service_facts (is_among on_grants op)) }
 {
     if is_on_grants(op) {
         put_text(facts, "kms:GrantIsForAWSResource", "false")

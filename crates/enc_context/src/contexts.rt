@@ -1,4 +1,4 @@
-ghost use Rattle.std.specs.Prelude.{◌≡◌, ◌↔◌, ◌<◌, ◌≤◌, ◌++◌, length, IsTrue, IfOk, OnOk, OnErr, IsPermutation};
+ghost use Rattle.std.specs.Prelude.{◌≡◌, ◌↔◌, ◌<◌, ◌≤◌, ◌++◌, [], length, IsTrue, IfOk, OnOk, OnErr, IsPermutation};
 ghost use Rattle.enc_context.specs.Pairs.{HasDistinctKeys, IsInOrder, Includes, includes, has_pair, same_pairs};
 ghost use Rattle.enc_context.specs.Encoding.{encoding_of, IsContext};
 ghost use Rattle.enc_context.specs.declared.faults.ContextFault.TheVariants.{TooLong};
@@ -31,6 +31,16 @@ impl Model for Context {
 }
 
 impl Context {
+    /// The context without pairs; no memory is taken.
+    pub fn new(alloc: Global) -> Context
+        ensures { result ≡ [] }
+    {
+        Context {
+            pairs: Vec::new(alloc),
+            encoded_len: 0,
+        }
+    }
+
     /// The context of some pairs, of which no two have one key; they are put in order.
     ///
     /// `TooLong` comes exactly where the encoding has more than 8,192 bytes.

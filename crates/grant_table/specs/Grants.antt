@@ -1,13 +1,14 @@
 -- Grants in order of making, as a plain list, and what each permits (AWS KMS Developer Guide, "Grants in AWS KMS").
-use Rattle.std.specs.Prelude.{◌≡◌, ◌≢◌, ℕ, ◌<◌, Bool, true, false, not, ◌&&◌, ◌||◌, List, [], length, filter, find, Option, None, Some, IsSome, All, AllPairs}
+use Rattle.std.specs.Prelude.{◌≡◌, ◌≢◌, ℕ, ◌<◌, Bool, true, false, not, ◌&&◌, ◌||◌, List, [], ◌∷◌, length, filter, find, map, Option, None, Some, IsSome, All, AllPairs}
 use Rattle.std.specs.List.{list_all, list_any}
 use Rattle.std.specs.Str.{bytes_eq}
 use Rattle.kms_names.specs.declared.operations.GrantOp.{GrantOp}
-use Rattle.kms_names.specs.declared.operations.GrantOp.TheVariants.{Encrypt, Decrypt, GenerateDataKey, GenerateDataKeyWithoutPlaintext, ReEncryptFrom, ReEncryptTo, CreateGrant, RetireGrant, DescribeKey}
+use Rattle.kms_names.specs.declared.operations.GrantOp.TheVariants.{Encrypt, Decrypt, GenerateDataKey, GenerateDataKeyWithoutPlaintext, ReEncryptFrom, ReEncryptTo, CreateGrant}
 use Rattle.kms_names.specs.declared.operations.GrantOps.{GrantOps}
 use Rattle.kms_names.specs.declared.principals.Principal.{Principal}
 use Rattle.kms_names.specs.Place.{is_behind}
-use Rattle.kms_names.specs.GrantOps.{all_grant_ops, contains, IsSubset}
+use Rattle.kms_names.specs.Action.{is_among}
+use Rattle.kms_names.specs.GrantOps.{all_grant_ops, action_of, contains, IsSubset}
 use Rattle.enc_context.specs.declared.pairs.Pair.{Pair}
 use Rattle.grant_table.specs.Constraints.{ConstraintHolds, constraint_holds, IsAsStrict, is_as_strict, same_constraint}
 use Rattle.grant_table.specs.Principals.{same_principal}
@@ -18,16 +19,11 @@ use Rattle.grant_table.specs.declared.rows.GrantRow.{GrantRow}
 
 -- the constraint is asked of the operations on a text and its context. It isn't asked of DescribeKey and RetireGrant;
 -- for CreateGrant it is asked of the child grant instead
+abbrev pub constrained : List GrantOp
+constrained = Encrypt ∷ Decrypt ∷ GenerateDataKey ∷ GenerateDataKeyWithoutPlaintext ∷ ReEncryptFrom ∷ ReEncryptTo ∷ []
+
 abbrev pub asks_constraint : GrantOp → Bool
-asks_constraint Encrypt = true
-asks_constraint Decrypt = true
-asks_constraint GenerateDataKey = true
-asks_constraint GenerateDataKeyWithoutPlaintext = true
-asks_constraint ReEncryptFrom = true
-asks_constraint ReEncryptTo = true
-asks_constraint CreateGrant = false
-asks_constraint RetireGrant = false
-asks_constraint DescribeKey = false
+asks_constraint op = is_among (map action_of constrained) (action_of op)
 
 -- the grant is of the key, the caller is its grantee, the operation is among its own, and its constraint holds where it
 -- is asked
@@ -101,10 +97,6 @@ is_principal principal (Some retiring) = same_principal retiring principal
 abbrev pub has_retiring : Principal → GrantRow → Bool
 has_retiring principal row = is_principal principal row.retiring
 
--- the grant was made behind the place; every one was where none is given
-abbrev pub is_after : Option ℕ → GrantRow → Bool
-is_after after row = is_behind after row.born
-
 -- the first grant of an id
 abbrev pub grant_with : List GrantRow → List ℕ → Option GrantRow
 grant_with rows grant = find (has_id grant) rows
@@ -115,11 +107,11 @@ grant_permitting rows key caller op context = find (permits key caller op contex
 
 -- the first of a retiring principal that was made behind a place
 abbrev pub grant_retirable : List GrantRow → Principal → Option ℕ → Option GrantRow
-grant_retirable rows principal after = find (λ row. has_retiring principal row && is_after after row) rows
+grant_retirable rows principal after = find (λ row. has_retiring principal row && is_behind after row.born) rows
 
 -- the first of a key that was made behind a place
 abbrev pub grant_of_key : List GrantRow → List ℕ → Option ℕ → Option GrantRow
-grant_of_key rows key after = find (λ row. is_of_key key row && is_after after row) rows
+grant_of_key rows key after = find (λ row. is_of_key key row && is_behind after row.born) rows
 
 -- the first by which a caller may make a grant of these operations and this constraint
 abbrev pub parent_of : List GrantRow → List ℕ → Principal → GrantOps → Constraint → Option GrantRow

@@ -1,7 +1,7 @@
 //! Grants as an account keeps them.
 
 ghost use Rattle.std.specs.Prelude.{◌≡◌, ◌↔◌, ◌&&◌, [], IsTrue, IfOk};
-ghost use Rattle.grant_table.specs.Grants.{asks_constraint, Permits, permits, IsChildOf, is_child_of, is_parent, is_subset, has_name, same_operations, is_same, has_id, is_of_any, has_retiring, is_after};
+ghost use Rattle.grant_table.specs.Grants.{asks_constraint, Permits, permits, IsChildOf, is_child_of, is_parent, is_subset, has_name, same_operations, is_same, has_id, is_of_any, has_retiring};
 ghost use Rattle.grant_table.specs.Principals.{same_principal};
 ghost use Rattle.kms_names.specs.declared.operations.GrantOp.TheVariants.{CreateGrant};
 
@@ -180,16 +180,6 @@ impl GrantRow {
         match &self.retiring {
             Some(retiring) => same_principal(retiring, principal),
             None => false,
-        }
-    }
-
-    /// Whether it was made behind this place; every grant was where none is given.
-    pub(crate) fn is_after(&self, after: Option<u64>) -> bool
-        ensures { result ≡ is_after after self.now }
-    {
-        match after {
-            Some(place) => place < self.born,
-            None => true,
         }
     }
 }

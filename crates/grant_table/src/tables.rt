@@ -1,15 +1,16 @@
 //! The grants of an account.
 
 ghost use Rattle.std.specs.Prelude.{◌≡◌, find, slice_get, IfOk};
+ghost use Rattle.kms_names.specs.Place.{is_behind};
 ghost use Rattle.std.specs.Option.{option_map};
-ghost use Rattle.grant_table.specs.Grants.{has_id, is_after, has_retiring, permits, is_parent, is_same};
+ghost use Rattle.grant_table.specs.Grants.{has_id, has_retiring, permits, is_parent, is_same};
 ghost use Rattle.grant_table.specs.Index.{rows_at, IsIndexOf};
 
 use crate::constraints::Constraint;
 use crate::index::{Entry, group, in_order};
 use crate::rows::GrantRow;
 use enc_context::Context;
-use kms_names::{GrantId, GrantOp, GrantOps, KeyId, NoMemory, Principal, Text};
+use kms_names::{GrantId, GrantOp, GrantOps, KeyId, NoMemory, Principal, Text, is_behind};
 use std::alloc::Global;
 use std::marker::Model;
 
@@ -101,11 +102,11 @@ fn first_behind<'a>(
     entries: &[Entry<KeyId>],
     after: Option<u64>,
 ) -> Option<&'a GrantRow>
-    ensures { option_map (λ row. row.now) result ≡ find (is_after after) (rows_at rows.now entries.now) }
+    ensures { option_map (λ row. row.now) result ≡ find (λ row. is_behind after row.born) (rows_at rows.now entries.now) }
 {
     for entry in entries {
         if let Some(row) = row_at(rows, entry.place) {
-            if row.is_after(after) {
+            if is_behind(after, row.born) {
                 return Some(row);
             }
         }
@@ -182,18 +183,13 @@ fn first_same<'a>(
 fn first_retirable<'a>(rows: &'a [GrantRow], retiring: &Principal) -> Option<&'a GrantRow>
     ensures { option_map (λ row. row.now) result ≡ find (has_retiring retiring.now) rows.now }
 {
-    for row in rows {
-        if row.has_retiring(retiring) {
-            return Some(row);
-        }
-    }
-    None
+    rows.iter().find(|row| row.has_retiring(retiring))
 }
 
 impl GrantTable {
     ghost use Rattle.std.specs.Prelude.{◌≡◌, [], ◌∷◌, ◌++◌, length, filter, All, IfOk, IfSome, IfNone};
     ghost use Rattle.std.specs.Option.{option_map};
-    ghost use Rattle.grant_table.specs.Grants.{is_after, grant_with, grant_permitting, grant_retirable, grant_of_key, parent_of, same_as, number_of_key, Permits, without, without_keys, MayAdd, IsThere, AreGrants};
+    ghost use Rattle.grant_table.specs.Grants.{grant_with, grant_permitting, grant_retirable, grant_of_key, parent_of, same_as, number_of_key, Permits, without, without_keys, MayAdd, IsThere, AreGrants};
 
     /// No grants; no memory is taken. The table and those that are made of it keep the allocator.
     pub fn new(alloc: Global) -> GrantTable
@@ -312,9 +308,9 @@ impl GrantTable {
 
     /// The grants that were made behind a place, or all.
     fn behind(&self, after: Option<u64>) -> &[GrantRow]
-        ensures { result.now ≡ filter (is_after after) self.now }
+        ensures { result.now ≡ filter (λ row. is_behind after row.born) self.now }
     {
-        let start = self.rows.partition_point(|row| !row.is_after(after));
+        let start = self.rows.partition_point(|row| !is_behind(after, row.born));
         &self.rows[start..]
     }
 

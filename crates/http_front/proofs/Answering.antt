@@ -5,7 +5,7 @@ use Rattle.httparse.proofs.GrammarLemmas.{ReadsRequest-append}
 use Rattle.http_front.specs.declared.judge.HttpFault.{HttpFault}
 use Rattle.http_front.specs.Heading.{Heading, heading_of, values_of}
 use Rattle.http_front.specs.Judge.{judged, closes_after, size_within, size_in}
-use Rattle.http_front.specs.Digits.{number_in}
+use Rattle.kms_names.specs.Digits.{number_in}
 use Rattle.std.proofs.Common.{nat_le, cond, true, false, Option, Some, None, codes, rules, [], ◌∷◌, append-nil, arith}
 use Rattle.httparse.specs.Grammar.{ReadsRequest, print_request}
 use Rattle.std.proofs.lemmas.Bool.Decides.{nat_tests}

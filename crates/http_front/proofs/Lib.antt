@@ -1,5 +1,4 @@
 pub mod Bytes
-pub mod DigitLemmas
 pub mod Parts
 pub mod Heads
 pub mod Answering

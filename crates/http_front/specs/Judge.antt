@@ -5,7 +5,7 @@ use Rattle.std.specs.Str.{bytes_eq, str_eq_ignore_ascii_case}
 use Rattle.httparse.specs.Grammar.{trim_ows}
 use Rattle.http_front.specs.declared.judge.HttpFault.{HttpFault}
 use Rattle.http_front.specs.declared.judge.HttpFault.TheVariants.{NotPost, NotRoot, Chunked, TwoLengths, NoLength, TooLong}
-use Rattle.http_front.specs.Digits.{number_in}
+use Rattle.kms_names.specs.Digits.{number_in}
 use Rattle.http_front.specs.Heading.{Heading, Field, is_named, value_in, values_of}
 
 abbrev pub size_within : Option ℕ → Result ℕ HttpFault

@@ -1,7 +1,6 @@
-pub mod Digits
 pub mod Heading
 pub mod Judge
-pub mod Places
+pub mod Offsets
 pub mod Message
 pub mod Parsed
 pub mod Head

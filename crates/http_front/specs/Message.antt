@@ -8,7 +8,7 @@ use Rattle.http_front.specs.declared.message.Step.{Step}
 use Rattle.http_front.specs.declared.message.Step.TheVariants as step
 use Rattle.http_front.specs.Heading.{Heading, heading_of}
 use Rattle.http_front.specs.Judge.{judged, closes_after}
-use Rattle.http_front.specs.Places.{Places, size_of}
+use Rattle.http_front.specs.Offsets.{Offsets, size_of}
 
 -- what a message says
 pub record Message : Type 0 where
@@ -76,7 +76,7 @@ pub data IsRefused (bytes : List ℕ) : HttpFault → Type 0 where
 -- ---- the cut of a message
 
 -- the bytes begin with this message, and its parts stand at these places
-pub record CutsOff (bytes : List ℕ) (cut : Places) (m : Message) : Type 0 where
+pub record CutsOff (bytes : List ℕ) (cut : Offsets) (m : Message) : Type 0 where
   pub within : size_of cut ≤ length bytes
   pub message : IsMessage m (take (size_of cut) bytes)
   pub fields : map (header_bytes bytes) cut.headers ≡ m.head.fields

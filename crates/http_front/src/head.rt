@@ -1,5 +1,6 @@
 // The head of a reply, which takes no memory.
 ghost use Rattle.std.specs.Prelude.{◌≡◌, ◌+◌, ◌<◌, ◌≤◌, ◌++◌, List, ℕ, [], codes, decimal, length, take};
+ghost use Rattle.kms_names.specs.Moment.{year_10000};
 ghost use Rattle.http_front.specs.Head.{reason_of, close_line, head_of, IsHead};
 ghost use Rattle.httpdate.specs.Date.{date_text};
 
@@ -103,7 +104,7 @@ fn close(closes: bool) -> &'static [u8]
 /// Content-Length, Date (RFC 9110, section 6.6.1), x-kms-front, and Connection where the reply closes.
 /// The date is in seconds since 1970 and before the year 10000. It takes no memory.
 pub fn write_head(status: u16, size: usize, second: u64, front: u64, closes: bool) -> Head
-    requires { second < 253402300800 }
+    requires { second < year_10000 }
     ensures { IsHead status size second front closes result }
 {
     let date = HttpDate::from_unix_secs(second).unwrap();

@@ -2,12 +2,12 @@
 ghost use Rattle.std.specs.Prelude.{◌≡◌, ◌≤◌, length, map, All, IfOk, codes};
 ghost use Rattle.httparse.specs.Grammar.{RequestHead};
 ghost use Rattle.httparse.specs.Spans.{header_bytes, IsHeaderWithin};
-ghost use Rattle.http_front.specs.Digits.{number_in};
+ghost use Rattle.kms_names.specs.Digits.{number_in};
 ghost use Rattle.http_front.specs.Heading.{heading_of, values_in};
 ghost use Rattle.http_front.specs.Judge.{size_in, size_within, judged};
 ghost use Rattle.http_front.specs.Parsed.{Shows};
 
-use crate::digits::decimal;
+use kms_names::decimal;
 use crate::fields::value_at;
 use crate::parsed::Parsed;
 use httparse::spans::HeaderSpan;

@@ -2,7 +2,6 @@
 #![tactic(auto)]
 
 mod closing;
-mod digits;
 mod fields;
 mod head;
 mod judge;
@@ -10,7 +9,6 @@ mod laws;
 mod message;
 mod parsed;
 
-pub use digits::decimal;
 pub use head::{Head, write_head};
 pub use judge::HttpFault;
 pub use laws::{crowded_has_many_lines, one_answer, one_fault, one_message, still_awaited};

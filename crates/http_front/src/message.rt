@@ -3,7 +3,7 @@ ghost use Rattle.std.specs.Prelude.{◌≡◌, ◌≤◌, ℕ, length, take, dro
 ghost use Rattle.httparse.specs.Grammar.{RequestHead};
 ghost use Rattle.http_front.specs.Heading.{values_of, heading_of};
 ghost use Rattle.http_front.specs.Judge.{judged};
-ghost use Rattle.http_front.specs.Places.{size_of};
+ghost use Rattle.http_front.specs.Offsets.{size_of};
 ghost use Rattle.http_front.specs.Parsed.{Shows};
 ghost use Rattle.http_front.specs.Message.{Begins, CutsOff, Message};
 
@@ -17,7 +17,7 @@ use std::marker::Model;
 // The longest head, in bytes.
 const LONGEST_HEAD: usize = 16_384;
 
-/// A message that was found at the front of a buffer: the places of its parts. Contracts see them as `Places`.
+/// A message that was found at the front of a buffer: the places of its parts. Contracts see them as `Offsets`.
 #[derive(Drop)]
 pub struct Cut {
     headers: [HeaderSpan; 64],
@@ -29,9 +29,9 @@ pub struct Cut {
 
 impl Model for Cut {
     ghost use Rattle.std.specs.Prelude.{◌+◌, ◌<◌, ◌≤◌, ◌^◌, take};
-    ghost use Rattle.http_front.specs.Places.{Places};
+    ghost use Rattle.http_front.specs.Offsets.{Offsets};
 
-    ghost Value = { Places };
+    ghost Value = { Offsets };
 
     ghost view = { λ c. record { headers = take c.count c.headers; head = c.head; body = c.body; closes = c.closes } };
 

@@ -1,7 +1,6 @@
 -- Operations by key state (AWS KMS Developer Guide, "Key states of AWS KMS keys", the table of operations).
-use Rattle.std.specs.Prelude.{Bool, List, [], ◌∷◌, ◌==◌, Option, None, Some, if◌then◌else◌}
-use Rattle.std.specs.List.{list_any}
-use Rattle.kms_names.specs.Action.{action_number}
+use Rattle.std.specs.Prelude.{List, [], ◌∷◌, Option, None, Some, if◌then◌else◌}
+use Rattle.kms_names.specs.Action.{is_among}
 use Rattle.kms_names.specs.declared.actions.Action.{Action}
 use Rattle.kms_names.specs.declared.actions.Action.TheVariants as action
 use Rattle.key_states.specs.declared.permissions.Need.{Need}
@@ -24,9 +23,6 @@ needing_kept = action.EnableKey ∷ action.DisableKey ∷ action.ScheduleKeyDele
 -- those that only a key whose deletion is scheduled takes
 abbrev pub needing_pending : List Action
 needing_pending = action.CancelKeyDeletion ∷ []
-
-abbrev pub is_among : List Action → Action → Bool
-is_among actions a = list_any (λ b. action_number b == action_number a) actions
 
 -- what an operation needs of its key
 abbrev pub need_of : Action → Need

@@ -1,5 +1,9 @@
 //! The states of keys.
 
+ghost use Rattle.std.specs.Prelude.{◌≡◌, IfOk};
+
+use kms_names::NoMemory;
+
 /// What an account keeps of a key's state.
 #[derive(Clone, Copy, PartialEq, Eq)]
 pub enum Stored {
@@ -14,6 +18,15 @@ pub enum Stored {
         /// The waiting period that was asked for, in days.
         days: u32,
     },
+}
+
+impl Stored {
+    /// A copy that equals its source; no memory is taken.
+    pub fn copy(&self) -> Result<Stored, NoMemory>
+        ensures { IfOk result (λ stored. stored ≡ self.now) }
+    {
+        Ok(*self)
+    }
 }
 
 /// The state of a key at a moment.

@@ -1,5 +1,7 @@
 //! The versions of a key's material.
 
+ghost use Rattle.std.specs.Prelude.{◌≡◌, IfOk};
+
 use kms_names::NoMemory;
 use std::marker::Model;
 
@@ -10,6 +12,15 @@ pub struct Version {
     pub time: u64,
     /// Whether RotateKeyOnDemand made it; the first version and automatic ones were not.
     pub on_demand: bool,
+}
+
+impl Version {
+    /// A copy that equals its source; no memory is taken.
+    pub fn copy(&self) -> Result<Version, NoMemory>
+        ensures { IfOk result (λ version. version ≡ self.now) }
+    {
+        Ok(*self)
+    }
 }
 
 /// The versions of a key, the first one at the front. Contracts see it as the list of them.

@@ -8,10 +8,10 @@ ghost use Rattle.kms_config.specs.Credentials.{id_in, secret_in as secret_within
 
 use crate::faults::ConfigFault;
 use crate::forms::{key_id_in, principal_at, secret_in};
-use crate::members::{first_unknown, items_within, member};
+use crate::members::items_within;
 use crate::places::refused;
 use kms_names::{AccountNumber, NoMemory, Text};
-use policy_doc::Path;
+use policy_doc::{Path, first_unknown, member};
 use serde_json::{Map, Value};
 use sigv4_check::{Credential, CredentialList};
 use std::alloc::Global;

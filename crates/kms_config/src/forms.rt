@@ -6,7 +6,8 @@ ghost use Rattle.serde_json.specs.View.{view};
 ghost use Rattle.kms_names.specs.Reading.{some_if, is_account_number, is_region_text, principal_of};
 ghost use Rattle.kms_config.specs.Forms.{account_in, region_in, root_in, is_boot, boot_in, has_length, is_key_id, is_visible, is_secret, if_of, principal_in, principal_at, no_root, text_where};
 
-use crate::members::{member, text_in};
+use crate::members::text_in;
+use policy_doc::member;
 use hex::FromHex;
 use kms_names::{AccountNumber, NameFault, NoMemory, Principal, Text, is_region, read_principal};
 use serde_json::Value;
@@ -126,8 +127,8 @@ fn principal_of(alloc: Global, text: &str) -> Result<Option<Principal>, NoMemory
     }
 }
 
-// The principal, where it is of the account.
-fn if_of(principal: Principal, account: &AccountNumber) -> Option<Principal>
+/// The principal, where it is of the account.
+pub fn if_of_account(principal: Principal, account: &AccountNumber) -> Option<Principal>
     ensures { result ≡ if_of account.now principal }
 {
     if principal.account() == *account {
@@ -149,7 +150,7 @@ fn principal_in(
         return Ok(None);
     };
     match principal_of(alloc, text)? {
-        Some(principal) => Ok(if_of(principal, account)),
+        Some(principal) => Ok(if_of_account(principal, account)),
         None => Ok(None),
     }
 }

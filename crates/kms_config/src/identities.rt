@@ -7,11 +7,11 @@ ghost use Rattle.kms_config.specs.Identities.{document_in, documents_in, is_same
 
 use crate::faults::ConfigFault;
 use crate::forms::{no_root, principal_at};
-use crate::members::{first_unknown, items_within, member};
+use crate::members::items_within;
 use crate::places::{refused, refused_behind};
 use authority::{Identity, IdentityList, PolicyList};
 use kms_names::{AccountNumber, NoMemory, Principal};
-use policy_doc::{Path, Policy, PolicyFault, PolicyKind, read_policy_value};
+use policy_doc::{Path, Policy, PolicyFault, PolicyKind, first_unknown, member, read_policy_value};
 use serde_json::{Map, Value};
 use std::alloc::Global;
 

@@ -12,4 +12,5 @@ mod places;
 
 pub use config::{Config, read_config};
 pub use faults::ConfigFault;
+pub use forms::if_of_account;
 pub use laws::configured_policies_are_of_identities;

@@ -5,9 +5,9 @@ use Rattle.kms_json.specs.declared.given.Given.{Given}
 use Rattle.kms_json.specs.declared.asks.AskBody.{AskBody}
 use Rattle.kms_json.specs.declared.refusals.Refusal.{Refusal}
 use Rattle.kms_json.specs.declared.operations.Operation.{Operation}
-use Rattle.kms_json.specs.Operations.{fields_of}
+use Rattle.kms_json.specs.Operations.{fields_of, built}
 use Rattle.kms_json.specs.Fields.{values_of, first_invalid}
-use Rattle.kms_json.specs.Asks.{built, body_of, asked_unless, asked_of_values}
+use Rattle.kms_json.specs.Asks.{body_of, asked_unless, asked_of_values}
 use Rattle.kms_json.specs.Building.{held}
 use Rattle.kms_json.proofs.ValueLemmas.{held_is}
 

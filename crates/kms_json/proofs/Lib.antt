@@ -5,10 +5,6 @@ mod BuildLemmas
 mod KeyLemmas
 mod FloatLemmas
 mod ReadFacts
-mod KeySizes
-mod AliasSizes
-mod GrantSizes
-mod ListSizes
-mod CryptographySizes
+mod KindFacts
 pub mod Sizes
 pub mod Statuses

@@ -1,46 +1,52 @@
--- The sizes of what a proper request asks.
-use Rattle.std.proofs.Common.{◌≡◌, ℕ, List, Option, Some, None, Ok, subst}
+-- The sizes of what a proper request asks: for each operation with bounds of its own, which of its fields keeps to which.
+use Rattle.std.proofs.Common.{◌≡◌, ℕ, List, codes, Option, Some, None, Ok, subst, ◌∙◌, arith}
 use Rattle.serde_json.specs.Data.{Data}
+use Rattle.serde_json.specs.Find.{get}
 use Rattle.kms_json.specs.declared.asks.AskBody.{AskBody}
+use Rattle.kms_json.specs.declared.given.Given.{Given}
 use Rattle.kms_json.specs.declared.operations.Operation.{Operation}
-use Rattle.kms_json.specs.declared.operations.Operation.TheVariants as operation
-use Rattle.kms_json.specs.Operations.{operation_named}
+use Rattle.kms_json.specs.declared.operations.Operation.TheVariants as op
+use Rattle.kms_json.specs.Operations.{operation_named, fields_of, built}
+use Rattle.kms_json.specs.Building.{held}
 use Rattle.kms_json.specs.Asks.{IsSized, body_data, is_object, asked_by, asked_where, asked}
-use Rattle.kms_json.proofs.ReadFacts.{IsRead, of_object}
-use Rattle.kms_json.proofs.KeySizes.{create_key_sized, description_sized, deletion_sized, period_sized}
-use Rattle.kms_json.proofs.AliasSizes.{create_alias_named, update_alias_named, delete_alias_named}
-use Rattle.kms_json.proofs.GrantSizes.{create_grant_sized}
-use Rattle.kms_json.proofs.ListSizes.{keys_sized, policies_sized, rotations_sized, aliases_sized, grants_sized, retirable_sized}
-use Rattle.kms_json.proofs.CryptographySizes.{plaintext_sized, data_key_sized, sealed_data_key_sized, random_sized}
+use Rattle.kms_json.proofs.ValueLemmas.{value_in}
+use Rattle.kms_json.proofs.BuildLemmas.{asked_is}
+use Rattle.kms_json.proofs.ReadFacts.{IsRead, of_object, AreKept, are_kept}
+use Rattle.kms_json.proofs.KindFacts.{text_there, bytes_there, number_there, alias_there, text_within, text_if_within, number_within, name_within, constraint_sized, sized_within}
 
-of_operation : (op : Operation) (d : Data) (body : AskBody) → IsRead op d body → IsSized body
-of_operation operation.CreateKey d body is = create_key_sized d body is
-of_operation operation.UpdateKeyDescription d body is = description_sized d body is
-of_operation operation.ScheduleKeyDeletion d body is = deletion_sized d body is
-of_operation operation.EnableKeyRotation d body is = period_sized d body is
-of_operation operation.CreateAlias d body is = create_alias_named d body is
-of_operation operation.UpdateAlias d body is = update_alias_named d body is
-of_operation operation.DeleteAlias d body is = delete_alias_named d body is
-of_operation operation.CreateGrant d body is = create_grant_sized d body is
-of_operation operation.ListKeys d body is = keys_sized d body is
-of_operation operation.ListKeyPolicies d body is = policies_sized d body is
-of_operation operation.ListKeyRotations d body is = rotations_sized d body is
-of_operation operation.ListAliases d body is = aliases_sized d body is
-of_operation operation.ListGrants d body is = grants_sized d body is
-of_operation operation.ListRetirableGrants d body is = retirable_sized d body is
-of_operation operation.Encrypt d body is = plaintext_sized d body is
-of_operation operation.GenerateDataKey d body is = data_key_sized d body is
-of_operation operation.GenerateDataKeyWithoutPlaintext d body is = sealed_data_key_sized d body is
-of_operation operation.GenerateRandom d body is = random_sized d body is
-of_operation _ d body is = subst IsSized is.made tt
+sized : (operation : Operation) (d : Data) (values : List Given) → AreKept (fields_of operation) d values → IsSized (built operation (held (fields_of operation) values))
+sized op.CreateKey d vs kept = text_within 8192 (value_in 1 vs) kept.1.0.1
+sized op.UpdateKeyDescription d vs kept = (text_there 0 8192 (value_in 1 vs) kept.1.0.1).1
+sized op.ScheduleKeyDeletion d vs kept = number_within 7 30 30 (omega arith) (omega arith) (value_in 1 vs) kept.1.0.1
+sized op.EnableKeyRotation d vs kept = number_within 90 2560 365 (omega arith) (omega arith) (value_in 1 vs) kept.1.0.1
+sized op.CreateAlias d vs kept = alias_there (value_in 0 vs) kept.0.1
+sized op.UpdateAlias d vs kept = alias_there (value_in 0 vs) kept.0.1
+sized op.DeleteAlias d vs kept = alias_there (value_in 0 vs) kept.0.1
+sized op.CreateGrant d vs kept =
+    ((text_there 1 256 (value_in 1 vs) kept.1.0.1).1, text_if_within 1 256 (value_in 2 vs) kept.1.1.0.1, name_within (value_in 6 vs) kept.1.1.1.1.1.1.0.1, constraint_sized (get (codes "Constraints") d) (value_in 4 vs) kept.1.1.1.1.0.0)
+sized op.ListKeys d vs kept = number_within 1 1000 100 (omega arith) (omega arith) (value_in 0 vs) kept.0.1
+sized op.ListKeyPolicies d vs kept = number_within 1 1000 100 (omega arith) (omega arith) (value_in 1 vs) kept.1.0.1
+sized op.ListKeyRotations d vs kept = number_within 1 1000 100 (omega arith) (omega arith) (value_in 1 vs) kept.1.0.1
+sized op.ListAliases d vs kept = number_within 1 100 50 (omega arith) (omega arith) (value_in 1 vs) kept.1.0.1
+sized op.ListGrants d vs kept = number_within 1 100 50 (omega arith) (omega arith) (value_in 1 vs) kept.1.0.1
+sized op.ListRetirableGrants d vs kept = number_within 1 100 50 (omega arith) (omega arith) (value_in 1 vs) kept.1.0.1
+sized op.Encrypt d vs kept = bytes_there 1 4096 (value_in 1 vs) kept.1.0.1
+sized op.GenerateDataKey d vs kept = sized_within d (value_in 3 vs) (value_in 2 vs) kept.1.1.1.0.0 kept.1.1.0.1
+sized op.GenerateDataKeyWithoutPlaintext d vs kept = sized_within d (value_in 2 vs) (value_in 3 vs) kept.1.1.0.0 kept.1.1.1.0.1
+sized op.GenerateRandom d vs kept = number_there 1 1024 (value_in 0 vs) kept.0.1
+sized _ d vs kept = tt
 
-of_data : (op : Operation) (o : Option Data) (body : AskBody) → asked_by op o ≡ Ok body → IsSized body
-of_data op None body e = cc
-of_data op (Some d) body e = of_operation op d body (of_object op d body (is_object d) e)
+of_operation : (operation : Operation) (d : Data) (body : AskBody) → IsRead operation d body → IsSized body
+of_operation operation d body is =
+    subst IsSized (asked_is operation d is.values is.read ∙ is.made) (sized operation d is.values (are_kept (fields_of operation) d is.values is.read is.valid))
+
+of_data : (operation : Operation) (o : Option Data) (body : AskBody) → asked_by operation o ≡ Ok body → IsSized body
+of_data operation None body e = cc
+of_data operation (Some d) body e = of_operation operation d body (of_object operation d body (is_object d) e)
 
 of_name : (o : Option Operation) (text : List ℕ) (body : AskBody) → asked_where o text ≡ Ok body → IsSized body
 of_name None text body e = cc
-of_name (Some op) text body e = of_data op (body_data text) body e
+of_name (Some operation) text body e = of_data operation (body_data text) body e
 
 -- what is asked has its sizes
 pub asked_sized : (target text : List ℕ) (body : AskBody) → asked target text ≡ Ok body → IsSized body

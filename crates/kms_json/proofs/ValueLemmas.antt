@@ -1,45 +1,21 @@
 -- The values of fields in their order are what the body gives by the fields' names.
-use Rattle.std.proofs.Common.{◌≡◌, ◌==◌, ℕ, zero, suc, ◌<◌, List, [], ◌∷◌, length, drop, false, not, Option, Some, None, unwrap_or, refl, sym, ap, ◌∙◌, if◌then◌else◌, arith, rules, tests}
+use Rattle.std.proofs.Common.{◌≡◌, ◌==◌, ℕ, zero, suc, List, [], ◌∷◌, length, drop, false, not, Option, Some, None, unwrap_or, refl, sym, ap, ◌∙◌, if◌then◌else◌, rules, tests}
 use Rattle.std.specs.Option.{option_map, option_and_then}
 use Rattle.std.specs.Str.{bytes_eq}
 use Rattle.serde_json.specs.Data.{Data}
 use Rattle.serde_json.specs.Find.{get}
 use Rattle.serde_json.specs.View.{items_view}
 use Rattle.serde_json.specs.declared.value.Value.{Value}
-use Rattle.kms_json.specs.declared.fields.Kind.TheVariants as kind
 use Rattle.kms_json.specs.declared.given.Given.{Given}
 use Rattle.kms_json.specs.declared.given.Given.TheVariants as given
-use Rattle.kms_json.specs.Fields.{FieldRow, maybe, value_given, values_of, given_by, any_items}
+use Rattle.kms_json.specs.Fields.{FieldRow, value_given, values_of, given_by, any_items}
 use Rattle.kms_json.specs.Building.{first_of, held}
 
--- ---- the value at a place is what the body gives to the field there
+-- ---- the value at a place
 
 abbrev pub value_in : ℕ → List Given → Given
 value_in zero values = first_of values
 value_in (suc n) values = value_in n (drop 1 values)
-
-abbrev pub row_at : ℕ → List FieldRow → FieldRow
-row_at n [] = record { name = []; kind = kind.AnyText; wanted = maybe }
-row_at zero (row ∷ rows) = row
-row_at (suc n) (row ∷ rows) = row_at n rows
-
-abbrev GivesAt : List FieldRow → Data → List Given → ℕ → Type 0
-GivesAt rows body values n = value_given (row_at n rows).kind (get (row_at n rows).name body) ≡ Some (value_in n values)
-
-module _ (row : FieldRow) (rows : List FieldRow) (body : Data) (values : List Given) where
-  more_at : (first : Option Given) (rest : Option (List Given)) → value_given row.kind (get row.name body) ≡ first
-      → ((vs : List Given) → rest ≡ Some vs → (n : ℕ) → n < length rows → GivesAt rows body vs n)
-      → option_and_then (λ v. option_map (λ vs. v ∷ vs) rest) first ≡ Some values
-      → (n : ℕ) → n < suc (length rows) → GivesAt (row ∷ rows) body values n
-  more_at None rest is later e n below = cc
-  more_at (Some v) None is later e n below = cc
-  more_at (Some v) (Some vs) is later e zero below = let all : v ∷ vs ≡ values = cc in is ∙ ap (λ (l : List Given). Some (first_of l)) all
-  more_at (Some v) (Some vs) is later e (suc n) below = let all : v ∷ vs ≡ values = cc in later vs refl n (omega arith) ∙ ap (λ (l : List Given). Some (value_in (suc n) l)) all
-
-pub gives_at : (rows : List FieldRow) (body : Data) (values : List Given) → values_of rows body ≡ Some values → (n : ℕ) → n < length rows → GivesAt rows body values n
-gives_at [] body values e n below = absurd (omega arith)
-gives_at (row ∷ rows) body values e n below =
-    more_at row rows body values (value_given row.kind (get row.name body)) (values_of rows body) refl (gives_at rows body) e n below
 
 -- ---- there are as many as fields
 

@@ -22,16 +22,8 @@ use Rattle.kms_json.specs.declared.given.Given.{Given}
 use Rattle.kms_json.specs.declared.refusals.Refusal.{Refusal}
 use Rattle.kms_json.specs.declared.refusals.Refusal.TheVariants as refusal
 use Rattle.kms_json.specs.declared.operations.Operation.{Operation}
-use Rattle.kms_json.specs.declared.operations.Operation.TheVariants.{CreateKey, DescribeKey, ListKeys, PutKeyPolicy, GetKeyPolicy, ListKeyPolicies, UpdateKeyDescription, EnableKey, DisableKey, ScheduleKeyDeletion, CancelKeyDeletion, EnableKeyRotation, DisableKeyRotation, RotateKeyOnDemand, GetKeyRotationStatus, ListKeyRotations, CreateAlias, UpdateAlias, DeleteAlias, ListAliases, CreateGrant, RetireGrant, RevokeGrant, ListGrants, ListRetirableGrants, Encrypt, Decrypt, ReEncrypt, GenerateDataKey, GenerateDataKeyWithoutPlaintext, GenerateRandom}
 use Rattle.kms_json.specs.Fields.{values_of, given_by, first_invalid}
-use Rattle.kms_json.specs.Operations.{operation_named, fields_of}
-use Rattle.kms_json.specs.KeyAsks.{create_key, update_key_description, describe_key, list_keys}
-use Rattle.kms_json.specs.PolicyAsks.{put_key_policy, get_key_policy, list_key_policies}
-use Rattle.kms_json.specs.StateAsks.{enable_key, disable_key, schedule_key_deletion, cancel_key_deletion}
-use Rattle.kms_json.specs.RotationAsks.{enable_key_rotation, disable_key_rotation, rotate_key_on_demand, get_key_rotation_status, list_key_rotations}
-use Rattle.kms_json.specs.AliasAsks.{create_alias, update_alias, delete_alias, list_aliases}
-use Rattle.kms_json.specs.GrantAsks.{create_grant, retire_grant, revoke_grant, list_grants, list_retirable_grants}
-use Rattle.kms_json.specs.CryptographyAsks.{encrypt, decrypt, re_encrypt, data_key, generate_data_key, generate_random}
+use Rattle.kms_json.specs.Operations.{operation_named, fields_of, built}
 
 -- the operations that change the account
 abbrev pub changes_account : AskBody → Bool
@@ -46,40 +38,6 @@ body_data (byte ∷ bytes) = if is_utf8 (byte ∷ bytes) then read_text (byte �
 abbrev pub is_object : Data → Bool
 is_object (object ms) = true
 is_object _ = false
-
--- an operation with its fields, by what is given to each field
-abbrev pub built : Operation → (List ℕ → Given) → AskBody
-built CreateKey at = ask.Change (create_key at)
-built DescribeKey at = ask.Read (describe_key at)
-built ListKeys at = ask.Read (list_keys at)
-built PutKeyPolicy at = ask.Change (put_key_policy at)
-built GetKeyPolicy at = ask.Read (get_key_policy at)
-built ListKeyPolicies at = ask.Read (list_key_policies at)
-built UpdateKeyDescription at = ask.Change (update_key_description at)
-built EnableKey at = ask.Change (enable_key at)
-built DisableKey at = ask.Change (disable_key at)
-built ScheduleKeyDeletion at = ask.Change (schedule_key_deletion at)
-built CancelKeyDeletion at = ask.Change (cancel_key_deletion at)
-built EnableKeyRotation at = ask.Change (enable_key_rotation at)
-built DisableKeyRotation at = ask.Change (disable_key_rotation at)
-built RotateKeyOnDemand at = ask.Change (rotate_key_on_demand at)
-built GetKeyRotationStatus at = ask.Read (get_key_rotation_status at)
-built ListKeyRotations at = ask.Read (list_key_rotations at)
-built CreateAlias at = ask.Change (create_alias at)
-built UpdateAlias at = ask.Change (update_alias at)
-built DeleteAlias at = ask.Change (delete_alias at)
-built ListAliases at = ask.Read (list_aliases at)
-built CreateGrant at = ask.Change (create_grant at)
-built RetireGrant at = ask.Change (retire_grant at)
-built RevokeGrant at = ask.Change (revoke_grant at)
-built ListGrants at = ask.Read (list_grants at)
-built ListRetirableGrants at = ask.Read (list_retirable_grants at)
-built Encrypt at = ask.Read (reading.Encrypt (encrypt at))
-built Decrypt at = ask.Read (reading.Decrypt (decrypt at))
-built ReEncrypt at = ask.Read (reading.ReEncrypt (re_encrypt at))
-built GenerateDataKey at = ask.Read (generate_data_key at)
-built GenerateDataKeyWithoutPlaintext at = ask.Read (reading.GenerateDataKeyWithoutPlaintext (data_key at))
-built GenerateRandom at = ask.Read (generate_random at)
 
 -- the operation with the fields that a body gives it
 abbrev pub body_of : Operation → Data → AskBody
@@ -161,7 +119,7 @@ abbrev pub refusal_of : JsonFault → Option Refusal
 refusal_of fault.UnknownOperation = Some refusal.UnknownOperation
 refusal_of fault.Serialization = Some refusal.Serialization
 refusal_of (fault.Validation field) = Some (refusal.Validation field)
-refusal_of fault.InvalidAliasName = Some refusal.InvalidAliasName
+refusal_of fault.AliasName = Some refusal.InvalidAliasName
 refusal_of fault.NoMemory = None
 
 -- the answer is what is asked, or its refusal, or for want of memory neither
@@ -170,5 +128,5 @@ AnswersFor wanted (Ok body) = wanted ≡ Ok body
 AnswersFor wanted (Err fault.UnknownOperation) = wanted ≡ Err refusal.UnknownOperation
 AnswersFor wanted (Err fault.Serialization) = wanted ≡ Err refusal.Serialization
 AnswersFor wanted (Err (fault.Validation field)) = wanted ≡ Err (refusal.Validation field)
-AnswersFor wanted (Err fault.InvalidAliasName) = wanted ≡ Err refusal.InvalidAliasName
+AnswersFor wanted (Err fault.AliasName) = wanted ≡ Err refusal.InvalidAliasName
 AnswersFor wanted (Err fault.NoMemory) = Unit {0}

@@ -1,10 +1,6 @@
 -- What a request's body gives to a field, by its form. What isn't of the form that is asked for counts as nothing given.
 use Rattle.std.specs.Prelude.{ℕ, List, [], Bool, true, false, not, Option, Some, None, unwrap_or}
-use Rattle.std.specs.List.{list_any}
-use Rattle.std.specs.Str.{bytes_eq}
-use Rattle.kms_names.specs.GrantOps.{grant_op_name}
-use Rattle.kms_names.specs.declared.operations.GrantOp.{GrantOp}
-use Rattle.kms_names.specs.declared.operations.GrantOp.TheVariants as op
+use Rattle.kms_names.specs.GrantOps.{is_named, those}
 use Rattle.kms_names.specs.declared.operations.GrantOps.{GrantOps}
 use Rattle.enc_context.specs.declared.pairs.Pair.{Pair}
 use Rattle.kms_json.specs.declared.asks.grants.GrantConstraint.{GrantConstraint}
@@ -50,23 +46,9 @@ constraint_if _ = None
 abbrev pub constraint_in : Given → GrantConstraint
 constraint_in value = unwrap_or (constraint_if value) constraint.Free
 
--- whether an operation is named by one of these texts
-abbrev pub is_named : List (List ℕ) → GrantOp → Bool
-is_named names operation = list_any (λ name. bytes_eq name (grant_op_name operation)) names
-
 -- the set of the operations that are named
 abbrev pub operations_named : List (List ℕ) → GrantOps
-operations_named names = record {
-  encrypt = is_named names op.Encrypt;
-  decrypt = is_named names op.Decrypt;
-  generate_data_key = is_named names op.GenerateDataKey;
-  generate_data_key_without_plaintext = is_named names op.GenerateDataKeyWithoutPlaintext;
-  re_encrypt_from = is_named names op.ReEncryptFrom;
-  re_encrypt_to = is_named names op.ReEncryptTo;
-  create_grant = is_named names op.CreateGrant;
-  retire_grant = is_named names op.RetireGrant;
-  describe_key = is_named names op.DescribeKey;
-}
+operations_named names = those (is_named names)
 
 abbrev pub whole_in : Given → Option ℕ
 whole_in (given.Whole n) = n

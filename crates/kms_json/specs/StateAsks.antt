@@ -1,9 +1,16 @@
--- What requests about the states of keys ask, by what is given to their fields.
-use Rattle.std.specs.Prelude.{ℕ, List, codes}
+-- The fields of the operations on the states of keys, in the order in which they are judged, and what each asks by what is given to them (AWS KMS API Reference, ScheduleKeyDeletion).
+use Rattle.std.specs.Prelude.{List, [], ◌∷◌, codes, ℕ}
+use Rattle.kms_json.specs.declared.fields.Kind.TheVariants.{Whole}
 use Rattle.kms_json.specs.declared.given.Given.{Given}
 use Rattle.kms_json.specs.declared.asks.Changing.{Changing}
 use Rattle.kms_json.specs.declared.asks.Changing.TheVariants as changing
 use Rattle.kms_json.specs.Given.{text_in, number_or}
+use Rattle.kms_json.specs.Fields.{FieldRow, always, maybe, field, key_reference}
+
+abbrev pub schedule_key_deletion_fields : List FieldRow
+schedule_key_deletion_fields =
+    key_reference (codes "KeyId") always ∷
+    field (codes "PendingWindowInDays") (Whole 7 30) maybe ∷ []
 
 -- a key waits 30 days where no number of days is given
 abbrev pub schedule_key_deletion : (List ℕ → Given) → Changing

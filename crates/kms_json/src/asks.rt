@@ -2,6 +2,7 @@
 ghost use Rattle.std.specs.Prelude.{◌≡◌};
 ghost use Rattle.kms_json.specs.Asks.{changes_account};
 
+mod copies;
 mod cryptography;
 mod grants;
 mod keys;
@@ -216,7 +217,7 @@ pub enum JsonFault {
     /// The field of this name isn't valid.
     Validation(Text),
     /// The alias name isn't one.
-    InvalidAliasName,
+    AliasName,
     /// A growth of memory was refused.
     NoMemory,
 }

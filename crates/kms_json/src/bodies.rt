@@ -38,7 +38,7 @@ fn refused(alloc: Global, fault: FieldFault) -> JsonFault
             Ok(field) => JsonFault::Validation(field),
             Err(NoMemory) => JsonFault::NoMemory,
         },
-        FieldFault::AliasName => JsonFault::InvalidAliasName,
+        FieldFault::AliasName => JsonFault::AliasName,
     }
 }
 
@@ -53,7 +53,7 @@ fn asked_of_object(alloc: Global, operation: Operation, body: &Value) -> Result<
     if let Some(fault) = first_fault(fields, body, &values) {
         return Err(refused(alloc, fault));
     }
-    Ok(asked_from(alloc, operation, values)?)
+    Ok(asked_from(alloc, operation, values))
 }
 
 /// What a request asks whose header X-Amz-Target has the value `target` (AWS KMS API Reference,
@@ -62,7 +62,7 @@ fn asked_of_object(alloc: Global, operation: Operation, body: &Value) -> Result<
 /// The first of these that holds decides: the target names no operation that is built
 /// (`UnknownOperation`); the body is no JSON object nested at most 127 deep, or a known member
 /// that is given has another type (`Serialization`); a field isn't valid (`Validation` with its
-/// name, or `InvalidAliasName` for an alias name that isn't one, for the first in the operation's
+/// name, or `AliasName` for an alias name that isn't one, for the first in the operation's
 /// order of fields). No bytes read as `{}`, null counts as absent, and unknown members are passed
 /// over. Want of memory may replace each answer.
 pub fn read_ask(alloc: Global, target: &[u8], body: &[u8]) -> Result<AskBody, JsonFault>

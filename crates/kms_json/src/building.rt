@@ -1,8 +1,7 @@
 // An operation with its fields, from the values of the fields in their order.
-ghost use Rattle.std.specs.Prelude.{◌≡◌, drop, IfOk};
-ghost use Rattle.kms_json.specs.Asks.{built};
+ghost use Rattle.std.specs.Prelude.{◌≡◌, drop};
 ghost use Rattle.kms_json.specs.Building.{first_of, held};
-ghost use Rattle.kms_json.specs.Operations.{fields_of};
+ghost use Rattle.kms_json.specs.Operations.{built, fields_of};
 ghost use Rattle.kms_json.specs.PageAsks.{page_by};
 
 mod aliases;
@@ -13,22 +12,10 @@ mod policies;
 mod rotation;
 mod states;
 
+use crate::asks::AskBody::{Change, Read};
 use crate::asks::{AskBody, Page};
 use crate::given::{Given, number_or, text_if};
 use crate::operations::Operation;
-use aliases::{create_alias, delete_alias, list_aliases, update_alias};
-use cryptography::{
-    decrypt, encrypt, generate_data_key, generate_random, re_encrypt, seal_data_key,
-};
-use grants::{create_grant, list_grants, list_retirable_grants, retire_grant, revoke_grant};
-use keys::{create_key, describe_key, list_keys, update_key_description};
-use kms_names::NoMemory;
-use policies::{get_key_policy, list_key_policies, put_key_policy};
-use rotation::{
-    disable_key_rotation, enable_key_rotation, get_key_rotation_status, list_key_rotations,
-    rotate_key_on_demand,
-};
-use states::{cancel_key_deletion, disable_key, enable_key, schedule_key_deletion};
 use std::alloc::Global;
 use std::collections::VecDeque;
 
@@ -58,42 +45,43 @@ pub fn asked_from(
     alloc: Global,
     operation: Operation,
     mut values: VecDeque<Given>,
-) -> Result<AskBody, NoMemory>
-    ensures { IfOk result (λ body. body ≡ built operation (held (fields_of operation) values.items)) }
+) -> AskBody
+    ensures { result ≡ built operation (held (fields_of operation) values.items) }
 {
     let values = &mut values;
-    let body = match operation {
-        Operation::CreateKey => AskBody::Change(create_key(alloc, values)),
-        Operation::DescribeKey => AskBody::Read(describe_key(alloc, values)),
-        Operation::ListKeys => AskBody::Read(list_keys(values)),
-        Operation::PutKeyPolicy => AskBody::Change(put_key_policy(alloc, values)),
-        Operation::GetKeyPolicy => AskBody::Read(get_key_policy(alloc, values)),
-        Operation::ListKeyPolicies => AskBody::Read(list_key_policies(alloc, values)),
-        Operation::UpdateKeyDescription => AskBody::Change(update_key_description(alloc, values)),
-        Operation::EnableKey => AskBody::Change(enable_key(alloc, values)),
-        Operation::DisableKey => AskBody::Change(disable_key(alloc, values)),
-        Operation::ScheduleKeyDeletion => AskBody::Change(schedule_key_deletion(alloc, values)),
-        Operation::CancelKeyDeletion => AskBody::Change(cancel_key_deletion(alloc, values)),
-        Operation::EnableKeyRotation => AskBody::Change(enable_key_rotation(alloc, values)),
-        Operation::DisableKeyRotation => AskBody::Change(disable_key_rotation(alloc, values)),
-        Operation::RotateKeyOnDemand => AskBody::Change(rotate_key_on_demand(alloc, values)),
-        Operation::GetKeyRotationStatus => AskBody::Read(get_key_rotation_status(alloc, values)),
-        Operation::ListKeyRotations => AskBody::Read(list_key_rotations(alloc, values)),
-        Operation::CreateAlias => AskBody::Change(create_alias(alloc, values)),
-        Operation::UpdateAlias => AskBody::Change(update_alias(alloc, values)),
-        Operation::DeleteAlias => AskBody::Change(delete_alias(alloc, values)),
-        Operation::ListAliases => AskBody::Read(list_aliases(values)),
-        Operation::CreateGrant => AskBody::Change(create_grant(alloc, values)),
-        Operation::RetireGrant => AskBody::Change(retire_grant(alloc, values)),
-        Operation::RevokeGrant => AskBody::Change(revoke_grant(alloc, values)),
-        Operation::ListGrants => AskBody::Read(list_grants(alloc, values)),
-        Operation::ListRetirableGrants => AskBody::Read(list_retirable_grants(alloc, values)),
-        Operation::Encrypt => AskBody::Read(encrypt(alloc, values)?),
-        Operation::Decrypt => AskBody::Read(decrypt(alloc, values)?),
-        Operation::ReEncrypt => AskBody::Read(re_encrypt(alloc, values)?),
-        Operation::GenerateDataKey => AskBody::Read(generate_data_key(alloc, values)?),
-        Operation::GenerateDataKeyWithoutPlaintext => AskBody::Read(seal_data_key(alloc, values)?),
-        Operation::GenerateRandom => AskBody::Read(generate_random(values)),
-    };
-    Ok(body)
+    match operation {
+        Operation::CreateKey => Change(keys::create_key(alloc, values)),
+        Operation::DescribeKey => Read(keys::describe_key(alloc, values)),
+        Operation::ListKeys => Read(keys::list_keys(values)),
+        Operation::PutKeyPolicy => Change(policies::put_key_policy(alloc, values)),
+        Operation::GetKeyPolicy => Read(policies::get_key_policy(alloc, values)),
+        Operation::ListKeyPolicies => Read(policies::list_key_policies(alloc, values)),
+        Operation::UpdateKeyDescription => Change(keys::update_key_description(alloc, values)),
+        Operation::EnableKey => Change(states::enable_key(alloc, values)),
+        Operation::DisableKey => Change(states::disable_key(alloc, values)),
+        Operation::ScheduleKeyDeletion => Change(states::schedule_key_deletion(alloc, values)),
+        Operation::CancelKeyDeletion => Change(states::cancel_key_deletion(alloc, values)),
+        Operation::EnableKeyRotation => Change(rotation::enable_key_rotation(alloc, values)),
+        Operation::DisableKeyRotation => Change(rotation::disable_key_rotation(alloc, values)),
+        Operation::RotateKeyOnDemand => Change(rotation::rotate_key_on_demand(alloc, values)),
+        Operation::GetKeyRotationStatus => Read(rotation::get_key_rotation_status(alloc, values)),
+        Operation::ListKeyRotations => Read(rotation::list_key_rotations(alloc, values)),
+        Operation::CreateAlias => Change(aliases::create_alias(alloc, values)),
+        Operation::UpdateAlias => Change(aliases::update_alias(alloc, values)),
+        Operation::DeleteAlias => Change(aliases::delete_alias(alloc, values)),
+        Operation::ListAliases => Read(aliases::list_aliases(values)),
+        Operation::CreateGrant => Change(grants::create_grant(alloc, values)),
+        Operation::RetireGrant => Change(grants::retire_grant(alloc, values)),
+        Operation::RevokeGrant => Change(grants::revoke_grant(alloc, values)),
+        Operation::ListGrants => Read(grants::list_grants(alloc, values)),
+        Operation::ListRetirableGrants => Read(grants::list_retirable_grants(alloc, values)),
+        Operation::Encrypt => Read(cryptography::encrypt(alloc, values)),
+        Operation::Decrypt => Read(cryptography::decrypt(alloc, values)),
+        Operation::ReEncrypt => Read(cryptography::re_encrypt(alloc, values)),
+        Operation::GenerateDataKey => Read(cryptography::generate_data_key(alloc, values)),
+        Operation::GenerateDataKeyWithoutPlaintext => Read(
+            cryptography::generate_data_key_without_plaintext(alloc, values),
+        ),
+        Operation::GenerateRandom => Read(cryptography::generate_random(values)),
+    }
 }

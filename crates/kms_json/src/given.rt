@@ -1,10 +1,10 @@
 // What a body gives to a field, by its form.
-ghost use Rattle.std.specs.Prelude.{◌≡◌, [], IfOk};
-ghost use Rattle.kms_json.specs.Given.{text_if, text_in, texts_in, bytes_in, context_in, pairs_in, constraint_in, number_in, number_or, flag_in, items_in, is_named, is_there, operations_named};
+ghost use Rattle.std.specs.Prelude.{◌≡◌};
+ghost use Rattle.kms_json.specs.Given.{text_if, text_in, texts_in, bytes_in, context_in, pairs_in, constraint_in, number_in, number_or, flag_in, items_in, is_there, operations_named};
 
 use crate::asks::GrantConstraint;
 use enc_context::Context;
-use kms_names::{Bytes, GrantOp, GrantOps, NoMemory, Text, TextList};
+use kms_names::{Bytes, GrantOps, Text, TextList};
 use std::alloc::Global;
 
 /// What a member is to its field.
@@ -162,32 +162,11 @@ pub fn constraint_in(value: Given) -> GrantConstraint
     }
 }
 
-// Whether an operation is named by one of these texts.
-fn is_named(names: &[Text], op: GrantOp) -> bool
-    ensures { result ≡ is_named names.now op }
-{
-    names.iter().any(|name| name.as_str() == op.name())
-}
-
-/// The set of the operations that are named.
+/// The set of the operations that are named. No memory is taken.
 pub fn operations_in(value: Given) -> GrantOps
     ensures { result ≡ operations_named (texts_in value) }
 {
-    let names = value.texts();
-    GrantOps {
-        encrypt: is_named(names, GrantOp::Encrypt),
-        decrypt: is_named(names, GrantOp::Decrypt),
-        generate_data_key: is_named(names, GrantOp::GenerateDataKey),
-        generate_data_key_without_plaintext: is_named(
-            names,
-            GrantOp::GenerateDataKeyWithoutPlaintext,
-        ),
-        re_encrypt_from: is_named(names, GrantOp::ReEncryptFrom),
-        re_encrypt_to: is_named(names, GrantOp::ReEncryptTo),
-        create_grant: is_named(names, GrantOp::CreateGrant),
-        retire_grant: is_named(names, GrantOp::RetireGrant),
-        describe_key: is_named(names, GrantOp::DescribeKey),
-    }
+    GrantOps::named(value.texts())
 }
 
 /// The context, if it is one that isn't too long.
@@ -200,23 +179,13 @@ pub fn context_if(value: Given) -> Option<Context>
     }
 }
 
-// The context without pairs.
-fn no_pairs(alloc: Global) -> Result<Context, NoMemory>
-    ensures { IfOk result (λ c. c ≡ []) }
-{
-    match Context::from_pairs(alloc, Vec::new(alloc)) {
-        Ok(context) => Ok(context),
-        Err(_) => Err(NoMemory),
-    }
-}
-
-/// The context, or the one without pairs where it is no context.
-pub fn context_in(alloc: Global, value: Given) -> Result<Context, NoMemory>
-    ensures { IfOk result (λ c. c ≡ pairs_in value) }
+/// The context, or the one without pairs where it is no context. No memory is taken.
+pub fn context_in(alloc: Global, value: Given) -> Context
+    ensures { result ≡ pairs_in value }
 {
     match value {
-        Given::Context(Some(context)) => Ok(context),
-        _ => no_pairs(alloc),
+        Given::Context(Some(context)) => context,
+        _ => Context::new(alloc),
     }
 }
 

@@ -88,7 +88,7 @@ pub fn put_if_any(
 }
 
 /// How the rows of a list are written.
-pub trait Rows {
+pub trait RowWriter {
     /// A row.
     type Row;
 
@@ -100,7 +100,7 @@ pub trait Rows {
 }
 
 /// The list of these rows.
-pub fn list_of<R: Rows>(alloc: Global, writer: &R, rows: &[R::Row]) -> Result<Value, NoMemory>
+pub fn list_of<R: RowWriter>(alloc: Global, writer: &R, rows: &[R::Row]) -> Result<Value, NoMemory>
     ensures { IfOk result (λ v. view v ≡ list_data (R.row_data writer.now) rows.now) }
 {
     let mut values = Vec::new(alloc);

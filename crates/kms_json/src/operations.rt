@@ -1,22 +1,13 @@
 // The operations, and the fields that each of them takes.
 ghost use Rattle.std.specs.Prelude.{◌≡◌, map};
-ghost use Rattle.kms_json.specs.Operations.{operation_named, operation_in, target_row, fields_of};
+ghost use Rattle.std.specs.Str.{bytes_eq};
+ghost use Rattle.kms_json.specs.Operations.{target_of, name_row, operation_in, operation_named, fields_of};
 ghost use Rattle.kms_json.specs.Fields.{row_of};
 
 use crate::fields::Field;
-use crate::tables::aliases::{DELETE_ALIAS, LIST_ALIASES, PUT_ALIAS};
-use crate::tables::cryptography::{
-    DECRYPT, ENCRYPT, GENERATE_DATA_KEY, GENERATE_DATA_KEY_WITHOUT_PLAINTEXT, GENERATE_RANDOM,
-    RE_ENCRYPT,
+use crate::tables::{
+    KEY_ALONE, LIST_OF_KEY, aliases, cryptography, grants, keys, policies, rotation, states,
 };
-use crate::tables::grants::{
-    CREATE_GRANT, LIST_GRANTS, LIST_RETIRABLE_GRANTS, RETIRE_GRANT, REVOKE_GRANT,
-};
-use crate::tables::keys::{CREATE_KEY, DESCRIBE_KEY, LIST_KEYS, UPDATE_KEY_DESCRIPTION};
-use crate::tables::policies::{GET_KEY_POLICY, PUT_KEY_POLICY};
-use crate::tables::rotation::ENABLE_KEY_ROTATION;
-use crate::tables::states::SCHEDULE_KEY_DELETION;
-use crate::tables::{KEY_ALONE, LIST_OF_KEY};
 
 /// An operation of the AWS KMS API that this service serves.
 #[derive(Clone, Copy)]
@@ -54,76 +45,62 @@ pub enum Operation {
     GenerateRandom,
 }
 
-// The value of X-Amz-Target that names an operation.
+// The name of an operation.
 #[derive(Clone, Copy)]
-struct Target(&'static str, Operation);
+struct Name(&'static str, Operation);
 
-const TARGETS: [Target; 31] = [
-    Target("TrentService.CreateKey", Operation::CreateKey),
-    Target("TrentService.DescribeKey", Operation::DescribeKey),
-    Target("TrentService.ListKeys", Operation::ListKeys),
-    Target("TrentService.PutKeyPolicy", Operation::PutKeyPolicy),
-    Target("TrentService.GetKeyPolicy", Operation::GetKeyPolicy),
-    Target("TrentService.ListKeyPolicies", Operation::ListKeyPolicies),
-    Target(
-        "TrentService.UpdateKeyDescription",
-        Operation::UpdateKeyDescription,
-    ),
-    Target("TrentService.EnableKey", Operation::EnableKey),
-    Target("TrentService.DisableKey", Operation::DisableKey),
-    Target(
-        "TrentService.ScheduleKeyDeletion",
-        Operation::ScheduleKeyDeletion,
-    ),
-    Target(
-        "TrentService.CancelKeyDeletion",
-        Operation::CancelKeyDeletion,
-    ),
-    Target(
-        "TrentService.EnableKeyRotation",
-        Operation::EnableKeyRotation,
-    ),
-    Target(
-        "TrentService.DisableKeyRotation",
-        Operation::DisableKeyRotation,
-    ),
-    Target(
-        "TrentService.RotateKeyOnDemand",
-        Operation::RotateKeyOnDemand,
-    ),
-    Target(
-        "TrentService.GetKeyRotationStatus",
-        Operation::GetKeyRotationStatus,
-    ),
-    Target("TrentService.ListKeyRotations", Operation::ListKeyRotations),
-    Target("TrentService.CreateAlias", Operation::CreateAlias),
-    Target("TrentService.UpdateAlias", Operation::UpdateAlias),
-    Target("TrentService.DeleteAlias", Operation::DeleteAlias),
-    Target("TrentService.ListAliases", Operation::ListAliases),
-    Target("TrentService.CreateGrant", Operation::CreateGrant),
-    Target("TrentService.RetireGrant", Operation::RetireGrant),
-    Target("TrentService.RevokeGrant", Operation::RevokeGrant),
-    Target("TrentService.ListGrants", Operation::ListGrants),
-    Target(
-        "TrentService.ListRetirableGrants",
-        Operation::ListRetirableGrants,
-    ),
-    Target("TrentService.Encrypt", Operation::Encrypt),
-    Target("TrentService.Decrypt", Operation::Decrypt),
-    Target("TrentService.ReEncrypt", Operation::ReEncrypt),
-    Target("TrentService.GenerateDataKey", Operation::GenerateDataKey),
-    Target(
-        "TrentService.GenerateDataKeyWithoutPlaintext",
+const NAMES: [Name; 31] = [
+    Name("CreateKey", Operation::CreateKey),
+    Name("DescribeKey", Operation::DescribeKey),
+    Name("ListKeys", Operation::ListKeys),
+    Name("PutKeyPolicy", Operation::PutKeyPolicy),
+    Name("GetKeyPolicy", Operation::GetKeyPolicy),
+    Name("ListKeyPolicies", Operation::ListKeyPolicies),
+    Name("UpdateKeyDescription", Operation::UpdateKeyDescription),
+    Name("EnableKey", Operation::EnableKey),
+    Name("DisableKey", Operation::DisableKey),
+    Name("ScheduleKeyDeletion", Operation::ScheduleKeyDeletion),
+    Name("CancelKeyDeletion", Operation::CancelKeyDeletion),
+    Name("EnableKeyRotation", Operation::EnableKeyRotation),
+    Name("DisableKeyRotation", Operation::DisableKeyRotation),
+    Name("RotateKeyOnDemand", Operation::RotateKeyOnDemand),
+    Name("GetKeyRotationStatus", Operation::GetKeyRotationStatus),
+    Name("ListKeyRotations", Operation::ListKeyRotations),
+    Name("CreateAlias", Operation::CreateAlias),
+    Name("UpdateAlias", Operation::UpdateAlias),
+    Name("DeleteAlias", Operation::DeleteAlias),
+    Name("ListAliases", Operation::ListAliases),
+    Name("CreateGrant", Operation::CreateGrant),
+    Name("RetireGrant", Operation::RetireGrant),
+    Name("RevokeGrant", Operation::RevokeGrant),
+    Name("ListGrants", Operation::ListGrants),
+    Name("ListRetirableGrants", Operation::ListRetirableGrants),
+    Name("Encrypt", Operation::Encrypt),
+    Name("Decrypt", Operation::Decrypt),
+    Name("ReEncrypt", Operation::ReEncrypt),
+    Name("GenerateDataKey", Operation::GenerateDataKey),
+    Name(
+        "GenerateDataKeyWithoutPlaintext",
         Operation::GenerateDataKeyWithoutPlaintext,
     ),
-    Target("TrentService.GenerateRandom", Operation::GenerateRandom),
+    Name("GenerateRandom", Operation::GenerateRandom),
 ];
 
-fn named(targets: &[Target], target: &[u8]) -> Option<Operation>
-    ensures { result ≡ operation_in (map target_row targets.now) target.now }
+// Whether a value of X-Amz-Target is the service's name, a full stop and this name.
+fn is_target_of(target: &[u8], name: &str) -> bool
+    ensures { result ≡ bytes_eq target.now (target_of name.now) }
 {
-    for row in targets {
-        if target == row.0.as_bytes() {
+    match target.strip_prefix(b"TrentService.") {
+        Some(rest) => rest == name.as_bytes(),
+        None => false,
+    }
+}
+
+fn named(names: &[Name], target: &[u8]) -> Option<Operation>
+    ensures { result ≡ operation_in (map name_row names.now) target.now }
+{
+    for row in names {
+        if is_target_of(target, row.0) {
             return Some(row.1);
         }
     }
@@ -134,7 +111,7 @@ fn named(targets: &[Target], target: &[u8]) -> Option<Operation>
 pub fn operation_of(target: &[u8]) -> Option<Operation>
     ensures { result ≡ operation_named target.now }
 {
-    named(&TARGETS, target)
+    named(&NAMES, target)
 }
 
 /// The fields of an operation's body, in the order in which they are judged.
@@ -142,36 +119,37 @@ pub fn fields(operation: Operation) -> &'static [Field]
     ensures { map row_of result.now ≡ fields_of operation }
 {
     match operation {
-        Operation::CreateKey => &CREATE_KEY,
-        Operation::DescribeKey => &DESCRIBE_KEY,
-        Operation::ListKeys => &LIST_KEYS,
-        Operation::PutKeyPolicy => &PUT_KEY_POLICY,
-        Operation::GetKeyPolicy => &GET_KEY_POLICY,
+        Operation::CreateKey => &keys::CREATE_KEY,
+        Operation::DescribeKey => &keys::DESCRIBE_KEY,
+        Operation::ListKeys => &keys::LIST_KEYS,
+        Operation::PutKeyPolicy => &policies::PUT_KEY_POLICY,
+        Operation::GetKeyPolicy => &policies::GET_KEY_POLICY,
         Operation::ListKeyPolicies => &LIST_OF_KEY,
-        Operation::UpdateKeyDescription => &UPDATE_KEY_DESCRIPTION,
+        Operation::UpdateKeyDescription => &keys::UPDATE_KEY_DESCRIPTION,
         Operation::EnableKey => &KEY_ALONE,
         Operation::DisableKey => &KEY_ALONE,
-        Operation::ScheduleKeyDeletion => &SCHEDULE_KEY_DELETION,
+        Operation::ScheduleKeyDeletion => &states::SCHEDULE_KEY_DELETION,
         Operation::CancelKeyDeletion => &KEY_ALONE,
-        Operation::EnableKeyRotation => &ENABLE_KEY_ROTATION,
+        Operation::EnableKeyRotation => &rotation::ENABLE_KEY_ROTATION,
         Operation::DisableKeyRotation => &KEY_ALONE,
         Operation::RotateKeyOnDemand => &KEY_ALONE,
         Operation::GetKeyRotationStatus => &KEY_ALONE,
         Operation::ListKeyRotations => &LIST_OF_KEY,
-        Operation::CreateAlias => &PUT_ALIAS,
-        Operation::UpdateAlias => &PUT_ALIAS,
-        Operation::DeleteAlias => &DELETE_ALIAS,
-        Operation::ListAliases => &LIST_ALIASES,
-        Operation::CreateGrant => &CREATE_GRANT,
-        Operation::RetireGrant => &RETIRE_GRANT,
-        Operation::RevokeGrant => &REVOKE_GRANT,
-        Operation::ListGrants => &LIST_GRANTS,
-        Operation::ListRetirableGrants => &LIST_RETIRABLE_GRANTS,
-        Operation::Encrypt => &ENCRYPT,
-        Operation::Decrypt => &DECRYPT,
-        Operation::ReEncrypt => &RE_ENCRYPT,
-        Operation::GenerateDataKey => &GENERATE_DATA_KEY,
-        Operation::GenerateDataKeyWithoutPlaintext => &GENERATE_DATA_KEY_WITHOUT_PLAINTEXT,
-        Operation::GenerateRandom => &GENERATE_RANDOM,
+        Operation::CreateAlias => &aliases::PUT_ALIAS,
+        Operation::UpdateAlias => &aliases::PUT_ALIAS,
+        Operation::DeleteAlias => &aliases::DELETE_ALIAS,
+        Operation::ListAliases => &aliases::LIST_ALIASES,
+        Operation::CreateGrant => &grants::CREATE_GRANT,
+        Operation::RetireGrant => &grants::RETIRE_GRANT,
+        Operation::RevokeGrant => &grants::REVOKE_GRANT,
+        Operation::ListGrants => &grants::LIST_GRANTS,
+        Operation::ListRetirableGrants => &grants::LIST_RETIRABLE_GRANTS,
+        Operation::Encrypt => &cryptography::ENCRYPT,
+        Operation::Decrypt => &cryptography::DECRYPT,
+        Operation::ReEncrypt => &cryptography::RE_ENCRYPT,
+        Operation::GenerateDataKey => &cryptography::GENERATE_DATA_KEY,
+        Operation::GenerateDataKeyWithoutPlaintext =>
+            &cryptography::GENERATE_DATA_KEY_WITHOUT_PLAINTEXT,
+        Operation::GenerateRandom => &cryptography::GENERATE_RANDOM,
     }
 }

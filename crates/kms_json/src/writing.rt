@@ -15,40 +15,34 @@ mod states;
 
 use crate::exceptions::refusal_value;
 use crate::replies::Reply;
-use aliases::alias_list;
 use cryptography::{data_key, decrypted, encrypted, random, re_encrypted, sealed_data_key};
-use grants::{grant_list, granted};
-use keys::{key_list, metadata};
 use kms_names::{Bytes, NoMemory};
-use policies::{key_policies, key_policy};
-use rotation::{rotated, rotation, rotation_list};
 use serde_json::{Map, Value};
-use states::{cancelled, deletion};
 use std::alloc::Global;
 
 fn reply_value(alloc: Global, reply: &Reply) -> Result<Value, NoMemory>
     ensures { IfOk result (λ v. view v ≡ reply_data reply.now) }
 {
     match reply {
-        Reply::Metadata(key) => metadata(alloc, key),
-        Reply::KeyPolicy { policy } => key_policy(alloc, policy.as_str()),
+        Reply::Metadata(key) => keys::metadata(alloc, key),
+        Reply::KeyPolicy { policy } => policies::key_policy(alloc, policy.as_str()),
         Reply::DeletionScheduled {
             arn,
             deletion_date,
             days,
-        } => deletion(alloc, arn.as_str(), *deletion_date, *days),
-        Reply::DeletionCancelled { arn } => cancelled(alloc, arn.as_str()),
-        Reply::Rotated { key } => rotated(alloc, key),
+        } => states::deletion(alloc, arn.as_str(), *deletion_date, *days),
+        Reply::DeletionCancelled { arn } => states::cancelled(alloc, arn.as_str()),
+        Reply::Rotated { key } => rotation::rotated(alloc, key),
         Reply::RotationStatus {
             key,
             rotation: status,
-        } => rotation(alloc, key, *status),
-        Reply::Keys(list) => key_list(alloc, list),
-        Reply::KeyPolicyNames => key_policies(alloc),
-        Reply::Rotations(list) => rotation_list(alloc, list),
-        Reply::Aliases(list) => alias_list(alloc, list),
-        Reply::Granted { grant } => granted(alloc, grant),
-        Reply::Grants(list) => grant_list(alloc, list),
+        } => rotation::rotation(alloc, key, *status),
+        Reply::Keys(list) => keys::key_list(alloc, list),
+        Reply::KeyPolicyNames => policies::key_policies(alloc),
+        Reply::Rotations(list) => rotation::rotation_list(alloc, list),
+        Reply::Aliases(list) => aliases::alias_list(alloc, list),
+        Reply::Granted { grant } => grants::granted(alloc, grant),
+        Reply::Grants(list) => grants::grant_list(alloc, list),
         Reply::Encrypted { blob, arn } => encrypted(alloc, blob, arn.as_str()),
         Reply::Decrypted { plaintext, arn } => decrypted(alloc, plaintext, arn.as_str()),
         Reply::ReEncrypted {

@@ -1,3 +1,4 @@
 pub mod Settings
 pub mod Files
+pub mod Statuses
 pub mod Program

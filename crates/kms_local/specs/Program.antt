@@ -8,6 +8,7 @@ use Rattle.account_steps.specs.declared.facts.RealmFacts.{RealmFacts}
 use Rattle.kms_config.specs.declared.config.Config.{Config}
 use Rattle.kms_session.specs.declared.trust.Trust.{Trust}
 use Rattle.kms_session.specs.declared.trust.Trust.TheVariants.{Signed}
+use Rattle.kms_local.specs.Statuses.{well, misused, refused, cut_off, unread, unwritten, no_memory}
 use Rattle.kms_local.specs.declared.settings.Settings.{Settings}
 use Rattle.kms_local.specs.declared.settings.RunOption.{RunOption}
 use Rattle.kms_local.specs.declared.settings.RunOption.TheVariants.{Account, Region, Root, Boot, As}
@@ -62,12 +63,12 @@ SaysLine line old new = SendsWhole old new line ⊎ SendsShort old new line
 -- ---- statuses
 
 abbrev pub status_of_end : SessionEnd → ℕ
-status_of_end Ended = 0
-status_of_end Closed = 0
-status_of_end CutOff = 4
-status_of_end ReadFault = 5
-status_of_end WriteFault = 6
-status_of_end NoMemory = 7
+status_of_end Ended = well
+status_of_end Closed = well
+status_of_end CutOff = cut_off
+status_of_end ReadFault = unread
+status_of_end WriteFault = unwritten
+status_of_end NoMemory = no_memory
 
 -- One session is served from an empty history by the one pass of a service, and ends so. The history is at last exactly the session's
 -- own entries, and each answer stands on a beginning of it.
@@ -90,8 +91,8 @@ pub record Says (line : List ℕ) (owed status : ℕ) (old new : Around) : Type 
 
 -- the line is written whole, and the status is 0; or it can't be, and the status is 6
 pub data Tells (line : List ℕ) (status : ℕ) (old new : Around) : Type 0 where
-  whole : SendsWhole old.wire new.wire line → status ≡ 0 → new.clock ≡ old.clock → Tells line status old new
-  short : SendsShort old.wire new.wire line → status ≡ 6 → new.clock ≡ old.clock → Tells line status old new
+  whole : SendsWhole old.wire new.wire line → status ≡ well → new.clock ≡ old.clock → Tells line status old new
+  short : SendsShort old.wire new.wire line → status ≡ unwritten → new.clock ≡ old.clock → Tells line status old new
 
 -- nothing is written and the clock isn't asked
 pub record Rests (owed status : ℕ) (old new : Around) : Type 0 where
@@ -101,38 +102,38 @@ pub record Rests (owed status : ℕ) (old new : Around) : Type 0 where
 
 -- the line of a path is written, as far as it can be, and the status is 3; or there is no memory for the line
 abbrev pub Refuses : List ℕ → ℕ → Around → Around → Type 0
-Refuses path status old new = Says (refused_line path) 3 status old new ⊎ Rests 7 status old new
+Refuses path status old new = Says (refused_line path) refused status old new ⊎ Rests no_memory status old new
 
 -- ---- commands
 
 -- what `run` with values does: a session by what they stand for, or the line of the first one that has not its form
 pub data RunsValues (values : RunValues) (status : ℕ) (old new : Around) : Type 0 where
   serves : (settings : Settings) → IsSettings values settings → Serves settings status old new → RunsValues values status old new
-  refuses : (option : RunOption) → IsRefusedAt values option → Says (refused_line (path_of option)) 3 status old new → RunsValues values status old new
-  lacks : Rests 7 status old new → RunsValues values status old new
+  refuses : (option : RunOption) → IsRefusedAt values option → Says (refused_line (path_of option)) refused status old new → RunsValues values status old new
+  lacks : Rests no_memory status old new → RunsValues values status old new
 
 -- the file was asked for once, and there is no configuration in it: the line of its first fault, or none where it can't be read
 pub data RunsNoFile (file : List ℕ) (status : ℕ) (old new : Around) : Type 0 where
-  refuses : (path : List ℕ) → IsFileRefused old.shelf file path → Says (refused_line path) 3 status old new → RunsNoFile file status old new
-  too_long : IsFileTooLong old.shelf file → Says (refused_line (codes "/")) 3 status old new → RunsNoFile file status old new
-  fails : RoseBy 1 old.shelf.faults new.shelf.faults → Rests 5 status old new → RunsNoFile file status old new
+  refuses : (path : List ℕ) → IsFileRefused old.shelf file path → Says (refused_line path) refused status old new → RunsNoFile file status old new
+  too_long : IsFileTooLong old.shelf file → Says (refused_line (codes "/")) refused status old new → RunsNoFile file status old new
+  fails : RoseBy 1 old.shelf.faults new.shelf.faults → Rests unread status old new → RunsNoFile file status old new
 
 -- what `run` with a file does, once the file is a configuration: a session, or the line of a caller who is nobody of its account
 pub data RunsConfig (config : Config) (caller : Option (List ℕ)) (status : ℕ) (old new : Around) : Type 0 where
   serves : (settings : Settings) → IsConfigured config caller settings → Serves settings status old new → RunsConfig config caller status old new
-  refuses : IsNobody config caller → Says (refused_line (path_of As)) 3 status old new → RunsConfig config caller status old new
-  lacks : Rests 7 status old new → RunsConfig config caller status old new
+  refuses : IsNobody config caller → Says (refused_line (path_of As)) refused status old new → RunsConfig config caller status old new
+  lacks : Rests no_memory status old new → RunsConfig config caller status old new
 
 -- what `check` does, once the file is a configuration: the line of its numbers
 pub data Checks (config : Config) (status : ℕ) (old new : Around) : Type 0 where
   tells : Tells (checked_line (length config.credentials) (length config.facts.identities)) status old new → Checks config status old new
-  lacks : Rests 7 status old new → Checks config status old new
+  lacks : Rests no_memory status old new → Checks config status old new
 
 -- what a command with a file does, where this is what it does with a configuration
 pub data WithFile (file : List ℕ) (status : ℕ) (old new : Around) (Does : Config → Type 0) : Type 0 where
   configured : (config : Config) → IsFileOf old.shelf file config → Asks old.shelf file new.shelf → Does config → WithFile file status old new Does
   not_configured : RunsNoFile file status old new → Asks old.shelf file new.shelf → WithFile file status old new Does
-  lacks : Rests 7 status old new → MayAsk old.shelf file new.shelf → WithFile file status old new Does
+  lacks : Rests no_memory status old new → MayAsk old.shelf file new.shelf → WithFile file status old new Does
 
 -- ---- all that the program uses
 
@@ -178,8 +179,8 @@ wanted_of values = record { address = values.address; workers = values.workers; 
 
 -- Lines are written. If all is well the status is 0, or 6 where they can't be written whole; else it is 5 whether they can or not.
 abbrev pub Reports : Bool → List ℕ → ℕ → Wire → Wire → Type 0
-Reports true lines status old new = (SendsWhole old new lines × (status ≡ 0)) ⊎ (SendsShort old new lines × (status ≡ 6))
-Reports false lines status old new = SaysLine lines old new × (status ≡ 5)
+Reports true lines status old new = (SendsWhole old new lines × (status ≡ well)) ⊎ (SendsShort old new lines × (status ≡ unwritten))
+Reports false lines status old new = SaysLine lines old new × (status ≡ unread)
 
 abbrev pub around_door : Everything → Surroundings
 around_door all = surroundings all.door all.clocks
@@ -190,9 +191,9 @@ pub data ServesConfig (config : Config) (values : ServeValues) (status : ℕ) (o
   serves : (served : Served) → ServesDoor config.facts (Signed config.credentials) (wanted_of values) served (around_door old) (around_door new)
       → Reports served.is_whole (served_line served.connections served.front) status old.wire new.wire → ServesConfig config values status old new
   serves_unsaid : (served : Served) → ServesDoor config.facts (Signed config.credentials) (wanted_of values) served (around_door old) (around_door new)
-      → new.wire ≡ old.wire → status ≡ 7 → ServesConfig config values status old new
-  finds_shut : FindsShut (wanted_of values) (around_door old) (around_door new) → new.wire ≡ old.wire → status ≡ 5 → ServesConfig config values status old new
-  lacks : OpensNothing (wanted_of values) (around_door old) (around_door new) → new.wire ≡ old.wire → status ≡ 7 → ServesConfig config values status old new
+      → new.wire ≡ old.wire → status ≡ no_memory → ServesConfig config values status old new
+  finds_shut : FindsShut (wanted_of values) (around_door old) (around_door new) → new.wire ≡ old.wire → status ≡ unread → ServesConfig config values status old new
+  lacks : OpensNothing (wanted_of values) (around_door old) (around_door new) → new.wire ≡ old.wire → status ≡ no_memory → ServesConfig config values status old new
 
 -- what `serve` does: the file was asked for, and then the door
 pub data ServesFile (values : ServeValues) (status : ℕ) (old new : Everything) : Type 0 where
@@ -204,13 +205,13 @@ pub data ServesFile (values : ServeValues) (status : ℕ) (old new : Everything)
 -- what `load` does: the lines that sum up a run of its requests; or there is no memory
 pub data Sums (seed requests status : ℕ) (old new : Wire) : Type 0 where
   sums : (lines : List ℕ) → Summarizes seed requests lines → Reports true lines status old new → Sums seed requests status old new
-  lacks : new ≡ old → status ≡ 7 → Sums seed requests status old new
+  lacks : new ≡ old → status ≡ no_memory → Sums seed requests status old new
 
 -- ---- the program
 
 -- what it does for a command, or for words that are none
 abbrev pub Does : Option Command → ℕ → Everything → Everything → Type 0
-Does None status old new = Says usage_line 2 status (one_of old) (one_of new) × AsksNothing old new
+Does None status old new = Says usage_line misused status (one_of old) (one_of new) × AsksNothing old new
 Does (Some (run values)) status old new = RunsValues values status (one_of old) (one_of new) × (new.shelf ≡ old.shelf) × LeavesOthers old new
 Does (Some (run_file file caller)) status old new = WithFile file status (one_of old) (one_of new) (λ config. RunsConfig config caller status (one_of old) (one_of new)) × LeavesOthers old new
 Does (Some (check file)) status old new = WithFile file status (one_of old) (one_of new) (λ config. Checks config status (one_of old) (one_of new)) × AsksNone old new
@@ -219,4 +220,4 @@ Does (Some (load seed requests)) status old new = Sums seed requests status old.
 
 -- what it does for these words; or there is no memory to read them
 abbrev pub Runs : List (List ℕ) → ℕ → Everything → Everything → Type 0
-Runs words status old new = Does (command_of words) status old new ⊎ (Rests 7 status (one_of old) (one_of new) × AsksNothing old new)
+Runs words status old new = Does (command_of words) status old new ⊎ (Rests no_memory status (one_of old) (one_of new) × AsksNothing old new)

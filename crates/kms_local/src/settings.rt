@@ -12,7 +12,7 @@ ghost use Rattle.kms_local.specs.Settings.{boot_of, IsSettings, IsConfigured, Is
 use account_steps::RealmFacts;
 use authority::IdentityList;
 use hex::FromHex;
-use kms_config::Config;
+use kms_config::{Config, if_of_account};
 use kms_names::{AccountNumber, NameFault, NoMemory, Principal, Text, is_region, read_principal};
 use kms_session::Trust;
 use kms_words::{RunWords, number_or};
@@ -65,17 +65,6 @@ fn read_root(text: &str) -> Option<[u8; 32]>
     <[u8; 32] as FromHex>::from_hex(text).ok()
 }
 
-// The principal, if it is of the account.
-fn if_of(principal: Principal, account: &AccountNumber) -> Option<Principal>
-    ensures { result ≡ (if bytes_eq (account_of principal) account.now then Some principal else None) }
-{
-    if principal.account() == *account {
-        Some(principal)
-    } else {
-        None
-    }
-}
-
 // The principal of the account whose ARN a text is.
 fn read_caller(
     alloc: Global,
@@ -85,7 +74,7 @@ fn read_caller(
     ensures { IfOk result (Names account.now text.now) }
 {
     match read_principal(alloc, text) {
-        Ok(principal) => Ok(if_of(principal, account)),
+        Ok(principal) => Ok(if_of_account(principal, account)),
         Err(NameFault::BadArn | NameFault::BadAlias | NameFault::BadId) => Ok(None),
         Err(NameFault::NoMemory) => Err(NoMemory),
     }

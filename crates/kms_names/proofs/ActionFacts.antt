@@ -1,82 +1,26 @@
 -- The numbers of actions, and the bits of a set of them.
-use Rattle.std.proofs.Common.{◌≡◌, ◌≢◌, ◌⊎◌, inl, inr, ℕ, zero, suc, ◌<◌, ◌≤◌, ◌+◌, ◌==◌, Bool, true, false, ◌||◌, refl, sym, ◌∙◌, ◌*◌, ◌^◌, ◌%◌, ap, subst, arith, lit<, get_or, w32}
+use Rattle.std.proofs.Common.{◌≡◌, ◌≢◌, ◌⊎◌, inl, inr, ℕ, zero, suc, ◌<◌, ◌≤◌, ◌+◌, ◌==◌, Bool, true, false, ◌||◌, refl, sym, ◌∙◌, ◌*◌, ◌^◌, ◌%◌, ap, subst, arith, lit<, lit≤, get_or, List, length, w64}
 use Rattle.std.specs.Prelude.{max, bit_or}
 use Rattle.std.proofs.lemmas.Bool.{eqb-true, eq-eqb}
 use Rattle.std.specs.Int.{bit_at}
 use Rattle.std.proofs.lemmas.Nat.Bits.{bit_at_set_same, bit_at_set_other, bit_at_or, bit_at-lt}
 use Rattle.kms_names.specs.Action.{all_actions, action_number}
-use Rattle.kms_names.specs.ActionSet.{has_action}
+use Rattle.kms_names.specs.ActionSet.{has_action, with_action}
 use Rattle.kms_names.specs.declared.actions.Action.{Action}
 use Rattle.kms_names.specs.declared.actions.Action.TheVariants as action
 
-pub number_below : (a : Action) → action_number a < 32
+pub number_below : (a : Action) → action_number a < length all_actions
 number_below action.CreateKey = lit< tt
-number_below action.DescribeKey = lit< tt
-number_below action.ListKeys = lit< tt
-number_below action.EnableKey = lit< tt
-number_below action.DisableKey = lit< tt
-number_below action.ScheduleKeyDeletion = lit< tt
-number_below action.CancelKeyDeletion = lit< tt
-number_below action.EnableKeyRotation = lit< tt
-number_below action.DisableKeyRotation = lit< tt
-number_below action.GetKeyRotationStatus = lit< tt
-number_below action.RotateKeyOnDemand = lit< tt
-number_below action.ListKeyRotations = lit< tt
-number_below action.PutKeyPolicy = lit< tt
-number_below action.GetKeyPolicy = lit< tt
-number_below action.ListKeyPolicies = lit< tt
-number_below action.UpdateKeyDescription = lit< tt
-number_below action.CreateAlias = lit< tt
-number_below action.UpdateAlias = lit< tt
-number_below action.DeleteAlias = lit< tt
-number_below action.ListAliases = lit< tt
-number_below action.CreateGrant = lit< tt
-number_below action.ListGrants = lit< tt
-number_below action.ListRetirableGrants = lit< tt
-number_below action.RetireGrant = lit< tt
-number_below action.RevokeGrant = lit< tt
-number_below action.Encrypt = lit< tt
-number_below action.Decrypt = lit< tt
-number_below action.ReEncryptFrom = lit< tt
-number_below action.GenerateDataKey = lit< tt
-number_below action.GenerateDataKeyWithoutPlaintext = lit< tt
-number_below action.GenerateRandom = lit< tt
-number_below action.ReEncryptTo = lit< tt
+number_below _ = lit< tt
+
+-- a set of 64 bits has room for each
+has_bit : (a : Action) → action_number a < 64
+has_bit a = let few : length all_actions ≤ 64 = lit≤ tt in let small = number_below a in omega arith
 
 -- an action stands at its number
 pub at_number : (a d : Action) → get_or all_actions (action_number a) d ≡ a
 at_number action.CreateKey d = refl
-at_number action.DescribeKey d = refl
-at_number action.ListKeys d = refl
-at_number action.EnableKey d = refl
-at_number action.DisableKey d = refl
-at_number action.ScheduleKeyDeletion d = refl
-at_number action.CancelKeyDeletion d = refl
-at_number action.EnableKeyRotation d = refl
-at_number action.DisableKeyRotation d = refl
-at_number action.GetKeyRotationStatus d = refl
-at_number action.RotateKeyOnDemand d = refl
-at_number action.ListKeyRotations d = refl
-at_number action.PutKeyPolicy d = refl
-at_number action.GetKeyPolicy d = refl
-at_number action.ListKeyPolicies d = refl
-at_number action.UpdateKeyDescription d = refl
-at_number action.CreateAlias d = refl
-at_number action.UpdateAlias d = refl
-at_number action.DeleteAlias d = refl
-at_number action.ListAliases d = refl
-at_number action.CreateGrant d = refl
-at_number action.ListGrants d = refl
-at_number action.ListRetirableGrants d = refl
-at_number action.RetireGrant d = refl
-at_number action.RevokeGrant d = refl
-at_number action.Encrypt d = refl
-at_number action.Decrypt d = refl
-at_number action.ReEncryptFrom d = refl
-at_number action.GenerateDataKey d = refl
-at_number action.GenerateDataKeyWithoutPlaintext d = refl
-at_number action.GenerateRandom d = refl
-at_number action.ReEncryptTo d = refl
+at_number _ d = refl
 
 pub same_number : (a b : Action) → action_number a ≡ action_number b → a ≡ b
 same_number a b e = sym (at_number a a) ∙ (ap (λ n. get_or all_actions n a) e ∙ at_number b a)
@@ -106,12 +50,21 @@ or_bit (suc (suc n)) b la lb = absurd (omega arith)
 or_bit zero (suc (suc n)) la lb = absurd (omega arith)
 or_bit (suc zero) (suc (suc n)) la lb = absurd (omega arith)
 
-pub bit_added : (bits : ℕ) (a : Action) → has_action (bit_or bits (1 * 2 ^ action_number a % 2 ^ 32)) a ≡ true
-bit_added bits a = ap (λ b. b == 1) (bit_at_set_same w32 bits (action_number a) (number_below a))
+-- one shifted to the place of an action
+shifted : (a : Action) → 1 * 2 ^ action_number a % 2 ^ 64 ≡ 2 ^ action_number a
+shifted action.CreateKey = refl
+shifted _ = refl
 
-pub other_bits_stay : (bits same : ℕ) → bits ≡ same → (a other : Action) → other ≢ a → has_action (bit_or bits (1 * 2 ^ action_number a % 2 ^ 32)) other ≡ has_action same other
-other_bits_stay bits same e a other differ =
-    ap (λ b. b == 1) (bit_at_set_other w32 bits (action_number a) (number_below a) (action_number other) (λ n. differ (same_number other a n))) ∙ ap (λ x. has_action x other) e
+pub with_bit : (bits same : ℕ) → bits ≡ same → (a : Action) → bit_or bits (1 * 2 ^ action_number a % 2 ^ 64) ≡ with_action a same
+with_bit bits same e a = ap (bit_or bits) (shifted a) ∙ ap (with_action a) e
+
+pub has_added : (bits : ℕ) (a : Action) → has_action (with_action a bits) a ≡ true
+has_added bits a = ap (λ n. has_action (bit_or bits n) a) (sym (shifted a)) ∙ ap (λ b. b == 1) (bit_at_set_same w64 bits (action_number a) (has_bit a))
+
+pub has_others : (bits : ℕ) (a other : Action) → other ≢ a → has_action (with_action a bits) other ≡ has_action bits other
+has_others bits a other differ =
+    ap (λ n. has_action (bit_or bits n) other) (sym (shifted a))
+    ∙ ap (λ b. b == 1) (bit_at_set_other w64 bits (action_number a) (has_bit a) (action_number other) (λ n. differ (same_number other a n)))
 
 pub bits_or : (m n k l : ℕ) → m ≡ k → n ≡ l → (a : Action) → has_action (bit_or m n) a ≡ has_action k a || has_action l a
 bits_or m n k l e f a =
@@ -153,5 +106,5 @@ module _ (P : Action → Type 0) where
     all = λ a small p. elim (same_or_other a one) [ inl same ↦ absurd (none (subst P same p)) | inr other ↦ so_far.all a (before n one is a other small) p ];
   }
 
-  pub all_passed : (n bits : ℕ) → 32 ≤ n → IsSetOf P n bits → (a : Action) → (has_action bits a ≡ true → P a) × (P a → has_action bits a ≡ true)
-  all_passed n bits enough done a = (done.each a, λ p. let small : action_number a < 32 = number_below a in let within : action_number a < n = omega arith in done.all a within p)
+  pub all_passed : (n bits : ℕ) → length all_actions ≤ n → IsSetOf P n bits → (a : Action) → (has_action bits a ≡ true → P a) × (P a → has_action bits a ≡ true)
+  all_passed n bits enough done a = (done.each a, λ p. let small : action_number a < length all_actions = number_below a in let within : action_number a < n = omega arith in done.all a within p)

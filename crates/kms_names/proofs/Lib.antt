@@ -1,3 +1,4 @@
+pub mod DigitLemmas
 pub mod AsciiFacts
 pub mod GlobFacts
 pub mod GlobLoop

@@ -1,5 +1,6 @@
 -- Actions: their names, and their order.
-use Rattle.std.specs.Prelude.{ℕ, List, [], ◌∷◌, ◌++◌, codes}
+use Rattle.std.specs.Prelude.{ℕ, ◌==◌, Bool, List, [], ◌∷◌, ◌++◌, codes}
+use Rattle.std.specs.List.{list_any}
 use Rattle.kms_names.specs.declared.actions.Action.{Action}
 use Rattle.kms_names.specs.declared.actions.Action.TheVariants as action
 
@@ -81,3 +82,7 @@ action_number action.GenerateDataKey = 28
 action_number action.GenerateDataKeyWithoutPlaintext = 29
 action_number action.GenerateRandom = 30
 action_number action.ReEncryptTo = 31
+
+-- whether an action is one of these
+abbrev pub is_among : List Action → Action → Bool
+is_among actions a = list_any (λ b. action_number b == action_number a) actions

@@ -1,11 +1,13 @@
 -- Sets of grant operations.
-use Rattle.std.specs.Prelude.{◌≡◌, ℕ, Bool, true, List, [], ◌∷◌, filter}
+use Rattle.std.specs.Prelude.{◌≡◌, ℕ, Bool, true, if◌then◌else◌, List, [], ◌∷◌, filter, fold}
+use Rattle.std.specs.List.{list_any}
+use Rattle.std.specs.Str.{bytes_eq}
 use Rattle.kms_names.specs.declared.actions.Action.{Action}
 use Rattle.kms_names.specs.declared.actions.Action.TheVariants as action
 use Rattle.kms_names.specs.declared.operations.GrantOp.{GrantOp}
 use Rattle.kms_names.specs.declared.operations.GrantOp.TheVariants.{Encrypt, Decrypt, GenerateDataKey, GenerateDataKeyWithoutPlaintext, ReEncryptFrom, ReEncryptTo, CreateGrant, RetireGrant, DescribeKey}
-use Rattle.kms_names.specs.declared.operations.GrantOps.{GrantOps}
 use Rattle.kms_names.specs.Action.{action_name}
+use Rattle.kms_names.specs.ActionSet.{has_action, with_action}
 
 -- the action of a grant operation, whose name it has
 abbrev pub action_of : GrantOp → Action
@@ -27,22 +29,26 @@ abbrev pub all_grant_ops : List GrantOp
 all_grant_ops =
     Encrypt ∷ Decrypt ∷ GenerateDataKey ∷ GenerateDataKeyWithoutPlaintext ∷ ReEncryptFrom ∷ ReEncryptTo ∷ CreateGrant ∷ RetireGrant ∷ DescribeKey ∷ []
 
--- whether an operation is in a set
-abbrev pub contains : GrantOps → GrantOp → Bool
-contains ops Encrypt = ops.encrypt
-contains ops Decrypt = ops.decrypt
-contains ops GenerateDataKey = ops.generate_data_key
-contains ops GenerateDataKeyWithoutPlaintext = ops.generate_data_key_without_plaintext
-contains ops ReEncryptFrom = ops.re_encrypt_from
-contains ops ReEncryptTo = ops.re_encrypt_to
-contains ops CreateGrant = ops.create_grant
-contains ops RetireGrant = ops.retire_grant
-contains ops DescribeKey = ops.describe_key
+-- an operation is in the set of actions whose bits these are: its action is
+abbrev pub contains : ℕ → GrantOp → Bool
+contains ops op = has_action ops (action_of op)
+
+-- a set with one more operation
+abbrev pub with_op : GrantOp → ℕ → ℕ
+with_op op ops = with_action (action_of op) ops
+
+-- the set of the operations that pass a test
+abbrev pub those : (GrantOp → Bool) → ℕ
+those test = fold (λ ops op. if test op then with_op op ops else ops) 0 all_grant_ops
+
+-- whether one of these texts is the operation's name
+abbrev pub is_named : List (List ℕ) → GrantOp → Bool
+is_named names op = list_any (λ name. bytes_eq name (grant_op_name op)) names
 
 -- the operations of a set in order
-abbrev pub members : GrantOps → List GrantOp
+abbrev pub members : ℕ → List GrantOp
 members ops = filter (contains ops) all_grant_ops
 
 -- each operation of the one set is in the other
-abbrev pub IsSubset : GrantOps → GrantOps → Type 0
+abbrev pub IsSubset : ℕ → ℕ → Type 0
 IsSubset ops others = (op : GrantOp) → contains ops op ≡ true → contains others op ≡ true

@@ -1,7 +1,7 @@
 //! Sets of actions, and the globs of actions.
 
 ghost use Rattle.std.specs.Prelude.{◌≡◌, ◌≢◌, ◌↔◌, ◌<◌, ℕ, not, ◌||◌, true, false, Any, IfOk, IsTrue};
-ghost use Rattle.kms_names.specs.ActionSet.{IsActionLike, has_action};
+ghost use Rattle.kms_names.specs.ActionSet.{IsActionLike, has_action, with_action};
 ghost use Rattle.kms_names.specs.declared.actions.Action.{Action as ActionValue};
 
 use crate::actions::Action;
@@ -56,11 +56,11 @@ impl Action {
     }
 }
 
-/// A set of actions, in 4 bytes. Contracts see it as a number whose bit at the number of an action is set where the
+/// A set of actions, in 8 bytes. Contracts see it as a number whose bit at the number of an action is set where the
 /// action is in the set.
 #[derive(Clone, Copy)]
 pub struct ActionSet {
-    bits: u32,
+    bits: u64,
 }
 
 impl Model for ActionSet {
@@ -74,7 +74,8 @@ impl Model for ActionSet {
 impl ActionSet {
     /// The empty set.
     pub fn new() -> ActionSet
-        ensures { (action : ActionValue) → has_action result action ≡ false }
+        ensures zero { result ≡ 0 }
+        ensures empty { (action : ActionValue) → has_action result action ≡ false }
     {
         ActionSet { bits: 0 }
     }
@@ -95,6 +96,7 @@ impl ActionSet {
 
     /// Adds an action.
     pub fn insert(&mut self, action: Action)
+        ensures sum { self.new ≡ with_action action self.old }
         ensures added { has_action self.new action ≡ true }
         ensures others { (other : ActionValue) → other ≢ action → has_action self.new other ≡ has_action self.old other }
     {

@@ -1,5 +1,8 @@
-ghost use Rattle.std.specs.Prelude.{◌≡◌};
+ghost use Rattle.std.specs.Prelude.{◌≡◌, IfOk};
 ghost use Rattle.kms_names.specs.Action.{action_name, action_number, action_text};
+
+use crate::faults::NoMemory;
+use crate::parts::after;
 
 /// The name of an operation, with `ReEncryptFrom` and `ReEncryptTo` for `ReEncrypt`. The order is that of the
 /// table of operations, with `ReEncryptFrom` in the place of `ReEncrypt`, and `ReEncryptTo` last.
@@ -76,6 +79,13 @@ impl Action {
         Action::ReEncryptTo,
     ];
 
+    /// A copy that equals its source; no memory is taken.
+    pub fn copy(&self) -> Result<Action, NoMemory>
+        ensures { IfOk result (λ x. x ≡ self.now) }
+    {
+        Ok(*self)
+    }
+
     /// The place in that order, counted from 0.
     pub fn number(self) -> u32
         ensures { result ≡ action_number self }
@@ -87,39 +97,9 @@ impl Action {
     pub fn name(self) -> &'static str
         ensures { result.now ≡ action_name self }
     {
-        match self {
-            Action::CreateKey => "CreateKey",
-            Action::DescribeKey => "DescribeKey",
-            Action::ListKeys => "ListKeys",
-            Action::EnableKey => "EnableKey",
-            Action::DisableKey => "DisableKey",
-            Action::ScheduleKeyDeletion => "ScheduleKeyDeletion",
-            Action::CancelKeyDeletion => "CancelKeyDeletion",
-            Action::EnableKeyRotation => "EnableKeyRotation",
-            Action::DisableKeyRotation => "DisableKeyRotation",
-            Action::GetKeyRotationStatus => "GetKeyRotationStatus",
-            Action::RotateKeyOnDemand => "RotateKeyOnDemand",
-            Action::ListKeyRotations => "ListKeyRotations",
-            Action::PutKeyPolicy => "PutKeyPolicy",
-            Action::GetKeyPolicy => "GetKeyPolicy",
-            Action::ListKeyPolicies => "ListKeyPolicies",
-            Action::UpdateKeyDescription => "UpdateKeyDescription",
-            Action::CreateAlias => "CreateAlias",
-            Action::UpdateAlias => "UpdateAlias",
-            Action::DeleteAlias => "DeleteAlias",
-            Action::ListAliases => "ListAliases",
-            Action::CreateGrant => "CreateGrant",
-            Action::ListGrants => "ListGrants",
-            Action::ListRetirableGrants => "ListRetirableGrants",
-            Action::RetireGrant => "RetireGrant",
-            Action::RevokeGrant => "RevokeGrant",
-            Action::Encrypt => "Encrypt",
-            Action::Decrypt => "Decrypt",
-            Action::ReEncryptFrom => "ReEncryptFrom",
-            Action::GenerateDataKey => "GenerateDataKey",
-            Action::GenerateDataKeyWithoutPlaintext => "GenerateDataKeyWithoutPlaintext",
-            Action::GenerateRandom => "GenerateRandom",
-            Action::ReEncryptTo => "ReEncryptTo",
+        match after(self.text(), "kms:") {
+            Some(name) => name,
+            None => unreachable!(),
         }
     }
 

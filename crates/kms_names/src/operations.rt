@@ -1,10 +1,13 @@
-ghost use Rattle.std.specs.Prelude.{◌≡◌, ◌≢◌, ◌↔◌, ◌||◌, [], true, false, not, IsTrue, IfOk, MatchOption};
+ghost use Rattle.std.specs.Prelude.{◌≡◌, ◌≢◌, ◌↔◌, ◌||◌, ℕ, [], true, not, IsTrue, IfOk, MatchOption};
 ghost use Rattle.std.specs.List.{list_all, list_any};
-ghost use Rattle.kms_names.specs.GrantOps.{all_grant_ops, action_of, grant_op_name, contains, members, IsSubset};
+ghost use Rattle.kms_names.specs.GrantOps.{all_grant_ops, action_of, grant_op_name, contains, is_named, members, those, with_op, IsSubset};
 ghost use Rattle.kms_names.specs.declared.operations.GrantOp.{GrantOp};
 
+use crate::action_sets::ActionSet;
 use crate::actions::Action;
 use crate::faults::NoMemory;
+use crate::texts::Text;
+use std::marker::Model;
 
 /// An operation that a grant may permit. The order is that in which they are printed.
 #[derive(Clone, Copy)]
@@ -52,6 +55,13 @@ impl GrantOp {
         }
     }
 
+    /// A copy that equals its source; no memory is taken.
+    pub fn copy(&self) -> Result<GrantOp, NoMemory>
+        ensures { IfOk result (λ x. x ≡ self.now) }
+    {
+        Ok(*self)
+    }
+
     /// The action of the same name.
     pub fn action(self) -> Action
         ensures { result ≡ action_of self }
@@ -77,18 +87,25 @@ impl GrantOp {
     }
 }
 
-/// A set of grant operations: which of them are in it.
+/// A set of grant operations. Contracts see it as the set of their actions: a number whose bit at the number of an action
+/// is set where its operation is in the set.
 #[derive(Clone, Copy)]
 pub struct GrantOps {
-    pub encrypt: bool,
-    pub decrypt: bool,
-    pub generate_data_key: bool,
-    pub generate_data_key_without_plaintext: bool,
-    pub re_encrypt_from: bool,
-    pub re_encrypt_to: bool,
-    pub create_grant: bool,
-    pub retire_grant: bool,
-    pub describe_key: bool,
+    actions: ActionSet,
+}
+
+impl Model for GrantOps {
+    ghost Value = { ℕ };
+
+    ghost view = { λ s. s.actions };
+
+    ghost inverse = { λ n. record { actions = n } };
+}
+
+fn is_named(names: &[Text], op: GrantOp) -> bool
+    ensures { result ≡ is_named names.now op }
+{
+    names.iter().any(|name| name.as_str() == op.name())
 }
 
 impl GrantOps {
@@ -101,55 +118,42 @@ impl GrantOps {
 
     /// The empty set.
     pub fn new() -> GrantOps
-        ensures { members result ≡ [] }
+        ensures zero { result ≡ 0 }
+        ensures empty { members result ≡ [] }
     {
         GrantOps {
-            encrypt: false,
-            decrypt: false,
-            generate_data_key: false,
-            generate_data_key_without_plaintext: false,
-            re_encrypt_from: false,
-            re_encrypt_to: false,
-            create_grant: false,
-            retire_grant: false,
-            describe_key: false,
+            actions: ActionSet::new(),
         }
+    }
+
+    /// The set of the operations that these texts name; a text that names none is passed over. No memory is taken.
+    pub fn named(names: &[Text]) -> GrantOps
+        ensures sum { result ≡ those (is_named names.now) }
+        ensures each { (op : GrantOp) → contains result op ≡ is_named names.now op }
+    {
+        let mut ops = GrantOps::new();
+        for op in GrantOp::ALL {
+            if is_named(names, op) {
+                ops.insert(op);
+            }
+        }
+        ops
     }
 
     /// Whether an operation is in the set.
     pub fn contains(&self, op: GrantOp) -> bool
         ensures { result ≡ contains self.now op }
     {
-        match op {
-            GrantOp::Encrypt => self.encrypt,
-            GrantOp::Decrypt => self.decrypt,
-            GrantOp::GenerateDataKey => self.generate_data_key,
-            GrantOp::GenerateDataKeyWithoutPlaintext => self.generate_data_key_without_plaintext,
-            GrantOp::ReEncryptFrom => self.re_encrypt_from,
-            GrantOp::ReEncryptTo => self.re_encrypt_to,
-            GrantOp::CreateGrant => self.create_grant,
-            GrantOp::RetireGrant => self.retire_grant,
-            GrantOp::DescribeKey => self.describe_key,
-        }
+        self.actions.contains(op.action())
     }
 
     /// Adds an operation.
     pub fn insert(&mut self, op: GrantOp)
+        ensures sum { self.new ≡ with_op op self.old }
         ensures added { contains self.new op ≡ true }
         ensures others { (other : GrantOp) → other ≢ op → contains self.new other ≡ contains self.old other }
     {
-        match op {
-            GrantOp::Encrypt => self.encrypt = true,
-            GrantOp::Decrypt => self.decrypt = true,
-            GrantOp::GenerateDataKey => self.generate_data_key = true,
-            GrantOp::GenerateDataKeyWithoutPlaintext => self.generate_data_key_without_plaintext =
-                true,
-            GrantOp::ReEncryptFrom => self.re_encrypt_from = true,
-            GrantOp::ReEncryptTo => self.re_encrypt_to = true,
-            GrantOp::CreateGrant => self.create_grant = true,
-            GrantOp::RetireGrant => self.retire_grant = true,
-            GrantOp::DescribeKey => self.describe_key = true,
-        }
+        self.actions.insert(op.action());
     }
 
     /// Whether no operation is in the set.

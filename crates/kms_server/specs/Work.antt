@@ -1,5 +1,6 @@
 -- What one worker does.
 use Rattle.std.specs.Prelude.{◌≡◌, ◌<◌, ◌+◌, ℕ, List, [], ◌∷◌, Option, Some, None, true, false}
+use Rattle.kms_names.specs.Moment.{year_10000}
 use Rattle.kms_io.specs.Wire.{Wire, TellsMore, RoseBy}
 use Rattle.kms_io.specs.Listening.{Listening}
 use Rattle.kms_io.specs.Ear.{IsNewWire, KeepsGivenBack, TakesBack}
@@ -35,7 +36,7 @@ pub record Attends (trust : Trust) (old : WorkerState) (wire : Wire) (new : Work
   pub ends : EndsBy trust end (outside wire old.clock met) (outside last told left)
   pub back : TakesBack old.ear last new.ear
   pub moment : ℕ
-  pub before_year_10000 : moment < 253402300800
+  pub before_year_10000 : moment < year_10000
   pub tells : TellsMore told (moment ∷ []) new.clock
   pub house : WantsHouse left moment new.pass
   pub taken : new.taken ≡ old.taken

@@ -8,7 +8,7 @@ ghost use Rattle.publish_pass.specs.Pass.{Learns};
 ghost use Rattle.kms_server.specs.Crew.{Pairwise, Settles, FirstIsLongest, taken_by};
 ghost use Rattle.kms_server.specs.States.{state_of, states_of};
 
-use crate::worker::{Host, Worker, work};
+use crate::worker::{Workshop, Worker, work};
 use kms_io::{Clock, Ear, Gate};
 use publish_pass::{Pass, Realm, Service};
 use std::sync::Wait;
@@ -54,7 +54,7 @@ fn work_each<
     G: Gate + Sync,
     E: Ear + Send,
     C: Clock + Send + Drop,
->(host: &Host<'_, W, R, G>, crew: &mut [Worker<R, E, C>])
+>(host: &Workshop<'_, W, R, G>, crew: &mut [Worker<R, E, C>])
 where
     E::Conn: Send,
     requires some { 0 < length crew.old }
@@ -74,7 +74,7 @@ pub fn work_all<
     G: Gate + Sync,
     E: Ear + Send,
     C: Clock + Send + Drop,
->(host: &Host<'_, W, R, G>, crew: &mut [Worker<R, E, C>])
+>(host: &Workshop<'_, W, R, G>, crew: &mut [Worker<R, E, C>])
 where
     E::Conn: Send,
     requires some { 0 < length crew.old }

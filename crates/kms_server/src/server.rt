@@ -8,7 +8,7 @@ ghost use Rattle.kms_server.specs.States.{states_of};
 ghost use Rattle.kms_server.specs.Server.{wanted_by, surroundings, Fulfils};
 
 use crate::crew::{disband, gather, learn_all, settle_all, taken_by, took_all, work_all};
-use crate::worker::{Host, Worker};
+use crate::worker::{Workshop, Worker};
 use account_steps::RealmFacts;
 use kms_io::{Clock, Door, Ear, Gate, Opened};
 use kms_session::Trust;
@@ -87,7 +87,7 @@ fn serve_with<
     D: Door,
     G: Gate + Sync,
 >(
-    host: &Host<'_, W, R, G>,
+    host: &Workshop<'_, W, R, G>,
     passes: Vec<Pass<R>>,
     order: &Order<'_>,
     clocks: &mut Vec<C>,
@@ -155,7 +155,7 @@ where
     let Ok((service, passes)) = open_service::<W, R>(rt, alloc, opening) else {
         return Outcome::NoMemory;
     };
-    let host = Host {
+    let host = Workshop {
         rt,
         alloc,
         service: &service,

@@ -15,7 +15,7 @@ const PATIENCE: u64 = 16;
 
 /// What all workers serve with.
 #[derive(Drop)]
-pub struct Host<'a, W: Wait, R: Realm, G: Gate> {
+pub struct Workshop<'a, W: Wait, R: Realm, G: Gate> {
     pub rt: &'a W,
     pub alloc: Global,
     pub service: &'a Service<R>,
@@ -51,7 +51,7 @@ fn await_connection<E: Ear>(ear: &mut E) -> Option<E::Conn>
 // Serves a connection to its end and gives it back. What others posted is learnt before, what was learnt is
 // posted after, and housekeeping comes last, at one more answer of the clock.
 fn attend<W: Wait, R: Realm, G: Gate, E: Ear, C: Clock + Drop>(
-    host: &Host<'_, W, R, G>,
+    host: &Workshop<'_, W, R, G>,
     worker: &mut Worker<R, E, C>,
     connection: E::Conn,
 )
@@ -83,7 +83,7 @@ fn attend<W: Wait, R: Realm, G: Gate, E: Ear, C: Clock + Drop>(
 /// Takes as many connections as each worker does, one after another, and serves each; or gives up where the
 /// ear fails 16 times in a row.
 pub fn work<W: Wait, R: Realm, G: Gate, E: Ear, C: Clock + Drop>(
-    host: &Host<'_, W, R, G>,
+    host: &Workshop<'_, W, R, G>,
     worker: &mut Worker<R, E, C>,
 )
     requires trust { IsOfAccount R.facts.account host.now.trust.now }

@@ -16,7 +16,7 @@ use Rattle.http_front.specs.Message.{Message}
 use Rattle.std.proofs.Common.{Result, Err}
 use Rattle.kms_json.specs.declared.asks.AskBody.{AskBody}
 use Rattle.kms_json.specs.declared.asks.JsonFault.{JsonFault}
-use Rattle.kms_json.specs.declared.asks.JsonFault.TheVariants.{UnknownOperation, Serialization, Validation, InvalidAliasName, NoMemory}
+use Rattle.kms_json.specs.declared.asks.JsonFault.TheVariants.{UnknownOperation, Serialization, Validation, AliasName, NoMemory}
 use Rattle.kms_json.specs.declared.refusals.Refusal.{Refusal}
 use Rattle.kms_session.specs.Asked.{asked_in, after_in}
 use Rattle.kms_session.specs.declared.asked.After.{After}
@@ -145,7 +145,7 @@ pub refused_is : (r : Result AskBody Refusal) (fault : JsonFault) (refusal : Ref
 refused_is r UnknownOperation refusal is e = cc
 refused_is r Serialization refusal is e = cc
 refused_is r (Validation field) refusal is e = cc
-refused_is r InvalidAliasName refusal is e = cc
+refused_is r AliasName refusal is e = cc
 refused_is r NoMemory refusal is e = cc
 
 pub refused_plan : (caller : Principal) (c : ℕ) (m : Message) (fault : JsonFault) (refusal : Refusal) → AnswersFor (asked_in m) (Err fault) → Some refusal ≡ refusal_of fault

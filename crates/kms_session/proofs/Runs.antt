@@ -1,9 +1,10 @@
 -- How a run goes on.
 use Rattle.std.proofs.Common.{◌≡◌, ◌<◌, ◌+◌, ℕ, List, [], ◌∷◌, ◌++◌, Bool, true, false, ◌||◌, ◌==◌, refl, sym, ap, ◌∙◌, append_assoc, append-nil, add-zero, add_assoc, length, Option, length-append, subst, drop, arith}
+use Rattle.kms_names.specs.Moment.{year_10000}
 use Rattle.std.proofs.lemmas.List.{take-append-drop}
 use Rattle.kms_io.specs.Wire.{Wire, with_more, with_first, TellsMore}
 use Rattle.kms_io.specs.declared.link.Move.{Move}
-use Rattle.http_front.specs.Places.{Places, size_of}
+use Rattle.http_front.specs.Offsets.{Offsets, size_of}
 use Rattle.http_front.specs.declared.judge.HttpFault.{HttpFault}
 use Rattle.kms_session.specs.declared.trust.Trust.{Trust}
 use Rattle.kms_session.specs.Inbox.{Receives}
@@ -78,7 +79,7 @@ serves_read {trust} {start} {old} {count} {buffer} wire after s r = record {
 }
 
 -- one more item is answered
-pub serves_item : {trust : Trust} {start old new : Outside} {count : ℕ} {buffer reply more : List ℕ} (item : Item) (c : ℕ) (bound : c < 253402300800) (closes : Bool) (s : Serves trust start old false count buffer)
+pub serves_item : {trust : Trust} {start old new : Outside} {count : ℕ} {buffer reply more : List ℕ} (item : Item) (c : ℕ) (bound : c < year_10000) (closes : Bool) (s : Serves trust start old false count buffer)
     → Cuts s.input closes (s.items ++ item ∷ []) more → closes ≡ closes_at count item
     → Turn old.pass trust item c closes reply new.pass → SendsWhole old.wire new.wire reply → TellsMore old.clock (c ∷ []) new.clock
     → Serves trust start new closes (count + 1) more
@@ -101,25 +102,25 @@ serves_item {trust} {start} {old} {new} {count} {buffer} {reply} {more} item c b
 }
 
 -- whether the reply to a message closes
-pub message_closes : {buffer : List ℕ} {cut : Places} {closes : Bool} (m : Message) (number : ℕ) → closes ≡ (cut.closes || (number + 1 == 100000)) → CutsOff buffer cut m → closes ≡ closes_at number (whole m)
+pub message_closes : {buffer : List ℕ} {cut : Offsets} {closes : Bool} (m : Message) (number : ℕ) → closes ≡ (cut.closes || (number + 1 == 100000)) → CutsOff buffer cut m → closes ≡ closes_at number (whole m)
 message_closes m number is cuts = is ∙ ap (λ (b : Bool). b || (number + 1 == 100000)) cuts.closes
 
 -- a message at the front of the buffer is cut off
-cuts_message : {trust : Trust} {start old : Outside} {count : ℕ} {buffer : List ℕ} {closes : Bool} (cut : Places) (m : Message) (s : Serves trust start old false count buffer) → CutsOff buffer cut m
+cuts_message : {trust : Trust} {start old : Outside} {count : ℕ} {buffer : List ℕ} {closes : Bool} (cut : Offsets) (m : Message) (s : Serves trust start old false count buffer) → CutsOff buffer cut m
     → closes ≡ closes_at count (whole m) → Cuts s.input closes (s.items ++ whole m ∷ []) (drop (size_of cut) buffer)
 cuts_message {buffer = buffer} cut m s cuts is =
     message s.cuts (sym (take-append-drop (size_of cut) buffer)) cuts.message (is ∙ ap (λ n. closes_at n (whole m)) (sym s.number))
 
 -- a message at the front of the buffer is answered
-pub serves_message : {trust : Trust} {start old new : Outside} {count c : ℕ} {buffer : List ℕ} {closes : Bool} (cut : Places) (m : Message) → Serves trust start old false count buffer → CutsOff buffer cut m
-    → closes ≡ closes_at count (whole m) → c < 253402300800 → TellsMore old.clock (c ∷ []) new.clock
+pub serves_message : {trust : Trust} {start old new : Outside} {count c : ℕ} {buffer : List ℕ} {closes : Bool} (cut : Offsets) (m : Message) → Serves trust start old false count buffer → CutsOff buffer cut m
+    → closes ≡ closes_at count (whole m) → c < year_10000 → TellsMore old.clock (c ∷ []) new.clock
     → Responds old.pass (plan_of trust old.pass.facts.region (whole m) c) c closes old.wire new.wire new.pass
     → Serves trust start new closes (count + 1) (drop (size_of cut) buffer)
 serves_message {c = c} {closes = closes} cut m s cuts is bound tells r = serves_item (whole m) c bound closes s (cuts_message cut m s cuts is) is r.replies r.sends tells
 
 -- bytes that are refused are answered
 pub serves_fault : {trust : Trust} {start old new : Outside} {count c : ℕ} {buffer : List ℕ} (why : HttpFault) → Serves trust start old false count buffer → IsRefused buffer why
-    → c < 253402300800 → TellsMore old.clock (c ∷ []) new.clock → Responds old.pass (plan_of trust old.pass.facts.region (fault why) c) c true old.wire new.wire new.pass
+    → c < year_10000 → TellsMore old.clock (c ∷ []) new.clock → Responds old.pass (plan_of trust old.pass.facts.region (fault why) c) c true old.wire new.wire new.pass
     → Serves trust start new true (count + 1) buffer
 serves_fault {c = c} why s refused bound tells r = serves_item (fault why) c bound true s (no_message why s.cuts refused) refl r.replies r.sends tells
 
@@ -131,8 +132,8 @@ pub serves_rest : {trust : Trust} {start new : Outside} {count : ℕ} {rest same
 serves_rest {trust} {start} {new} {count} {closes = closes} e s = subst (Serves trust start new closes count) (sym e) s
 
 -- a reply to a message that was cut short ends the session
-pub breaks_at_message : {trust : Trust} {start old new : Outside} {count c : ℕ} {buffer : List ℕ} {closes : Bool} (cut : Places) (m : Message) → Serves trust start old false count buffer → CutsOff buffer cut m
-    → closes ≡ closes_at count (whole m) → c < 253402300800 → TellsMore old.clock (c ∷ []) new.clock
+pub breaks_at_message : {trust : Trust} {start old new : Outside} {count c : ℕ} {buffer : List ℕ} {closes : Bool} (cut : Offsets) (m : Message) → Serves trust start old false count buffer → CutsOff buffer cut m
+    → closes ≡ closes_at count (whole m) → c < year_10000 → TellsMore old.clock (c ∷ []) new.clock
     → RespondsShort old.pass (plan_of trust old.pass.facts.region (whole m) c) c closes old.wire new.wire new.pass → BreaksOff trust start new
 breaks_at_message {old = old} {count = count} {c = c} {buffer = buffer} {closes = closes} cut m s cuts is bound tells r = record {
   so_far = old;
@@ -155,7 +156,7 @@ breaks_at_message {old = old} {count = count} {c = c} {buffer = buffer} {closes 
 
 -- and so does one to bytes that are refused
 pub breaks_at_fault : {trust : Trust} {start old new : Outside} {count c : ℕ} {buffer : List ℕ} (why : HttpFault) → Serves trust start old false count buffer → IsRefused buffer why
-    → c < 253402300800 → TellsMore old.clock (c ∷ []) new.clock
+    → c < year_10000 → TellsMore old.clock (c ∷ []) new.clock
     → RespondsShort old.pass (plan_of trust old.pass.facts.region (fault why) c) c true old.wire new.wire new.pass → BreaksOff trust start new
 breaks_at_fault {old = old} {count = count} {c = c} {buffer = buffer} why s refused bound tells r = record {
   so_far = old;

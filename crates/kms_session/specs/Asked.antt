@@ -4,7 +4,7 @@ use Rattle.kms_json.specs.declared.asks.AskBody.{AskBody}
 use Rattle.kms_json.specs.declared.refusals.Refusal.{Refusal}
 use Rattle.kms_json.specs.declared.refusals.Refusal.TheVariants.{UnknownOperation}
 use Rattle.kms_json.specs.Asks.{asked}
-use Rattle.http_front.specs.Digits.{number_in}
+use Rattle.kms_names.specs.Digits.{number_in}
 use Rattle.http_front.specs.Heading.{values_of}
 use Rattle.http_front.specs.Message.{Message}
 use Rattle.kms_session.specs.declared.asked.After.{After}

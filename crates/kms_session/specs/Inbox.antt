@@ -10,6 +10,10 @@ use Rattle.kms_session.specs.declared.waiting.Awaited.TheVariants as awaited
 use Rattle.kms_session.specs.Pace.{Gathers}
 use Rattle.http_front.specs.Message.{Message, CutsOff, IsOpen, IsRefused}
 
+-- how many bytes the buffer holds: those of the longest message, a head of 16,384 and a body of 131,072
+abbrev pub inbox_room : ℕ
+inbox_room = 147456
+
 -- these bytes came from the link to the end of the buffer, by reads that each found it open
 pub record Receives (old : Wire) (before : List ℕ) (new : Wire) (after : List ℕ) : Type 0 where
   pub bytes : List ℕ

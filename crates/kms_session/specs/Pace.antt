@@ -1,5 +1,6 @@
 -- When a session reads: only where its buffer holds no whole message, and where all that was answered was written.
 use Rattle.std.specs.Prelude.{◌≡◌, ◌<◌, ◌+◌, ℕ, List, [], ◌∷◌, ◌++◌, length, Option, false}
+use Rattle.kms_names.specs.Moment.{year_10000}
 use Rattle.kms_io.specs.Wire.{TellsMore}
 use Rattle.kms_io.specs.declared.link.Move.{Move}
 use Rattle.kms_io.specs.declared.link.Move.TheVariants.{In, Out}
@@ -34,7 +35,7 @@ pub data Paced (start : Pass) (trust : Trust) (told : Option (List Move)) : Pass
   then_nothing : {pass : Pass} {items : List Item} {clocks text input : List ℕ} {written : ℕ} {mid new : Option (List Move)}
       → Paced start trust told pass items clocks text input written mid → written ≡ length text → IsOpenAfter input items
       → TellsMore mid [] new → Paced start trust told pass items clocks text input written new
-  then_answer : {old new : Pass} {items : List Item} {clocks text input reply : List ℕ} {written : ℕ} {mid : Option (List Move)} (item : Item) (c : ℕ) → c < 253402300800
+  then_answer : {old new : Pass} {items : List Item} {clocks text input reply : List ℕ} {written : ℕ} {mid : Option (List Move)} (item : Item) (c : ℕ) → c < year_10000
       → Paced start trust told old items clocks text input written mid → Turn old trust item c (closes_at (length items) item) reply new
       → Paced start trust told new (items ++ item ∷ []) (clocks ++ c ∷ []) (text ++ reply) input written mid
   then_write : {pass : Pass} {items : List Item} {clocks text input : List ℕ} {written all : ℕ} {mid new : Option (List Move)} (n : ℕ)

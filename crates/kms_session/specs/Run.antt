@@ -1,5 +1,6 @@
 -- A session as a run of turns over what is due.
 use Rattle.std.specs.Prelude.{◌≡◌, ◌<◌, ◌+◌, ◌==◌, ℕ, List, [], ◌∷◌, ◌++◌, length, Bool, true, false, ◌||◌, Result, Ok, Err, codes}
+use Rattle.kms_names.specs.Moment.{year_10000}
 use Rattle.kms_names.specs.declared.principals.Principal.{Principal}
 use Rattle.kms_json.specs.declared.asks.Ask.{Ask}
 use Rattle.kms_json.specs.declared.asks.AskBody.{AskBody}
@@ -78,7 +79,7 @@ Turn s trust item c closes text t = Replies s (plan_of trust s.facts.region item
 -- replies joined.
 pub data SessionRun (start : Pass) (trust : Trust) : Pass → List Item → List ℕ → List ℕ → Type 0 where
   begins : SessionRun start trust start [] [] []
-  goes_on : {old new : Pass} {items : List Item} {clocks text reply : List ℕ} (item : Item) (c : ℕ) → c < 253402300800
+  goes_on : {old new : Pass} {items : List Item} {clocks text reply : List ℕ} (item : Item) (c : ℕ) → c < year_10000
       → SessionRun start trust old items clocks text → Turn old trust item c (closes_at (length items) item) reply new
       → SessionRun start trust new (items ++ item ∷ []) (clocks ++ c ∷ []) (text ++ reply)
 

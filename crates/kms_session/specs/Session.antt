@@ -1,5 +1,6 @@
 -- How a session ends.
 use Rattle.std.specs.Prelude.{◌∷◌, ◌++◌, ◌≡◌, ◌<◌, ◌≤◌, ℕ, List, [], length, Option, None, Some, Bool, true, false}
+use Rattle.kms_names.specs.Moment.{year_10000}
 use Rattle.kms_io.specs.Wire.{Wire, with_more, with_first, TellsMore, RoseBy}
 use Rattle.kms_io.specs.Link.{Sends, IsAtEnd}
 use Rattle.kms_session.specs.declared.trust.Trust.{Trust}
@@ -104,7 +105,7 @@ pub record BreaksOff (trust : Trust) (old new : Outside) : Type 0 where
   pub serves : Serves trust old so_far false count buffer
   pub cuts : Cuts serves.input closes (serves.items ++ item ∷ []) rest
   pub is : closes ≡ closes_at count item
-  pub before_year_10000 : c < 253402300800
+  pub before_year_10000 : c < year_10000
   pub told : TellsMore so_far.clock (c ∷ []) new.clock
   pub text : List ℕ
   pub turn : Turn so_far.pass trust item c closes text new.pass

@@ -1,11 +1,12 @@
 // What the headers of a message ask.
 ghost use Rattle.std.specs.Prelude.{◌≡◌};
 ghost use Rattle.kms_json.specs.Asks.{AnswersFor};
-ghost use Rattle.http_front.specs.Digits.{number_in};
+ghost use Rattle.kms_names.specs.Digits.{number_in};
 ghost use Rattle.http_front.specs.Message.{Message, CutsOff};
 ghost use Rattle.kms_session.specs.Asked.{asked_in, after_in, after_number};
 
-use http_front::{Cut, decimal};
+use http_front::Cut;
+use kms_names::decimal;
 use kms_json::{AskBody, JsonFault, read_ask};
 use std::alloc::Global;
 

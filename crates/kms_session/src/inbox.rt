@@ -1,6 +1,6 @@
 // The bytes that have come and aren't answered, in a buffer that is reserved once.
 ghost use Rattle.std.specs.Prelude.{◌≡◌, ◌-◌, ◌<◌, ◌≤◌, ℕ, List, [], length, take, drop, IfOk, MatchBool};
-ghost use Rattle.kms_session.specs.Inbox.{Fills};
+ghost use Rattle.kms_session.specs.Inbox.{inbox_room, Fills};
 
 use kms_io::{Link, Took};
 use std::alloc::{AllocError, Global};
@@ -22,7 +22,7 @@ impl Model for Inbox {
 
     ghost view = { λ b. drop b.start (take b.end b.bytes.items) };
 
-    ghost invariant = { λ b. (b.start ≤ b.end) × (b.end ≤ 147456) × (length b.bytes.items ≡ 147456) };
+    ghost invariant = { λ b. (b.start ≤ b.end) × (b.end ≤ inbox_room) × (length b.bytes.items ≡ inbox_room) };
 }
 
 impl Inbox {
@@ -41,7 +41,7 @@ impl Inbox {
     /// The bytes.
     pub fn bytes(&self) -> &[u8]
         ensures value { result.now ≡ self.now }
-        ensures fits { length self.now ≤ 147456 }
+        ensures fits { length self.now ≤ inbox_room }
     {
         between(&self.bytes, self.start, self.end)
     }
@@ -56,7 +56,7 @@ impl Inbox {
     /// Reads once from the link, to the end of the bytes. What is there is moved to the front of the buffer
     /// where no room is left behind it.
     pub fn fill<L: Link>(&mut self, link: &mut L) -> Took
-        requires { length self.old < 147456 }
+        requires { length self.old < inbox_room }
         ensures { Fills (L.shows link.old) self.old result (L.shows link.new) self.new }
     {
         if self.end == ROOM {

@@ -1,5 +1,6 @@
 // Bytes that go out.
 ghost use Rattle.std.specs.Prelude.{MatchBool, MatchOption, ◌≡◌, ◌≤◌, ◌++◌, ⊤, ◌<◌, length, take};
+ghost use Rattle.kms_names.specs.Moment.{year_10000};
 ghost use Rattle.kms_session.specs.Session.{SendsWhole, SendsShort};
 ghost use Rattle.kms_session.specs.Replying.{SendsReply, SendsReplyShort};
 
@@ -47,7 +48,7 @@ pub fn send_reply<L: Link>(
     front: u64,
     closes: bool,
 ) -> bool
-    requires { second < 253402300800 }
+    requires { second < year_10000 }
     ensures { MatchBool result
         (SendsReply (record { status = status; body = body.now }) second front closes (L.shows link.old) (L.shows link.new))
         (SendsReplyShort (record { status = status; body = body.now }) second front closes (L.shows link.old) (L.shows link.new)) }

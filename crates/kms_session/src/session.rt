@@ -1,5 +1,6 @@
 // One connection, from its first byte to its end.
 ghost use Rattle.std.specs.Prelude.{◌≡◌, ◌+◌, ◌<◌, ◌==◌, ◌||◌, ℕ, List, Ok, MatchBool, IfOk, OnErr, true, false, codes};
+ghost use Rattle.kms_names.specs.Moment.{year_10000};
 ghost use Rattle.kms_json.specs.Asks.{asked, changes_account, refusal_of};
 ghost use Rattle.kms_json.specs.declared.refusals.Refusal.TheVariants.{Validation};
 ghost use Rattle.kms_json.specs.declared.replies.Reply.TheVariants.{Refused};
@@ -54,7 +55,7 @@ pub enum SessionEnd {
 
 // What a session is served with.
 #[derive(Drop)]
-struct Host<'a, W: Wait, R: Realm, G: Gate> {
+struct Facilities<'a, W: Wait, R: Realm, G: Gate> {
     rt: &'a W,
     alloc: Global,
     service: &'a Service<R>,
@@ -77,7 +78,7 @@ fn refusal_in(fault: JsonFault) -> Option<Refusal>
         JsonFault::UnknownOperation => Some(Refusal::UnknownOperation),
         JsonFault::Serialization => Some(Refusal::Serialization),
         JsonFault::Validation(field) => Some(Refusal::Validation(field)),
-        JsonFault::InvalidAliasName => Some(Refusal::InvalidAliasName),
+        JsonFault::AliasName => Some(Refusal::InvalidAliasName),
         JsonFault::NoMemory => None,
     }
 }
@@ -136,7 +137,7 @@ fn answer_read<R: Realm, W: Wait>(
 
 // Answers a request of the account.
 fn answer_ask<W: Wait, R: Realm, G: Gate>(
-    host: &Host<'_, W, R, G>,
+    host: &Facilities<'_, W, R, G>,
     pass: &mut Pass<R>,
     ask: &Ask,
 ) -> Result<Answered, NoMemory>
@@ -172,14 +173,14 @@ fn answer_malformed<R: Realm>(alloc: Global, pass: &Pass<R>) -> Result<Answered,
 
 // Answers a message by which this caller asks this.
 fn answer_body<W: Wait, R: Realm, G: Gate>(
-    host: &Host<'_, W, R, G>,
+    host: &Facilities<'_, W, R, G>,
     pass: &mut Pass<R>,
     caller: Principal,
     body: AskBody,
     after: After,
     now: u64,
 ) -> Result<Answered, NoMemory>
-    requires now { now < 253402300800 }
+    requires now { now < year_10000 }
     requires caller { account_of caller ≡ pass.old.facts.account }
     requires asked { (target : List ℕ) × (text : List ℕ) × (asked target text ≡ Ok body) }
     ensures answer { IfOk result (λ a. Gives pass.old (planned caller now (Ok body) after) a pass.new) }
@@ -201,14 +202,14 @@ fn answer_body<W: Wait, R: Realm, G: Gate>(
 
 // Answers a message of this caller.
 fn answer_caller<W: Wait, R: Realm, G: Gate>(
-    host: &Host<'_, W, R, G>,
+    host: &Facilities<'_, W, R, G>,
     pass: &mut Pass<R>,
     caller: Principal,
     cut: &Cut,
     buffer: &[u8],
     now: u64,
 ) -> Result<Answered, NoMemory>
-    requires now { now < 253402300800 }
+    requires now { now < year_10000 }
     requires caller { account_of caller ≡ pass.old.facts.account }
     requires message { (m : Message) × CutsOff buffer.now cut.now m }
     ensures answer { (m : Message) → CutsOff buffer.now cut.now m → IfOk result (λ a. Gives pass.old (planned caller now (asked_in m) (after_in m)) a pass.new) }
@@ -225,13 +226,13 @@ fn answer_caller<W: Wait, R: Realm, G: Gate>(
 
 // Answers a message.
 fn answer_message<W: Wait, R: Realm, G: Gate>(
-    host: &Host<'_, W, R, G>,
+    host: &Facilities<'_, W, R, G>,
     pass: &mut Pass<R>,
     cut: &Cut,
     buffer: &[u8],
     now: u64,
 ) -> Result<Answered, NoMemory>
-    requires now { now < 253402300800 }
+    requires now { now < year_10000 }
     requires trust { IsOfAccount pass.old.facts.account host.now.trust.now }
     requires message { (m : Message) × CutsOff buffer.now cut.now m }
     ensures answer { (m : Message) → CutsOff buffer.now cut.now m → IfOk result (λ a. Gives pass.old (plan_of host.now.trust.now pass.old.facts.region (whole m) now) a pass.new) }
@@ -249,7 +250,7 @@ fn answer_message<W: Wait, R: Realm, G: Gate>(
 
 // Answers a message on the link. It is false where the link failed.
 fn respond<W: Wait, R: Realm, L: Link, G: Gate>(
-    host: &Host<'_, W, R, G>,
+    host: &Facilities<'_, W, R, G>,
     pass: &mut Pass<R>,
     link: &mut L,
     cut: &Cut,
@@ -257,7 +258,7 @@ fn respond<W: Wait, R: Realm, L: Link, G: Gate>(
     now: u64,
     closes: bool,
 ) -> bool
-    requires now { now < 253402300800 }
+    requires now { now < year_10000 }
     requires trust { IsOfAccount pass.old.facts.account host.now.trust.now }
     requires message { (m : Message) × CutsOff buffer.now cut.now m }
     ensures { (m : Message) → CutsOff buffer.now cut.now m → MatchBool result
@@ -277,7 +278,7 @@ fn respond_fault<R: Realm, L: Link>(
     fault: HttpFault,
     now: u64,
 ) -> bool
-    requires { now < 253402300800 }
+    requires { now < year_10000 }
     ensures { MatchBool result
         (Responds pass.now (answered (fault_answer fault)) now true (L.shows link.old) (L.shows link.new) pass.now)
         (RespondsShort pass.now (answered (fault_answer fault)) now true (L.shows link.old) (L.shows link.new) pass.now) }
@@ -302,7 +303,7 @@ fn closes_after(cut: &Cut, number: u64) -> bool
 
 // Awaits one message and answers it.
 fn serve_one<W: Wait, R: Realm, L: Link, C: Clock, G: Gate>(
-    host: &Host<'_, W, R, G>,
+    host: &Facilities<'_, W, R, G>,
     pass: &mut Pass<R>,
     clock: &mut C,
     link: &mut L,
@@ -375,7 +376,7 @@ pub fn serve_session<W: Wait, R: Realm, L: Link, C: Clock, G: Gate>(
     let Ok(mut inbox) = Inbox::new(alloc) else {
         return SessionEnd::NoMemory;
     };
-    let host = Host {
+    let host = Facilities {
         rt,
         alloc,
         service,

@@ -7,7 +7,7 @@ use Rattle.std.specs.Str.{all_ascii_digits}
 use Rattle.std.specs.Str.Parse.{ParsesUnsigned, digits_value}
 use Rattle.std.proofs.lemmas.Bool.Decides.{nat_tests}
 use Rattle.std.proofs.lemmas.Str.Parse.{numerals_by_value, tells_all_ascii_digits, parse_digits}
-use Rattle.http_front.specs.Digits.{is_decimal}
+use Rattle.kms_names.specs.Digits.{is_decimal}
 use Rattle.kms_names.specs.Reading.{some_if}
 use Rattle.kms_words.specs.Numbers.{number_within}
 

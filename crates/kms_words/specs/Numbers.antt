@@ -1,6 +1,6 @@
 -- Numbers among the words.
 use Rattle.std.specs.Prelude.{◌&&◌, ℕ, nat_le, List, Option, Some, None, option_and_then}
-use Rattle.http_front.specs.Digits.{number_in}
+use Rattle.kms_names.specs.Digits.{number_in}
 use Rattle.kms_names.specs.Reading.{some_if}
 
 -- a number of 1 to 20 decimal digits, within these bounds

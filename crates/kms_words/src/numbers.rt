@@ -2,7 +2,7 @@
 ghost use Rattle.std.specs.Prelude.{◌≡◌, ◌≤◌, option_map, IfSome};
 ghost use Rattle.std.specs.List.{list_all};
 ghost use Rattle.std.specs.Char.{is_ascii_digit};
-ghost use Rattle.http_front.specs.Digits.{is_decimal};
+ghost use Rattle.kms_names.specs.Digits.{is_decimal};
 ghost use Rattle.kms_words.specs.Numbers.{number_within, number_or};
 
 // The most digits of a number, leading zeros among them.

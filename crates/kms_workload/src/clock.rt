@@ -1,5 +1,6 @@
 // The clock of a workload.
 ghost use Rattle.std.specs.Prelude.{◌≡◌};
+ghost use Rattle.kms_names.specs.Moment.{year_10000};
 ghost use Rattle.kms_io.specs.StepClock.{next_step};
 ghost use Rattle.kms_workload.specs.Seconds.{second_of};
 
@@ -47,7 +48,7 @@ impl Clock for LoadClock {
     ghost told = { seconds_so_far };
 
     fn now(&mut self) -> u64
-        ensures bound { result < 253402300800 }
+        ensures bound { result < year_10000 }
         ensures told { TellsMore (seconds_so_far self.old) (result ∷ []) (seconds_so_far self.new) }
     {
         self.calls = self.calls.saturating_add(1);

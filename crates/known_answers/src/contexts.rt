@@ -47,11 +47,12 @@ fn of_two(case: &mut Case<'_>, call: &str, context: &Context, other: Option<Cont
 /// The context of the pairs of the next column, with `, ` between two: `-` are none.
 fn context_of(case: &mut Case<'_>) -> Result<Context, ContextFault> {
     let word = case.word();
+    if word == "-" {
+        return Ok(Context::new(case.alloc));
+    }
     let mut pairs = Vec::new(case.alloc);
-    if word != "-" {
-        for pair in word.split(", ") {
-            add(case, &mut pairs, pair);
-        }
+    for pair in word.split(", ") {
+        add(case, &mut pairs, pair);
     }
     Context::from_pairs(case.alloc, pairs)
 }

@@ -4,7 +4,7 @@ ghost use Rattle.key_states.specs.declared.states.State.{State};
 
 use crate::cases::Case;
 use crate::names::read_action;
-use key_states::{KeyRow, State, StateFault, Stored, VersionList, permits};
+use key_states::{KeyRow, State, StateFault, Stored, Version, VersionList, permits};
 use kms_names::KeyId;
 
 /// The state of a key at a moment, whether its rotation is due, and what its state permits.
@@ -35,14 +35,21 @@ fn read_stored(case: &mut Case<'_>) -> Stored {
 
 // A copy of a row with these; nothing is asked of what else it holds.
 fn row(case: &mut Case<'_>, stored: Stored, period: Option<u32>, next: u64) -> KeyRow {
+    let version = Version {
+        time: 1_700_000_000,
+        on_demand: false,
+    };
+    let mut versions = Vec::new(case.alloc);
+    let copied = case.kept_or(version.copy(), version);
+    case.require(versions.push(copied).is_ok());
     let row = KeyRow {
         key: KeyId::new([7; 16]),
         born: 3,
         made: 1_700_000_000,
         description: case.owned("d"),
         policy: case.owned("p"),
-        stored,
-        versions: VersionList::new(Vec::new(case.alloc)),
+        stored: case.kept_or(stored.copy(), stored),
+        versions: VersionList::new(versions),
         period,
         next,
         on_demand: 1,

@@ -3,7 +3,7 @@
 use crate::cases::Case;
 use kms_names::{
     AccountNumber, Action, ActionSet, Bytes, GrantId, GrantOp, GrantOps, KeyId, KeyRef, NameFault,
-    Principal, Text, alias_arn, grant_text, grant_text_into, is_alias_name, is_region, key_arn,
+    Principal, Text, alias_arn, grant_text, grant_text_into, is_alias_name, is_behind, is_region, key_arn,
     key_text, key_text_into, principal_len, read_alias, read_grant_id, read_key_id, read_key_ref,
     read_principal, write_principal,
 };
@@ -74,11 +74,16 @@ fn operations(case: &mut Case<'_>, call: &str) {
         "action" => action(case),
         "grant_op" => match GrantOp::read(case.text()) {
             Some(op) => {
-                case.put(op.name());
-                case.put(op.action().name());
+                let copied = case.kept_or(op.copy(), op);
+                case.put(copied.name());
+                case.put(copied.action().name());
             }
             None => case.put("none"),
         },
+        "named_ops" => {
+            let names = case.texts();
+            put_set(case, &GrantOps::named(names.as_slice()));
+        }
         "grant_ops" => {
             let set = read_set(case);
             put_set(case, &set);
@@ -88,7 +93,20 @@ fn operations(case: &mut Case<'_>, call: &str) {
             let outer = read_set(case);
             case.put_truth(inner.is_subset(&outer));
         }
+        "is_behind" => {
+            let after = read_place(case);
+            let born = case.number();
+            case.put_truth(is_behind(after, born));
+        }
         _ => action_sets(case, call),
+    }
+}
+
+/// The place that the next column stands for: `-` is none.
+fn read_place(case: &mut Case<'_>) -> Option<u64> {
+    match case.word() {
+        "-" => None,
+        word => Some(case.number_of(word)),
     }
 }
 
@@ -281,8 +299,9 @@ fn action(case: &mut Case<'_>) {
     let place = case.number();
     let action = Action::ALL.iter().find(|action| action.number() == place);
     if let Some(action) = case.found(action) {
-        case.put(action.name());
-        case.put(action.text());
+        let copied = case.kept_or(action.copy(), *action);
+        case.put(copied.name());
+        case.put(copied.text());
     }
 }
 

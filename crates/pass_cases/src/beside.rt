@@ -1,7 +1,7 @@
 // A read beside a change that is held at the desk.
 ghost use Rattle.std.specs.Prelude.{◌≡◌};
 
-use crate::requests::{Failure, Host, LOOK, MAKE, front};
+use crate::requests::{Failure, Stage, LOOK, MAKE, front};
 use kms_io::{Gate, NoGate, Point};
 use publish_pass::{Pass, Realm};
 use std::rt;
@@ -41,7 +41,7 @@ impl<W: Wait> Gate for Hold<'_, W> {
 
 // Waits until a change is at the desk, looks, and lets it go on.
 fn look_beside<R: Realm, W: Wait>(
-    host: &Host<'_, W, R>,
+    host: &Stage<'_, W, R>,
     pass: &mut Pass<R>,
     word: &AtomicU64,
 ) -> Result<u64, Failure>
@@ -55,7 +55,7 @@ fn look_beside<R: Realm, W: Wait>(
 
 // Makes a key, held at the desk. Where it doesn't come there, the other isn't kept waiting.
 fn make_held<R: Realm, W: Wait>(
-    host: &Host<'_, W, R>,
+    host: &Stage<'_, W, R>,
     pass: &mut Pass<R>,
     word: &AtomicU64,
 ) -> Result<u64, Failure>
@@ -71,7 +71,7 @@ fn make_held<R: Realm, W: Wait>(
 
 /// A pass makes a second key and is held at the desk; meanwhile the other reads what was published before.
 pub fn beside<R: Realm + Send + Sync, W: rt::Runtime + Threads + Wait + Sync>(
-    host: &Host<'_, W, R>,
+    host: &Stage<'_, W, R>,
     one: &mut Pass<R>,
     two: &mut Pass<R>,
 ) -> Result<(), Failure>

@@ -2,7 +2,7 @@
 ghost use Rattle.std.specs.Prelude.{◌≡◌};
 
 use crate::beside::await_change;
-use crate::requests::{Caller, Failure, Host, MAKE, Request, front};
+use crate::requests::{Caller, Failure, Stage, MAKE, Request, front};
 use kms_io::NoGate;
 use kms_names::NoMemory;
 use publish_pass::{Pass, Realm};
@@ -51,7 +51,7 @@ const SEALING_END: &str = "\"}}";
 
 // Reads, and says when it begins and when it has ended.
 fn read_long<R: Realm, W: Wait>(
-    host: &Host<'_, W, R>,
+    host: &Stage<'_, W, R>,
     pass: &mut Pass<R>,
     request: &Request<'_>,
     word: &AtomicU64,
@@ -66,7 +66,7 @@ fn read_long<R: Realm, W: Wait>(
 
 // Makes two keys once the read has begun, and answers whether it had not ended when the first of them was published.
 fn make_two<R: Realm, W: Wait>(
-    host: &Host<'_, W, R>,
+    host: &Stage<'_, W, R>,
     pass: &mut Pass<R>,
     word: &AtomicU64,
 ) -> Result<bool, Failure>
@@ -81,7 +81,7 @@ fn make_two<R: Realm, W: Wait>(
 
 // Whether the read entered the published account before the first key was made in it, and ended after that.
 fn is_shown<R: Realm + Send + Sync, W: rt::Runtime + Threads + Wait + Sync>(
-    host: &Host<'_, W, R>,
+    host: &Stage<'_, W, R>,
     one: &mut Pass<R>,
     two: &mut Pass<R>,
     request: &Request<'_>,
@@ -101,7 +101,7 @@ fn is_shown<R: Realm + Send + Sync, W: rt::Runtime + Threads + Wait + Sync>(
 
 /// A pass makes two keys while another reads.
 pub fn inside<R: Realm + Send + Sync, W: rt::Runtime + Threads + Wait + Sync>(
-    host: &Host<'_, W, R>,
+    host: &Stage<'_, W, R>,
     one: &mut Pass<R>,
     two: &mut Pass<R>,
 ) -> Result<(), Failure>

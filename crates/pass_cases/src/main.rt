@@ -14,7 +14,7 @@ use account_steps::RealmFacts;
 use authority::IdentityList;
 use kms_names::{AccountNumber, NoMemory, Text};
 use publish_pass::{Opening, Realm, open_service};
-use requests::{Failure, Host};
+use requests::{Failure, Stage};
 use std::alloc::Global;
 use std::marker::Brand;
 use std::process::ExitCode;
@@ -51,7 +51,7 @@ fn hold<R: Realm + Send + Sync, W: rt::Runtime<A = Global> + Threads + Wait + Sy
     requires facts { facts.now ≡ opening.shown.whole.facts }
 {
     let (service, mut passes) = open_service::<W, R>(rt, rt.alloc(), opening)?;
-    let host = Host {
+    let host = Stage {
         rt,
         alloc: rt.alloc(),
         service: &service,
@@ -102,6 +102,6 @@ fn main(rt: HostRuntime) -> io::Result<ExitCode> {
     match hold_all(&rt) {
         Ok(()) => Ok(ExitCode::SUCCESS),
         Err(Failure::Unlike) => Ok(ExitCode::FAILURE),
-        Err(Failure::Host(kind)) => Err(io::Error::from(kind)),
+        Err(Failure::Stage(kind)) => Err(io::Error::from(kind)),
     }
 }

@@ -83,14 +83,14 @@ fn ask(alloc: Global, facts: &RealmFacts, request: &Request<'_>) -> Result<Ask, 
 #[derive(Clone, Copy)]
 pub enum Failure {
     /// Memory lacked, or a line could not be written.
-    Host(io::ErrorKind),
+    Stage(io::ErrorKind),
     /// A request asks nothing, or a reply has not its form.
     Unlike,
 }
 
 impl From<NoMemory> for Failure {
     fn from(_e: NoMemory) -> Failure {
-        Failure::Host(io::ErrorKind::OutOfMemory)
+        Failure::Stage(io::ErrorKind::OutOfMemory)
     }
 }
 
@@ -102,7 +102,7 @@ impl From<AllocError> for Failure {
 
 impl From<io::Error> for Failure {
     fn from(e: io::Error) -> Failure {
-        Failure::Host(e.kind())
+        Failure::Stage(e.kind())
     }
 }
 
@@ -117,7 +117,7 @@ impl From<JsonFault> for Failure {
 
 /// What the passes of a scene have in common.
 #[derive(Drop)]
-pub struct Host<'a, W: Wait, R: Realm> {
+pub struct Stage<'a, W: Wait, R: Realm> {
     pub rt: &'a W,
     pub alloc: Global,
     pub service: &'a Service<R>,
@@ -147,7 +147,7 @@ fn read<R: Realm, W: Wait>(
 
 // What a pass answers, by a change or a read.
 fn change_or_read<R: Realm, W: Wait, G: Gate>(
-    host: &Host<'_, W, R>,
+    host: &Stage<'_, W, R>,
     pass: &mut Pass<R>,
     ask: &Ask,
     gate: &G,
@@ -163,7 +163,7 @@ fn change_or_read<R: Realm, W: Wait, G: Gate>(
 
 /// What a pass answers to a request.
 pub fn answer<R: Realm, W: Wait, G: Gate>(
-    host: &Host<'_, W, R>,
+    host: &Stage<'_, W, R>,
     pass: &mut Pass<R>,
     request: &Request<'_>,
     gate: &G,
@@ -177,7 +177,7 @@ pub fn answer<R: Realm, W: Wait, G: Gate>(
 
 /// The number of entries at which it answers.
 pub fn front<R: Realm, W: Wait, G: Gate>(
-    host: &Host<'_, W, R>,
+    host: &Stage<'_, W, R>,
     pass: &mut Pass<R>,
     request: &Request<'_>,
     gate: &G,

@@ -3,7 +3,7 @@ ghost use Rattle.std.specs.Prelude.{◌≡◌};
 
 use crate::beside::beside;
 use crate::inside::inside;
-use crate::requests::{Caller, Failure, Host, Request, answer};
+use crate::requests::{Caller, Failure, Stage, Request, answer};
 use kms_io::NoGate;
 use publish_pass::{Answered, Pass, Realm};
 use std::rt;
@@ -79,7 +79,7 @@ fn show<W: rt::Runtime>(rt: &W, asked: &str, answered: &Answered) -> Result<(), 
 
 // A pass is asked.
 fn ask<R: Realm, W: rt::Runtime + Wait>(
-    host: &Host<'_, W, R>,
+    host: &Stage<'_, W, R>,
     pass: &mut Pass<R>,
     step: &Step<'_>,
 ) -> Result<(), Failure>
@@ -95,7 +95,7 @@ fn ask<R: Realm, W: rt::Runtime + Wait>(
 
 // What a pass does without a request. It is false where the word is none of these.
 fn act<R: Realm, W: Wait>(
-    host: &Host<'_, W, R>,
+    host: &Stage<'_, W, R>,
     pass: &mut Pass<R>,
     step: &Step<'_>,
 ) -> Result<bool, Failure> {
@@ -118,7 +118,7 @@ fn act<R: Realm, W: Wait>(
 
 // A pass acts or is asked.
 fn act_or_ask<R: Realm, W: rt::Runtime + Wait>(
-    host: &Host<'_, W, R>,
+    host: &Stage<'_, W, R>,
     pass: &mut Pass<R>,
     step: &Step<'_>,
 ) -> Result<(), Failure>
@@ -143,7 +143,7 @@ fn show_seen<R: Realm, W: rt::Runtime>(
 
 // What two passes do together, the first of them and the second.
 fn act_together<R: Realm + Send + Sync, W: rt::Runtime + Threads + Wait + Sync>(
-    host: &Host<'_, W, R>,
+    host: &Stage<'_, W, R>,
     one: &mut Pass<R>,
     two: &mut Pass<R>,
     step: &Step<'_>,
@@ -161,7 +161,7 @@ fn act_together<R: Realm + Send + Sync, W: rt::Runtime + Threads + Wait + Sync>(
 }
 
 fn take_step<R: Realm + Send + Sync, W: rt::Runtime + Threads + Wait + Sync>(
-    host: &Host<'_, W, R>,
+    host: &Stage<'_, W, R>,
     passes: &mut [Pass<R>],
     step: &Step<'_>,
 ) -> Result<(), Failure>
@@ -181,7 +181,7 @@ fn take_step<R: Realm + Send + Sync, W: rt::Runtime + Threads + Wait + Sync>(
 
 /// Takes the steps of a script, one a line; lines that are empty or begin with `#` are passed over.
 pub fn take_steps<R: Realm + Send + Sync, W: rt::Runtime + Threads + Wait + Sync>(
-    host: &Host<'_, W, R>,
+    host: &Stage<'_, W, R>,
     passes: &mut [Pass<R>],
     steps: &[u8],
 ) -> Result<(), Failure>

@@ -1,5 +1,6 @@
 -- The machine of events: one history that all passes make, and what each pass has seen, made and used.
 use Rattle.std.specs.Prelude.{◌≡◌, ◌≢◌, ℕ, ◌+◌, ◌^◌, ◌==◌, ◌<◌, ◌≤◌, true, false, cond, max, List, [], ◌∷◌, ◌++◌, length, take, Option, Some, None}
+use Rattle.kms_names.specs.Moment.{year_10000}
 use Rattle.std.specs.List.Sorted.{IsNonDecreasingBy}
 use mathlib.Core.List.{IsPrefix}
 use Rattle.kms_json.specs.declared.asks.Ask.{Ask}
@@ -80,7 +81,7 @@ pub record MayRead (facts : RealmFacts) (s : State) (n : ℕ) (x : Ask) (k : ℕ
 -- one event of a machine of p passes
 abbrev pub Step : RealmFacts → ℕ → State → Event → State → Type 0
 Step facts p s (house n clock) t =
-    IsNumber p n × (clock < 253402300800) × ((entry : Entry) × (housekeeping_of (entries_of s.history) clock ≡ Some entry) × (t ≡ made s n entry))
+    IsNumber p n × (clock < year_10000) × ((entry : Entry) × (housekeeping_of (entries_of s.history) clock ≡ Some entry) × (t ≡ made s n entry))
 Step facts p s (change n x) t =
     IsNumber p n × IsProper facts x × (changes_account x.body ≡ true) × (t ≡ made_any s n (decide facts (entries_of s.history) x (s.places n)).entry)
 Step facts p s (read n x k) t = IsNumber p n × MayRead facts s n x k × (t ≡ looked_at s n k (places_after facts s n x k))

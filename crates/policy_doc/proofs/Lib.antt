@@ -10,6 +10,5 @@ mod PointerFacts
 pub mod PlaceFacts
 mod OrderFacts
 mod ReadingFacts
-mod SlotFacts
 pub mod ConditionDecision
 pub mod NamedDecision

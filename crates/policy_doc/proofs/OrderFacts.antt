@@ -21,7 +21,7 @@ use Rattle.policy_doc.specs.Conditions.{keys_fault, operator_fault, operators_fa
 use Rattle.policy_doc.specs.Names.{is_known, first_unknown, name_fault, unknown_fault}
 use Rattle.policy_doc.specs.Operators.{named_operator}
 use Rattle.policy_doc.specs.Paths.{member_path}
-use Rattle.policy_doc.specs.Places.{HasMember}
+use Rattle.policy_doc.specs.Pointers.{HasMember}
 use Rattle.policy_doc.specs.Texts.{texts_fault}
 
 -- ---- the first of members

@@ -24,7 +24,7 @@ use Rattle.policy_doc.specs.Conditions.{keys_fault, under_fault, operator_fault,
 use Rattle.policy_doc.specs.Statements.{optional_fault, effect_fault, pair_fault, statement_names, not_principal_fault, names_fault, statement_fault}
 use Rattle.policy_doc.specs.Statements as statements
 use Rattle.policy_doc.specs.Documents.{is_version, version_fault, statement_part_fault, document_names, first_fault}
-use Rattle.policy_doc.specs.Places.{HasMember, PointsTo, LacksMember, IsAtPlace}
+use Rattle.policy_doc.specs.Pointers.{HasMember, PointsTo, LacksMember, IsAtPlace}
 use Rattle.policy_doc.proofs.TokenFacts.{is_ascii}
 use Rattle.policy_doc.proofs.PointerFacts.{points_root, points_member, points_item, lacks_member, member_found, member_missing}
 

@@ -8,7 +8,7 @@ use Rattle.std.proofs.lemmas.Map.Lookups.{exact_bytes}
 use Rattle.serde_json.specs.Data.{Data, array, object, Items, Members, no_members, member}
 use Rattle.serde_json.specs.Find.{get_member, get_item}
 use Rattle.policy_doc.specs.Paths.{escaped, member_path, item_path}
-use Rattle.policy_doc.specs.Places.{pointer_of, HasMember, RefersTo, LeadsTo, PointsTo, LacksMember, IsToken}
+use Rattle.policy_doc.specs.Pointers.{pointer_of, HasMember, RefersTo, LeadsTo, PointsTo, LacksMember, IsToken}
 use Rattle.policy_doc.proofs.TokenFacts.{token_name, token_index, decoded_name, is_ascii, decoded_ascii}
 use Rattle.std.proofs.lemmas.List.Elements.{All-nil, All-cons, All-append}
 

@@ -8,7 +8,7 @@ use Rattle.policy_doc.specs.declared.policies.Policy.{Policy}
 use Rattle.policy_doc.specs.declared.policies.PolicyKind.{PolicyKind}
 use Rattle.policy_doc.specs.Documents.{first_fault}
 use Rattle.policy_doc.specs.Grammar.{IsPolicyOf}
-use Rattle.policy_doc.specs.Places.{IsAtPlace}
+use Rattle.policy_doc.specs.Pointers.{IsAtPlace}
 use Rattle.policy_doc.specs.Reading.{Reads, IsFaultOf}
 use Rattle.policy_doc.proofs.PlaceFacts.{at_place}
 

@@ -8,7 +8,7 @@ use Rattle.std.proofs.lemmas.Bool.{eqb-true, eqb-false, ne_eqb, ltb-true, lt-ltb
 use Rattle.std.proofs.lemmas.List.Elements.{All-head, All-tail, All-from_get_or}
 use Rattle.std.proofs.lemmas.Str.{encode_ascii, inside_one, chars-IsAscii, encodes-IsAscii}
 use Rattle.policy_doc.specs.Paths.{escaped_char, escaped_chars, escaped}
-use Rattle.policy_doc.specs.Places.{BeginsWithZeroOrOne, IsToken, replaced, decoded}
+use Rattle.policy_doc.specs.Pointers.{BeginsWithZeroOrOne, IsToken, replaced, decoded}
 
 -- ---- tokens
 

@@ -13,7 +13,7 @@ use Rattle.policy_doc.specs.Conditions.{keys_fault, operator_fault, operators_fa
 use Rattle.policy_doc.specs.Names.{is_known, unknown_fault}
 use Rattle.policy_doc.specs.Operators.{named_operator}
 use Rattle.policy_doc.specs.Paths.{member_path}
-use Rattle.policy_doc.specs.Places.{HasMember}
+use Rattle.policy_doc.specs.Pointers.{HasMember}
 use Rattle.policy_doc.specs.Texts.{texts_fault}
 
 -- a name is before another: the first bytes that differ decide, and else the lengths do

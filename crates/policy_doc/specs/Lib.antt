@@ -9,8 +9,7 @@ pub mod Callers
 pub mod Conditions
 pub mod Statements
 pub mod Documents
-pub mod Slots
 pub mod Grammar
 pub mod Reading
-pub mod Places
+pub mod Pointers
 pub mod ByteOrder

@@ -11,7 +11,7 @@ ghost use Rattle.policy_doc.specs.declared.faults.PolicyFault.TheVariants.{TooLo
 
 use crate::faults::{Departure, PolicyFault};
 use crate::lists::one;
-use crate::members::DocumentMembers;
+use crate::members::{first_unknown, member};
 use crate::names::{check_unknown, has_items};
 use crate::paths::{Path, fault};
 use crate::policies::{Policy, PolicyKind, Statement, StatementList};
@@ -54,6 +54,9 @@ fn read_statements(
     }
 }
 
+// The names that the members of a document may have.
+const NAMES: [&str; 3] = ["Version", "Id", "Statement"];
+
 // The statements of a document.
 fn read_document(
     alloc: Global,
@@ -66,16 +69,11 @@ fn read_document(
     let Value::Object(map) = value else {
         return Err(fault(alloc, Departure::BadShape, &root));
     };
-    let members = DocumentMembers::find(map);
-    check_unknown(alloc, &root, members.unknown)?;
-    check_version(alloc, &Path::Member(&root, "Version"), members.version)?;
-    check_optional(alloc, &Path::Member(&root, "Id"), members.id)?;
-    read_statements(
-        alloc,
-        kind,
-        &Path::Member(&root, "Statement"),
-        members.statement,
-    )
+    check_unknown(alloc, &root, first_unknown(&NAMES, map))?;
+    check_version(alloc, &Path::Member(&root, "Version"), member(value, "Version"))?;
+    check_optional(alloc, &Path::Member(&root, "Id"), member(value, "Id"))?;
+    let statement = member(value, "Statement");
+    read_statements(alloc, kind, &Path::Member(&root, "Statement"), statement)
 }
 
 /// The policy that a JSON value is (IAM User Guide, "Grammar of the IAM JSON policy language").

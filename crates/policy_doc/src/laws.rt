@@ -1,7 +1,7 @@
 //! Laws of policies. Each stands as the contract of a function that does nothing.
 
 ghost use Rattle.policy_doc.specs.Grammar.{PolicyOfReads};
-ghost use Rattle.policy_doc.specs.Places.{FirstFaultHasPlace};
+ghost use Rattle.policy_doc.specs.Pointers.{FirstFaultHasPlace};
 ghost use Rattle.policy_doc.specs.ByteOrder.{FirstInByteOrder};
 
 /// A JSON value is a policy's exactly where it has no first fault, and then its statements are

@@ -1,26 +1,14 @@
 // Names of an object's members.
-ghost use Rattle.std.specs.Prelude.{◌≡◌, map, option_map};
+ghost use Rattle.std.specs.Prelude.{◌≡◌, option_map};
 ghost use Rattle.serde_json.specs.View.{items_view, members_view};
 ghost use Rattle.policy_doc.specs.Paths.{path_text};
 ghost use Rattle.policy_doc.specs.Answers.{Answers};
-ghost use Rattle.policy_doc.specs.Names.{is_known, name_fault, has_members, has_items};
+ghost use Rattle.policy_doc.specs.Names.{name_fault, has_members, has_items};
 
 use crate::faults::{Departure, PolicyFault};
 use crate::paths::{Path, fault};
 use serde_json::{Map, Value};
 use std::alloc::Global;
-
-/// Whether a name is one of these.
-pub fn is_among(names: &[&str], name: &str) -> bool
-    ensures { result ≡ is_known (map (λ known. known.now) names.now) name.now }
-{
-    for known in names {
-        if name == *known {
-            return true;
-        }
-    }
-    false
-}
 
 /// Checks that an object has no member of an unknown name.
 pub fn check_unknown(

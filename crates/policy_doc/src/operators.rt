@@ -3,7 +3,7 @@ ghost use Rattle.std.specs.Prelude.{◌≡◌};
 ghost use Rattle.policy_doc.specs.Operators.{is_value_text, operator_of, named_operator};
 
 use crate::faults::Departure;
-use crate::names::is_among;
+use crate::members::is_known;
 use cond_ops::{Operator, QualifiedOperator, is_value, read_operator};
 
 /// Whether an operator compares with values of this form.
@@ -46,7 +46,7 @@ const UNSERVED: [&str; 18] = [
 pub fn named_operator(name: &str) -> Result<QualifiedOperator, Departure>
     ensures { result ≡ named_operator name.now }
 {
-    if is_among(&UNSERVED, name) {
+    if is_known(&UNSERVED, name) {
         return Err(Departure::Unsupported);
     }
     operator(name).ok_or(Departure::BadShape)

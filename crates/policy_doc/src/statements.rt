@@ -1,18 +1,17 @@
 // Statements, and the members that they have.
 ghost use Rattle.std.specs.Prelude.{◌≡◌, codes, option_map};
-ghost use Rattle.std.specs.Option.{option_or};
+ghost use Rattle.serde_json.specs.Find.{get};
 ghost use Rattle.serde_json.specs.View.{view, items_view};
 ghost use Rattle.policy_doc.specs.Paths.{member_path, path_text};
 ghost use Rattle.policy_doc.specs.Answers.{Answers};
-ghost use Rattle.policy_doc.specs.Names.{name_fault};
-ghost use Rattle.policy_doc.specs.Statements.{optional_fault, effect_fault, effect_of, pair_fault, given_texts, not_principal_fault, statement_fault, statement_of, items_fault, items_of};
+ghost use Rattle.policy_doc.specs.Statements.{optional_fault, effect_fault, effect_of, pair_fault, given_texts, names_fault, statement_fault, statement_of, items_fault, items_of};
 ghost use Rattle.policy_doc.specs.declared.forms.Form.TheVariants.{Action, Resource};
 
 use crate::callers::read_principals;
 use crate::conditions::read_conditions;
 use crate::faults::{Departure, PolicyFault};
 use crate::forms::Form;
-use crate::members::StatementMembers;
+use crate::members::{first_unknown, member};
 use crate::names::check_unknown;
 use crate::paths::{Path, fault};
 use crate::policies::{PolicyKind, Statement, StatementList};
@@ -68,9 +67,9 @@ fn read_pair(
 fn read_actions(
     alloc: Global,
     path: &Path<'_>,
-    members: &StatementMembers<'_>,
+    statement: &Value,
 ) -> Result<(TextList, TextList), PolicyFault>
-    ensures { Answers (pair_fault Action (member_path (path_text path.now) (codes "Action")) (option_map (λ v. view v.now) members.now.action) (member_path (path_text path.now) (codes "NotAction")) (option_map (λ v. view v.now) members.now.not_action)) (given_texts Action (option_map (λ v. view v.now) members.now.action), given_texts Action (option_map (λ v. view v.now) members.now.not_action)) result }
+    ensures { Answers (pair_fault Action (member_path (path_text path.now) (codes "Action")) (get (codes "Action") (view statement.now)) (member_path (path_text path.now) (codes "NotAction")) (get (codes "NotAction") (view statement.now))) (given_texts Action (get (codes "Action") (view statement.now)), given_texts Action (get (codes "NotAction") (view statement.now))) result }
 {
     let place = Path::Member(path, "Action");
     let not_place = Path::Member(path, "NotAction");
@@ -78,18 +77,18 @@ fn read_actions(
         alloc,
         Form::Action,
         &place,
-        members.action,
+        member(statement, "Action"),
         &not_place,
-        members.not_action,
+        member(statement, "NotAction"),
     )
 }
 
 fn read_resources(
     alloc: Global,
     path: &Path<'_>,
-    members: &StatementMembers<'_>,
+    statement: &Value,
 ) -> Result<(TextList, TextList), PolicyFault>
-    ensures { Answers (pair_fault Resource (member_path (path_text path.now) (codes "Resource")) (option_map (λ v. view v.now) members.now.resource) (member_path (path_text path.now) (codes "NotResource")) (option_map (λ v. view v.now) members.now.not_resource)) (given_texts Resource (option_map (λ v. view v.now) members.now.resource), given_texts Resource (option_map (λ v. view v.now) members.now.not_resource)) result }
+    ensures { Answers (pair_fault Resource (member_path (path_text path.now) (codes "Resource")) (get (codes "Resource") (view statement.now)) (member_path (path_text path.now) (codes "NotResource")) (get (codes "NotResource") (view statement.now))) (given_texts Resource (get (codes "Resource") (view statement.now)), given_texts Resource (get (codes "NotResource") (view statement.now))) result }
 {
     let place = Path::Member(path, "Resource");
     let not_place = Path::Member(path, "NotResource");
@@ -97,25 +96,37 @@ fn read_resources(
         alloc,
         Form::Resource,
         &place,
-        members.resource,
+        member(statement, "Resource"),
         &not_place,
-        members.not_resource,
+        member(statement, "NotResource"),
     )
 }
 
-// Checks the names of a statement's members.
-fn check_names(
-    alloc: Global,
-    path: &Path<'_>,
-    members: &StatementMembers<'_>,
-) -> Result<(), PolicyFault>
-    ensures { Answers (option_or (not_principal_fault (member_path (path_text path.now) (codes "NotPrincipal")) (option_map (λ v. view v.now) members.now.not_principal)) (name_fault (path_text path.now) (option_map (λ name. name.now) members.now.unknown))) tt result }
+// The names that the members of a statement may have.
+const NAMES: [&str; 9] = [
+    "Sid",
+    "Effect",
+    "Principal",
+    "NotPrincipal",
+    "Action",
+    "NotAction",
+    "Resource",
+    "NotResource",
+    "Condition",
+];
+
+// Checks that a statement is an object, and the names of its members.
+fn check_names(alloc: Global, path: &Path<'_>, statement: &Value) -> Result<(), PolicyFault>
+    ensures { Answers (names_fault (path_text path.now) (view statement.now)) tt result }
 {
-    if members.not_principal.is_some() {
+    let Value::Object(members) = statement else {
+        return Err(fault(alloc, Departure::BadShape, path));
+    };
+    if member(statement, "NotPrincipal").is_some() {
         let place = Path::Member(path, "NotPrincipal");
         return Err(fault(alloc, Departure::Unsupported, &place));
     }
-    check_unknown(alloc, path, members.unknown)
+    check_unknown(alloc, path, first_unknown(&NAMES, members))
 }
 
 /// One statement.
@@ -127,19 +138,15 @@ pub fn read_statement(
 ) -> Result<Statement, PolicyFault>
     ensures { Answers (statement_fault kind (path_text path.now) (view value.now)) (statement_of kind (view value.now)) result }
 {
-    let Value::Object(map) = value else {
-        return Err(fault(alloc, Departure::BadShape, path));
-    };
-    let members = StatementMembers::find(map);
-    check_names(alloc, path, &members)?;
-    check_optional(alloc, &Path::Member(path, "Sid"), members.sid)?;
-    let allow = read_effect(alloc, &Path::Member(path, "Effect"), members.effect)?;
+    check_names(alloc, path, value)?;
+    check_optional(alloc, &Path::Member(path, "Sid"), member(value, "Sid"))?;
+    let allow = read_effect(alloc, &Path::Member(path, "Effect"), member(value, "Effect"))?;
     let place = Path::Member(path, "Principal");
-    let principals = read_principals(alloc, kind, &place, members.principal)?;
-    let (actions, not_actions) = read_actions(alloc, path, &members)?;
-    let (resources, not_resources) = read_resources(alloc, path, &members)?;
+    let principals = read_principals(alloc, kind, &place, member(value, "Principal"))?;
+    let (actions, not_actions) = read_actions(alloc, path, value)?;
+    let (resources, not_resources) = read_resources(alloc, path, value)?;
     let place = Path::Member(path, "Condition");
-    let conditions = read_conditions(alloc, &place, members.condition)?;
+    let conditions = read_conditions(alloc, &place, member(value, "Condition"))?;
     Ok(Statement {
         allow,
         principals,

@@ -1,5 +1,6 @@
 -- Decisions of a pass.
 use Rattle.std.proofs.Common.{◌≡◌, ◌<◌, ◌==◌, ℕ, ◌+◌, List, [], ◌∷◌, ◌++◌, length, add-one, Option, Some, None, Bool, true, false, refl, sym, ap, ap₂, ◌∙◌, subst, if◌then◌else◌, ◌⊎◌, inl, inr, Result, Ok, Err}
+use Rattle.kms_names.specs.Moment.{year_10000}
 use Rattle.std.specs.Result.{IfOk, OnOk, OnErr}
 use Rattle.kms_names.specs.declared.faults.NoMemory.{NoMemory}
 use Rattle.published_account.specs.declared.answered.Answered.{Answered}
@@ -52,7 +53,7 @@ either_parts reply r entry d (inr is) e = served_parts reply r entry (sym is ∙
 pub next_entry : (facts : RealmFacts) (entries : List Entry) (x : Ask) (entry : Entry) (reply : Reply) → Change entry reply ≡ decision_of facts entries x → IsProper facts x → IsNext facts entries entry
 next_entry facts entries x entry reply is proper = appended x proper (change_parts entry reply _ _ is).0
 
-pub house_next : (facts : RealmFacts) (entries : List Entry) (clock : ℕ) (entry : Entry) → clock < 253402300800 → housekeeping_of entries clock ≡ Some entry → IsNext facts entries entry
+pub house_next : (facts : RealmFacts) (entries : List Entry) (clock : ℕ) (entry : Entry) → clock < year_10000 → housekeeping_of entries clock ≡ Some entry → IsNext facts entries entry
 house_next facts entries clock entry before is = kept clock before is
 
 -- what the decision of the account does to a pass of these facts and this history

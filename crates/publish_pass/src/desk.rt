@@ -1,5 +1,6 @@
 // The desk.
 ghost use Rattle.std.specs.Prelude.{◌≡◌, ◌<◌, ◌≤◌, ◌++◌, ◌∷◌, [], length, true, IfOk, IfSome, OnOk, OnErr, IsTrue, IsFalse, ◌↔◌};
+ghost use Rattle.kms_names.specs.Moment.{year_10000};
 ghost use Rattle.std.specs.Arc.{arc_value};
 ghost use Rattle.kms_json.specs.Asks.{changes_account};
 ghost use Rattle.account_core.specs.Decide.{IsProper, IsNext};
@@ -15,7 +16,7 @@ use account_rows::Entry;
 use kms_io::{Gate, Point};
 use kms_json::{Ask, Reply};
 use kms_names::NoMemory;
-use published_account::{Answered, Copies, Head, Line, Published, Realm, Whole, answer_with, show};
+use published_account::{Answered, Copies, Tip, Prefix, Published, Realm, Whole, answer_with, show};
 use std::alloc::Global;
 use std::marker::{Model, PhantomData};
 use std::sync::ledger::Book;
@@ -25,7 +26,7 @@ use std::sync::{Arc, Wait};
 /// history, each entry with the number of the pass that made it.
 pub struct Desk<R: Realm> {
     writer: Copies,
-    head: Head<R>,
+    head: Tip<R>,
     book: Book<R>,
     of: PhantomData<R>,
 }
@@ -47,7 +48,7 @@ impl<R: Realm> Model for Desk<R> {
 }
 
 impl<R: Realm> Desk<R> {
-    pub(crate) fn new(writer: Copies, head: Head<R>, book: Book<R>) -> Desk<R>
+    pub(crate) fn new(writer: Copies, head: Tip<R>, book: Book<R>) -> Desk<R>
         requires names { Names R.book R.facts R.passes writer.desk.shown.value }
         requires empty { writer.desk.shown.value.whole.pairs ≡ [] }
         requires total { book.total ≡ 0 }
@@ -88,11 +89,11 @@ impl<R: Realm> Desk<R> {
     }
 
     // The published history.
-    fn line(&self) -> Line<R>
+    fn prefix(&self) -> Prefix<R>
         ensures { result ≡ self.now }
     {
         let shown = self.writer.published();
-        Line::of(shown.glimpse(), shown.whole().len())
+        Prefix::of(shown.glimpse(), shown.whole().len())
     }
 
     /// The pass learns the desk's whole history. It is true exactly where the pass has then seen as many
@@ -112,9 +113,9 @@ impl<R: Realm> Desk<R> {
         ensures alone { IsTrue result → KnewAllIfAlone pass.old pass.new × MadeAllIfAlone pass.new }
     {
         self.book.audit(&mut pass.share);
-        let line = self.line();
-        pass.learn_line(&line);
-        pass.seen() == line.len()
+        let prefix = self.prefix();
+        pass.learn_prefix(&prefix);
+        pass.seen() == prefix.len()
     }
 
     // The next account, with the entry as its last, which the pass makes.
@@ -126,16 +127,16 @@ impl<R: Realm> Desk<R> {
     }
 
     // The published history with one more entry, which is in its log then; none where the log is longer, or full.
-    fn logged(&self, entry: Entry, number: u16) -> Option<Line<R>>
+    fn logged(&self, entry: Entry, number: u16) -> Option<Prefix<R>>
         requires next { IsNext R.facts (entries_of self.now) entry × (0 < number) × (number ≤ R.passes) }
-        ensures { IfSome result (λ line. line ≡ self.now ++ (entry, number) ∷ []) }
+        ensures { IfSome result (λ prefix. prefix ≡ self.now ++ (entry, number) ∷ []) }
     {
-        let mut line = self.line();
-        if line.len() >= 1 << 62 {
+        let mut prefix = self.prefix();
+        if prefix.len() >= 1 << 62 {
             return None;
         }
-        if line.push(&self.head, &(entry, number)) {
-            Some(line)
+        if prefix.push(&self.head, &(entry, number)) {
+            Some(prefix)
         } else {
             None
         }
@@ -159,14 +160,14 @@ impl<R: Realm> Desk<R> {
     {
         pass.own.reserve(1)?;
         let place = self.whole().len();
-        let Some(line) = self.logged(entry, pass.number()) else {
+        let Some(prefix) = self.logged(entry, pass.number()) else {
             return Err(NoMemory);
         };
-        let published = Published::new(whole, line.glimpse());
+        let published = Published::new(whole, prefix.glimpse());
         show(rt, &mut self.writer, published);
         self.book.add(&mut pass.share, 1);
         pass.own.push_reserved(place);
-        pass.line = line;
+        pass.prefix = prefix;
         Ok(())
     }
 
@@ -180,7 +181,7 @@ impl<R: Realm> Desk<R> {
         moment: u64,
     ) -> Result<(), NoMemory>
         requires met { pass.old.history ≡ self.old }
-        requires moment { moment < 253402300800 }
+        requires moment { moment < year_10000 }
         ensures ok { OnOk result ((pass.new ≡ keeping_house pass.old moment) × (self.new ≡ pass.new.history)) }
         ensures err { OnErr result ((pass.new ≡ pass.old) × (self.new ≡ self.old)) }
     {

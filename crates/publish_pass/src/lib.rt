@@ -12,7 +12,10 @@ mod service;
 mod threads;
 mod told;
 
+pub use account_steps::RealmFacts;
 pub use desk::Desk;
+pub use kms_io::{Gate, Point};
+pub use kms_json::Ask;
 pub use opening::{Opening, open_service};
 pub use pass::Pass;
 pub use published_account::{Answered, Realm, Unread, answer_with};

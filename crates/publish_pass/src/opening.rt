@@ -11,7 +11,7 @@ use crate::told::Told;
 use account_steps::{RealmFacts, draw_line};
 use kms_names::{NoMemory, Text};
 use published_account::{
-    Copies, Entrance, Line, Notes, Published, Realm, Unnamed, Whole, Window, warm,
+    Copies, Entrance, Prefix, Notes, Published, Realm, Unnamed, Whole, Window, warm,
 };
 use std::alloc::Global;
 use std::marker::Model;
@@ -85,13 +85,13 @@ fn make_pass<R: Realm>(
     alloc: Global,
     writer: &mut Copies,
     facts: &RealmFacts,
-    line: &Line<R>,
+    prefix: &Prefix<R>,
     share: &mut Share<R>,
     number: u16,
 ) -> Result<Pass<R>, NoMemory>
     requires knows { Knows R.book R.facts R.passes (view writer.old.desk.place) }
     requires facts { facts.now ≡ R.facts }
-    requires line { line.now ≡ [] }
+    requires line { prefix.now ≡ [] }
     requires share { (1 ≤ share.old.parts) × (share.old.amount ≡ 0) }
     requires number { (0 < number) × (number ≤ R.passes) }
     ensures shown { writer.new.desk.shown.value ≡ writer.old.desk.shown.value }
@@ -104,7 +104,7 @@ fn make_pass<R: Realm>(
     let mine = share.split_off(1, 0);
     let own = Vec::new(alloc);
     let draws = draw_line(facts, number);
-    Ok(Pass::new(number, entrance, line.again(), own, draws, mine))
+    Ok(Pass::new(number, entrance, prefix.again(), own, draws, mine))
 }
 
 // The passes, with the numbers 1 to n in order.
@@ -112,13 +112,13 @@ fn make_passes<R: Realm>(
     alloc: Global,
     writer: &mut Copies,
     facts: &RealmFacts,
-    line: &Line<R>,
+    prefix: &Prefix<R>,
     share: Share<R>,
     passes: u16,
 ) -> Result<Vec<Pass<R>>, NoMemory>
     requires knows { Knows R.book R.facts R.passes (view writer.old.desk.place) }
     requires facts { facts.now ≡ R.facts }
-    requires line { line.now ≡ [] }
+    requires line { prefix.now ≡ [] }
     requires share { (share.parts ≡ passes) × (share.amount ≡ 0) }
     requires passes { passes ≡ R.passes }
     ensures shown { writer.new.desk.shown.value ≡ writer.old.desk.shown.value }
@@ -127,7 +127,7 @@ fn make_passes<R: Realm>(
     let mut share = share;
     let mut all = Vec::new(alloc);
     for i in 0..passes {
-        let pass = make_pass(alloc, writer, facts, line, &mut share, i + 1)?;
+        let pass = make_pass(alloc, writer, facts, prefix, &mut share, i + 1)?;
         all.push(pass)?;
     }
     Ok(all)
@@ -170,13 +170,13 @@ impl Opening {
 fn equip<R: Realm>(
     alloc: Global,
     writer: &mut Copies,
-    line: &Line<R>,
+    prefix: &Prefix<R>,
     share: Share<R>,
     passes: u16,
 ) -> Result<(Vec<Pass<R>>, Text), NoMemory>
     requires knows { Knows R.book R.facts R.passes (view writer.old.desk.place) }
     requires names { Names R.book R.facts R.passes writer.old.desk.shown.value }
-    requires line { line.now ≡ [] }
+    requires line { prefix.now ≡ [] }
     requires share { (share.parts ≡ passes) × (share.amount ≡ 0) }
     requires passes { passes ≡ R.passes }
     ensures shown { writer.new.desk.shown.value ≡ writer.old.desk.shown.value }
@@ -185,7 +185,7 @@ fn equip<R: Realm>(
 {
     let facts = writer.published().whole().account().facts().copy()?;
     let region = facts.region.copy()?;
-    let passes = make_passes(alloc, writer, &facts, line, share, passes)?;
+    let passes = make_passes(alloc, writer, &facts, prefix, share, passes)?;
     Ok((passes, region))
 }
 
@@ -208,15 +208,15 @@ pub fn open_service<W: Wait, R: Realm>(
         passes,
     } = opening;
     let (book, share) = blank.open::<R>();
-    let (head, line) = unnamed.named::<R>();
-    match equip(alloc, &mut writer, &line, share, passes) {
+    let (head, prefix) = unnamed.named::<R>();
+    match equip(alloc, &mut writer, &prefix, share, passes) {
         Err(error) => {
             drop(writer.take(rt));
             Err(error)
         }
         Ok((passes, region)) => {
             let desk = Desk::new(writer, head, book);
-            Ok((Service::new(desk, Told::new(line), region), passes))
+            Ok((Service::new(desk, Told::new(prefix), region), passes))
         }
     }
 }

@@ -10,7 +10,7 @@ ghost use Rattle.publish_pass.specs.Pass.{fresh_pass, ArePlaces, Learns, Answers
 use crate::told::Told;
 use draw_lines::DrawLine;
 use kms_json::Ask;
-use published_account::{Answered, Entrance, Found, Line, Realm, Unread};
+use published_account::{Answered, Entrance, Found, Prefix, Realm, Unread};
 use std::alloc::Global;
 use std::marker::Model;
 use std::sync::ledger::Share;
@@ -22,7 +22,7 @@ use std::sync::ledger::Share;
 pub struct Pass<R: Realm> {
     pub(crate) number: u16,
     entrance: Entrance<R>,
-    pub(crate) line: Line<R>,
+    pub(crate) prefix: Prefix<R>,
     pub(crate) own: Vec<u64>,
     draws: DrawLine,
     pub(crate) share: Share<R>,
@@ -35,12 +35,12 @@ impl<R: Realm> Model for Pass<R> {
 
     ghost Value = { passes.Pass };
 
-    ghost view = { λ p. record { facts = R.facts; passes = R.passes; number = p.number; history = p.line; own = p.own.items; places = places_of p.draws; missed = p.entrance } };
+    ghost view = { λ p. record { facts = R.facts; passes = R.passes; number = p.number; history = p.prefix; own = p.own.items; places = places_of p.draws; missed = p.entrance } };
 
     ghost invariant = { λ p. record {
       parts : p.share.parts ≡ 1;
       amount : p.share.amount ≡ length p.own.items;
-      own : passes.ArePlaces (length p.line) p.own.items;
+      own : passes.ArePlaces (length p.prefix) p.own.items;
       first : 0 < p.number;
       last : p.number ≤ R.passes;
       draws : IsLineOf R.facts p.draws;
@@ -54,13 +54,13 @@ impl<R: Realm> Pass<R> {
     pub(crate) fn new(
         number: u16,
         entrance: Entrance<R>,
-        line: Line<R>,
+        prefix: Prefix<R>,
         own: Vec<u64>,
         draws: DrawLine,
         share: Share<R>,
     ) -> Pass<R>
         requires number { (0 < number) × (number ≤ R.passes) }
-        requires empty { (entrance ≡ 0) × (line ≡ []) × (own.items ≡ []) }
+        requires empty { (entrance ≡ 0) × (prefix ≡ []) × (own.items ≡ []) }
         requires draws { draws ≡ first_line R.facts number }
         requires share { (share.parts ≡ 1) × (share.amount ≡ 0) }
         ensures { result ≡ fresh_pass R.facts R.passes number }
@@ -68,7 +68,7 @@ impl<R: Realm> Pass<R> {
         Pass {
             number,
             entrance,
-            line,
+            prefix,
             own,
             draws,
             share,
@@ -85,7 +85,7 @@ impl<R: Realm> Pass<R> {
         ensures history { IsHistory R.facts R.passes self.now.history }
         ensures own { ArePlaces (length self.now.history) self.now.own }
     {
-        self.line.len()
+        self.prefix.len()
     }
 
     /// Answers a request that doesn't change the account, at a history that holds all that this pass has
@@ -101,11 +101,11 @@ impl<R: Realm> Pass<R> {
         ensures answer { IfOk result (λ a. AnswersRead self.old ask.now a self.new) }
         ensures lacks { IfErr result (λ why. LacksRead self.old ask.now why self.new) }
     {
-        let Some(found) = self.entrance.enter(alloc, &self.line, ask, &mut self.draws) else {
+        let Some(found) = self.entrance.enter(alloc, &self.prefix, ask, &mut self.draws) else {
             return Err(Unread::NotEntered);
         };
-        let Found { answered, line } = found;
-        self.line = line;
+        let Found { answered, prefix } = found;
+        self.prefix = prefix;
         let answered = answered?;
         Ok(answered)
     }
@@ -114,7 +114,7 @@ impl<R: Realm> Pass<R> {
     pub fn tell(&self) -> Told<R>
         ensures { result ≡ self.now.history }
     {
-        Told::new(self.line.again())
+        Told::new(self.prefix.again())
     }
 
     /// Learns what another pass of the service told: the pass then holds the longer of both histories,
@@ -123,7 +123,7 @@ impl<R: Realm> Pass<R> {
         ensures longer { IsLongerOf self.old.history told.now self.new.history }
         ensures learns { Learns self.old self.new }
     {
-        self.learn_line(told.line());
+        self.learn_prefix(told.prefix());
     }
 
     // Its number, one of those of the passes.
@@ -136,10 +136,10 @@ impl<R: Realm> Pass<R> {
 
     // Learns a beginning of the history.
     #[tactic(auto, using(crate::proofs::OwnPlaces::places_stay))]
-    pub(crate) fn learn_line(&mut self, line: &Line<R>)
-        ensures longer { IsLongerOf self.old.history line.now self.new.history }
+    pub(crate) fn learn_prefix(&mut self, prefix: &Prefix<R>)
+        ensures longer { IsLongerOf self.old.history prefix.now self.new.history }
         ensures learns { Learns self.old self.new }
     {
-        self.line.learn(line);
+        self.prefix.learn(prefix);
     }
 }

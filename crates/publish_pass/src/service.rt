@@ -1,5 +1,6 @@
 // The service: the desk and the board, each behind its lock.
 ghost use Rattle.std.specs.Prelude.{◌≡◌, ◌<◌, true, IfOk, OnOk, OnErr, IfSome, IfNone, IsTrue, IsFalse};
+ghost use Rattle.kms_names.specs.Moment.{year_10000};
 ghost use Rattle.kms_json.specs.Asks.{changes_account};
 ghost use Rattle.account_core.specs.Decide.{IsProper};
 ghost use Rattle.publish_pass.specs.Pass.{Learns, LearnsAll, AnswersChange, WantsChange, KeepsHouse, WantsHouse};
@@ -88,7 +89,7 @@ fn try_keep_house<R: Realm, W: Wait>(
     pass: &mut Pass<R>,
     moment: u64,
 ) -> Option<Result<(), NoMemory>>
-    requires { moment < 253402300800 }
+    requires { moment < year_10000 }
     ensures none { IfNone result (pass.new ≡ pass.old) }
     ensures kept { IfSome result (λ r. OnOk r (KeepsHouse pass.old moment pass.new)) }
     ensures wants { IfSome result (λ r. OnErr r (WantsHouse pass.old moment pass.new)) }
@@ -154,7 +155,7 @@ impl<R: Realm> Pass<R> {
         service: &Service<R>,
         moment: u64,
     ) -> Result<(), NoMemory>
-        requires { moment < 253402300800 }
+        requires { moment < year_10000 }
         ensures kept { OnOk result (KeepsHouse self.old moment self.new) }
         ensures wants { OnErr result (WantsHouse self.old moment self.new) }
     {

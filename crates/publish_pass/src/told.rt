@@ -3,14 +3,14 @@ ghost use Rattle.std.specs.Prelude.{◌≡◌, length};
 ghost use Rattle.published_account.specs.Growing.{IsLongerOf};
 ghost use Rattle.published_account.specs.Pairs.{IsHistory};
 
-use published_account::{Line, Realm};
+use published_account::{Prefix, Realm};
 use std::marker::Model;
 
 /// What a pass tells others: the history that it has seen. It takes no memory. Contracts see that history,
 /// each entry with the number of the pass that made it.
 #[derive(Drop)]
 pub struct Told<R: Realm> {
-    line: Line<R>,
+    prefix: Prefix<R>,
 }
 
 impl<R: Realm> Model for Told<R> {
@@ -19,27 +19,27 @@ impl<R: Realm> Model for Told<R> {
 
     ghost Value = { List (Entry × ℕ) };
 
-    ghost view = { λ t. t.line };
+    ghost view = { λ t. t.prefix };
 }
 
 impl<R: Realm> Told<R> {
-    pub(crate) fn new(line: Line<R>) -> Told<R>
-        ensures { result ≡ line }
+    pub(crate) fn new(prefix: Prefix<R>) -> Told<R>
+        ensures { result ≡ prefix }
     {
-        Told { line }
+        Told { prefix }
     }
 
-    pub(crate) fn line(&self) -> &Line<R>
+    pub(crate) fn prefix(&self) -> &Prefix<R>
         ensures { result.now ≡ self.now }
     {
-        &self.line
+        &self.prefix
     }
 
     // Becomes the longer of both, which the other begins.
     pub(crate) fn add(&mut self, other: &Told<R>)
         ensures { IsLongerOf self.old other.now self.new }
     {
-        self.line.learn(&other.line);
+        self.prefix.learn(&other.prefix);
     }
 
     /// The number of entries that are told. Each of them is one that may come next after those before it.
@@ -47,6 +47,6 @@ impl<R: Realm> Told<R> {
         ensures count { result ≡ length self.now }
         ensures history { IsHistory R.facts R.passes self.now }
     {
-        self.line.len()
+        self.prefix.len()
     }
 }

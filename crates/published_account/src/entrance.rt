@@ -11,7 +11,7 @@ ghost use Rattle.published_account.specs.Reading.{Settles};
 ghost use Rattle.published_account.specs.Rules.{Knows, Names};
 
 use crate::answered::{Answered, answer_with};
-use crate::line::Line;
+use crate::prefix::Prefix;
 use crate::published::Published;
 use crate::realm::Realm;
 use crate::rule::{Sees, Window};
@@ -28,7 +28,7 @@ pub struct Found<R: Realm> {
     /// The answer, or that memory lacked for it.
     pub answered: Result<Answered, NoMemory>,
     /// The history that it stands on.
-    pub line: Line<R>,
+    pub prefix: Prefix<R>,
 }
 
 /// The reader of the published account. Contracts see it as the count of missed entries.
@@ -72,7 +72,7 @@ fn answer(
 fn answer_at<R: Realm>(
     shown: &Published,
     alloc: Global,
-    known: &Line<R>,
+    known: &Prefix<R>,
     ask: &Ask,
     draws: &mut DrawLine,
 ) -> Option<Found<R>>
@@ -80,24 +80,24 @@ fn answer_at<R: Realm>(
     requires proper { IsProper R.facts ask.now }
     requires reads { changes_account ask.now.body ≡ false }
     requires line { IsLineOf R.facts draws.old }
-    ensures begins { IfSome result (λ f. IsPrefix known.now f.line × IsHistory R.facts R.passes f.line) }
-    ensures found { IfSome result (λ f. Settles R.facts (entries_of f.line) ask.now draws.old f.answered draws.new) }
+    ensures begins { IfSome result (λ f. IsPrefix known.now f.prefix × IsHistory R.facts R.passes f.prefix) }
+    ensures found { IfSome result (λ f. Settles R.facts (entries_of f.prefix) ask.now draws.old f.answered draws.new) }
     ensures missed { IfNone result (draws.new ≡ draws.old) }
 {
     let count = shown.whole().len();
     if count < known.len() {
         return None;
     }
-    let line = known.joined(&Line::of(shown.glimpse(), count));
+    let prefix = known.joined(&Prefix::of(shown.glimpse(), count));
     let answered = answer(alloc, shown.whole().account(), ask, draws);
-    Some(Found { answered, line })
+    Some(Found { answered, prefix })
 }
 
 // Enters once, answers and leaves. It is None where the account was not entered, or is older than what is known.
 fn look<R: Realm>(
     window: Window,
     alloc: Global,
-    known: &Line<R>,
+    known: &Prefix<R>,
     ask: &Ask,
     draws: &mut DrawLine,
 ) -> (Window, Option<Found<R>>)
@@ -106,8 +106,8 @@ fn look<R: Realm>(
     requires reads { changes_account ask.now.body ≡ false }
     requires line { IsLineOf R.facts draws.old }
     ensures window { Knows R.book R.facts R.passes (view result.0.place) }
-    ensures begins { IfSome result.1 (λ f. IsPrefix known.now f.line × IsHistory R.facts R.passes f.line) }
-    ensures found { IfSome result.1 (λ f. Settles R.facts (entries_of f.line) ask.now draws.old f.answered draws.new) }
+    ensures begins { IfSome result.1 (λ f. IsPrefix known.now f.prefix × IsHistory R.facts R.passes f.prefix) }
+    ensures found { IfSome result.1 (λ f. Settles R.facts (entries_of f.prefix) ask.now draws.old f.answered draws.new) }
     ensures missed { IfNone result.1 (draws.new ≡ draws.old) }
 {
     match window.enter_as::<Sees>() {
@@ -144,16 +144,16 @@ impl<R: Realm> Entrance<R> {
     pub fn enter(
         &mut self,
         alloc: Global,
-        known: &Line<R>,
+        known: &Prefix<R>,
         ask: &Ask,
         draws: &mut DrawLine,
     ) -> Option<Found<R>>
         requires proper { IsProper R.facts ask.now }
         requires reads { changes_account ask.now.body ≡ false }
         requires line { IsLineOf R.facts draws.old }
-        ensures begins { IfSome result (λ f. IsPrefix known.now f.line × IsHistory R.facts R.passes f.line) }
+        ensures begins { IfSome result (λ f. IsPrefix known.now f.prefix × IsHistory R.facts R.passes f.prefix) }
         ensures entered { IfSome result (λ f. self.new ≡ self.old) }
-        ensures found { IfSome result (λ f. Settles R.facts (entries_of f.line) ask.now draws.old f.answered draws.new) }
+        ensures found { IfSome result (λ f. Settles R.facts (entries_of f.prefix) ask.now draws.old f.answered draws.new) }
         ensures missed { IfNone result (Rose self.old self.new × (draws.new ≡ draws.old)) }
     {
         let window = self.window.take().unwrap();

@@ -7,7 +7,7 @@
 
 mod answered;
 mod entrance;
-mod line;
+mod prefix;
 mod published;
 mod realm;
 mod rule;
@@ -17,7 +17,7 @@ mod whole;
 
 pub use answered::{Answered, Unread, answer_with};
 pub use entrance::{Entrance, Found};
-pub use line::{Glimpse, Head, Line, Unnamed};
+pub use prefix::{Glimpse, Tip, Prefix, Unnamed};
 pub use published::Published;
 pub use realm::Realm;
 pub use rule::{Copies, Notes, Window};

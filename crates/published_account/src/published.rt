@@ -2,7 +2,7 @@
 ghost use Rattle.std.specs.Prelude.{◌≡◌, length, IfOk};
 ghost use Rattle.std.specs.Arc.{arc_value};
 
-use crate::line::Glimpse;
+use crate::prefix::Glimpse;
 use crate::whole::Whole;
 use left_right::Absorb;
 use std::alloc::AllocError;

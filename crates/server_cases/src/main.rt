@@ -27,6 +27,6 @@ fn main(rt: HostRuntime) -> io::Result<ExitCode> {
     match show_all(&rt) {
         Ok(()) => Ok(ExitCode::SUCCESS),
         Err(Failure::Unlike) => Ok(ExitCode::FAILURE),
-        Err(Failure::Host(kind)) => Err(io::Error::from(kind)),
+        Err(Failure::Workshop(kind)) => Err(io::Error::from(kind)),
     }
 }

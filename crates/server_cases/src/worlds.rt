@@ -18,20 +18,20 @@ use std::{io, rt};
 #[derive(Clone, Copy)]
 pub enum Failure {
     /// Memory lacked, or a line could not be written.
-    Host(io::ErrorKind),
+    Workshop(io::ErrorKind),
     /// A worker waited for too long, or a reply has not its form.
     Unlike,
 }
 
 impl From<NoMemory> for Failure {
     fn from(_e: NoMemory) -> Failure {
-        Failure::Host(io::ErrorKind::OutOfMemory)
+        Failure::Workshop(io::ErrorKind::OutOfMemory)
     }
 }
 
 impl From<io::Error> for Failure {
     fn from(e: io::Error) -> Failure {
-        Failure::Host(e.kind())
+        Failure::Workshop(e.kind())
     }
 }
 

@@ -1,5 +1,6 @@
 -- A run keeps its pass's history lawful, and takes initialization vectors in order.
 use Rattle.std.proofs.Common.{◌≡◌, ◌<◌, ◌⊎◌, inl, inr, ℕ, List, [], ◌∷◌, ◌++◌, Bool, true, Option, Some, None, Result, Ok, Err, refl, sym, ap, ◌∙◌, subst}
+use Rattle.kms_names.specs.Moment.{year_10000}
 use Rattle.std.proofs.lemmas.List.{map-append}
 use Rattle.kms_json.specs.declared.asks.Ask.{Ask}
 use Rattle.kms_json.specs.declared.asks.AskBody.{AskBody}
@@ -36,7 +37,7 @@ use Rattle.session_laws.specs.Laws.{RunsKeepLawful, SealsAt, OneSessionRepeatsNo
 
 -- ---- a request of a session is proper
 
-module _ (facts : RealmFacts) (c : ℕ) (before : c < 253402300800) (x : Ask) where
+module _ (facts : RealmFacts) (c : ℕ) (before : c < year_10000) (x : Ask) where
   proper_of : (caller : Principal) → account_of caller ≡ facts.account → (values : List (List ℕ)) (text : List ℕ) (r : Result AskBody Refusal) (after : After)
       → asked_once values text ≡ r → planned caller c r after ≡ asks x → IsProper facts x
   proper_of caller of values text (Ok body) (Entries after) is e =
@@ -70,7 +71,7 @@ makes_lawful facts s None is next = is
 makes_lawful facts s (Some entry) is next =
     (is.0, subst (IsLawful facts) (sym (entries_of-push s.history entry s.number)) (longer entry is.1 (next entry refl)))
 
-house_lawful : (facts : RealmFacts) (s : Pass) (clock : ℕ) → clock < 253402300800 → HasLawful facts s → HasLawful facts (keeping_house s clock)
+house_lawful : (facts : RealmFacts) (s : Pass) (clock : ℕ) → clock < year_10000 → HasLawful facts s → HasLawful facts (keeping_house s clock)
 house_lawful facts s clock before is = makes_lawful facts s (housekeeping_of (entries_of s.history) clock) is (λ entry e. kept clock before e)
 
 same_pass : (facts : RealmFacts) (s t : Pass) → t ≡ s → HasLawful facts s → HasLawful facts t
@@ -87,7 +88,7 @@ read_lawful facts s u met is = met_lawful facts s u (ap (λ (p : Pass). p.facts)
 learnt_lawful : (facts : RealmFacts) (s u : Pass) → Learns s u → HasLawful facts s → HasLawful facts u
 learnt_lawful facts s u met is = met_lawful facts s u (ap (λ (p : Pass). p.facts) met.others) met.lawful is
 
-left_lawful : (facts : RealmFacts) (met t : Pass) (clock : ℕ) → clock < 253402300800 → HasLawful facts met → (t ≡ met) ⊎ (t ≡ keeping_house met clock) → HasLawful facts t
+left_lawful : (facts : RealmFacts) (met t : Pass) (clock : ℕ) → clock < year_10000 → HasLawful facts met → (t ≡ met) ⊎ (t ≡ keeping_house met clock) → HasLawful facts t
 left_lawful facts met t clock before is (inl same) = same_pass facts met t same is
 left_lawful facts met t clock before is (inr house) = same_pass facts (keeping_house met clock) t house (house_lawful facts met clock before is)
 
@@ -115,7 +116,7 @@ any_places s (Some entry) = refl
 stays : (facts : RealmFacts) (s t : Pass) → t.places ≡ s.places → PassGoesOn facts s.places t.places
 stays facts s t same = subst (PassGoesOn facts s.places) (sym same) (no_request s.places)
 
-module _ (facts : RealmFacts) (trust : Trust) (region : List ℕ) (c : ℕ) (before : c < 253402300800) (of : IsOfAccount facts.account trust) (item : Item) where
+module _ (facts : RealmFacts) (trust : Trust) (region : List ℕ) (c : ℕ) (before : c < year_10000) (of : IsOfAccount facts.account trust) (item : Item) where
   reading_steps : (s met t : Pass) (x : Ask) (left : Places) → Meets s met → t ≡ at_places met left → HasLawful facts s → PassGoesOn facts met.places left → Steps facts s t
   reading_steps s met t x left seen used is on =
       let there = read_lawful facts s met seen is in

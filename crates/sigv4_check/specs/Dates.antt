@@ -1,7 +1,7 @@
 -- The date of a request in the basic form of ISO 8601, YYYYMMDDTHHMMSSZ (IAM User Guide, "Elements of an AWS API request signature").
 use Rattle.std.specs.Prelude.{ℕ, Bool, ◌==◌, ◌&&◌, ◌+◌, ◌-◌, ◌*◌, if◌then◌else◌, List, Option, Some, None, option_and_then, option_map, length, slice_range, slice_index, nat_le, pos}
 use Rattle.jiff_core.specs.Calendar.{days_in_month, day_count}
-use Rattle.http_front.specs.Digits.{number_in}
+use Rattle.kms_names.specs.Digits.{number_in}
 use Rattle.kms_names.specs.Reading.{some_if}
 use Rattle.sigv4_check.specs.declared.dates.Written.{Written}
 

@@ -2,10 +2,10 @@
 use Rattle.std.specs.Prelude.{ℕ, List, map, take, drop}
 use Rattle.httparse.specs.Spans.{header_bytes}
 use Rattle.http_front.specs.Heading.{Field}
-use Rattle.http_front.specs.Places.{Places}
+use Rattle.http_front.specs.Offsets.{Offsets}
 
-abbrev pub fields_in : List ℕ → Places → List Field
+abbrev pub fields_in : List ℕ → Offsets → List Field
 fields_in buffer cut = map (header_bytes buffer) cut.headers
 
-abbrev pub body_in : List ℕ → Places → List ℕ
+abbrev pub body_in : List ℕ → Offsets → List ℕ
 body_in buffer cut = take cut.body (drop cut.head buffer)

@@ -2,7 +2,7 @@
 ghost use Rattle.std.specs.Prelude.{◌≡◌, ◌≤◌, ◌+◌, length, IfSome};
 ghost use Rattle.sigv4_check.specs.Dates.{could_be_day, digits_from, has_marks, is_time, days_to, written_in, second_at, second_of};
 
-use http_front::decimal;
+use kms_names::decimal;
 use jiff_core::civil::Date;
 
 const FIRST_YEAR: u64 = 1970;

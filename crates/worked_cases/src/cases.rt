@@ -1,5 +1,5 @@
 // A case: the session that it stands for, and what is wanted of it.
-use crate::lines::{Line, Places, Span, Wanted};
+use crate::lines::{Line, Given, Span, Wanted};
 use crate::texts::is_escaped;
 use std::alloc::{AllocError, Global};
 
@@ -26,7 +26,7 @@ pub struct Case<'a> {
     pub boot: u32,
     pub pieces: Span,
     pub cut: Option<Span>,
-    pub spent: Option<Places>,
+    pub spent: Option<Given>,
     pub requests: usize,
     pub replies: usize,
     pub has_ended: bool,

@@ -11,7 +11,7 @@ pub struct Span {
 
 /// How many words and initialization vectors a pass has given.
 #[derive(Clone, Copy, PartialEq, Eq)]
-pub struct Places {
+pub struct Given {
     pub words: u64,
     pub ivs: u64,
 }
@@ -58,7 +58,7 @@ pub enum Line<'a> {
     Again(usize),
     FailingRead(u64),
     FailingWrite(u64),
-    Spent(Places),
+    Spent(Given),
     Ask {
         operation: &'a str,
         body: &'a str,
@@ -69,7 +69,7 @@ pub enum Line<'a> {
         end: &'a str,
         whole: Option<usize>,
     },
-    Left(Places),
+    Left(Given),
 }
 
 // What hasn't been read of a line, and whether something in it couldn't be read.
@@ -129,8 +129,8 @@ impl<'a> Words<'a> {
         span
     }
 
-    fn places(&mut self) -> Places {
-        Places {
+    fn places(&mut self) -> Given {
+        Given {
             words: self.number(),
             ivs: self.last_number(),
         }

@@ -1,14 +1,14 @@
 // Cases that are asked of an account by a pass that has given so much already.
 ghost use Rattle.std.specs.Prelude.{◌≡◌, ◌≤◌, ◌^◌, IfOk, true};
 ghost use Rattle.kms_json.specs.Asks.{changes_account};
-ghost use Rattle.account_steps.specs.Places.{IsLineOf};
+ghost use Rattle.account_steps.specs.Given.{IsLineOf};
 ghost use Rattle.account_core.specs.Decide.{IsProper};
 ghost use Rattle.kms_names.specs.Principal.{account_of};
 
 use crate::callers::caller_of;
 use crate::cases::{Case, Request};
 use crate::failures::Failure;
-use crate::lines::{Line, Places, Wanted};
+use crate::lines::{Line, Given, Wanted};
 use crate::replies::body_text;
 use crate::sessions::{account_number, facts_of};
 use account_core::{Account, Decision};
@@ -150,7 +150,7 @@ fn compare(alloc: Global, answered: &Answered, wanted: &Wanted<'_>) -> Result<()
 }
 
 // The account of a case, with a line that has given so much.
-fn open_account(alloc: Global, case: &Case<'_>, spent: Places) -> Result<Asked, Failure> {
+fn open_account(alloc: Global, case: &Case<'_>, spent: Given) -> Result<Asked, Failure> {
     if spent.words > MOST || spent.ivs > MOST {
         return Err(Failure::Unfit);
     }
@@ -172,7 +172,7 @@ fn hold_case(alloc: Global, case: &Case<'_>, asked: &mut Asked) -> Result<(), Fa
 
 /// Asks an account, by a pass that has given so much, what a case asks, and compares the replies and
 /// what the pass has given afterwards.
-pub fn hold_places(alloc: Global, case: &Case<'_>, spent: Places) -> Result<(), Failure> {
+pub fn hold_places(alloc: Global, case: &Case<'_>, spent: Given) -> Result<(), Failure> {
     let Some(Line::Left(left)) = case.lines.last() else {
         return Err(Failure::NothingLeft);
     };
@@ -181,7 +181,7 @@ pub fn hold_places(alloc: Global, case: &Case<'_>, spent: Places) -> Result<(), 
     }
     let mut asked = open_account(alloc, case, spent)?;
     let held = hold_case(alloc, case, &mut asked);
-    let after = Places {
+    let after = Given {
         words: asked.line.words(),
         ivs: asked.line.ivs(),
     };

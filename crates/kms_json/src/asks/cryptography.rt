@@ -1,6 +1,9 @@
 // What the operations that use keys are asked.
+ghost use Rattle.std.specs.Prelude.{◌≡◌, IfOk};
+
+use super::pages::copied;
 use enc_context::Context;
-use kms_names::{Bytes, Text, TextList};
+use kms_names::{Bytes, NoMemory, Text, TextList};
 
 /// What Encrypt takes (AWS KMS API Reference, Encrypt).
 #[derive(Drop)]
@@ -74,4 +77,71 @@ pub struct DataKey {
     pub grant_tokens: TextList,
     /// Whether the call is only to say what it would answer.
     pub dry_run: bool,
+}
+
+impl Encrypt {
+    /// A copy that equals its source.
+    pub fn copy(&self) -> Result<Encrypt, NoMemory>
+        ensures { IfOk result (λ fields. fields ≡ self.now) }
+    {
+        Ok(Encrypt {
+            key_id: self.key_id.copy()?,
+            plaintext: self.plaintext.copy()?,
+            context: self.context.copy()?,
+            grant_tokens: self.grant_tokens.copy()?,
+            algorithm: copied(&self.algorithm)?,
+            dry_run: self.dry_run,
+        })
+    }
+}
+
+impl Decrypt {
+    /// A copy that equals its source.
+    pub fn copy(&self) -> Result<Decrypt, NoMemory>
+        ensures { IfOk result (λ fields. fields ≡ self.now) }
+    {
+        Ok(Decrypt {
+            blob: self.blob.copy()?,
+            context: self.context.copy()?,
+            grant_tokens: self.grant_tokens.copy()?,
+            key_id: copied(&self.key_id)?,
+            algorithm: copied(&self.algorithm)?,
+            recipient: self.recipient,
+            dry_run: self.dry_run,
+        })
+    }
+}
+
+impl ReEncrypt {
+    /// A copy that equals its source.
+    pub fn copy(&self) -> Result<ReEncrypt, NoMemory>
+        ensures { IfOk result (λ fields. fields ≡ self.now) }
+    {
+        Ok(ReEncrypt {
+            blob: self.blob.copy()?,
+            source_context: self.source_context.copy()?,
+            source_key_id: copied(&self.source_key_id)?,
+            key_id: self.key_id.copy()?,
+            context: self.context.copy()?,
+            source_algorithm: copied(&self.source_algorithm)?,
+            algorithm: copied(&self.algorithm)?,
+            grant_tokens: self.grant_tokens.copy()?,
+            dry_run: self.dry_run,
+        })
+    }
+}
+
+impl DataKey {
+    /// A copy that equals its source.
+    pub fn copy(&self) -> Result<DataKey, NoMemory>
+        ensures { IfOk result (λ fields. fields ≡ self.now) }
+    {
+        Ok(DataKey {
+            key_id: self.key_id.copy()?,
+            context: self.context.copy()?,
+            size: self.size,
+            grant_tokens: self.grant_tokens.copy()?,
+            dry_run: self.dry_run,
+        })
+    }
 }

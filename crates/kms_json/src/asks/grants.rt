@@ -1,7 +1,9 @@
 // What the operations on grants are asked.
-use super::pages::Page;
+ghost use Rattle.std.specs.Prelude.{◌≡◌, IfOk};
+
+use super::pages::{Page, copied};
 use enc_context::Context;
-use kms_names::{GrantOps, Text, TextList};
+use kms_names::{GrantOps, NoMemory, Text, TextList};
 
 /// What a grant is to ask of the encryption context of a request (AWS KMS API Reference,
 /// GrantConstraints). A context has at most 4,096 encoded bytes here.
@@ -56,4 +58,64 @@ pub struct ListGrants {
     pub grant_id: Option<Text>,
     /// Whose grants are asked for, where it is given: a text of 1 to 256 bytes.
     pub grantee: Option<Text>,
+}
+
+impl GrantConstraint {
+    /// A copy that equals its source.
+    pub fn copy(&self) -> Result<GrantConstraint, NoMemory>
+        ensures { IfOk result (λ constraint. constraint ≡ self.now) }
+    {
+        match self {
+            GrantConstraint::Free => Ok(GrantConstraint::Free),
+            GrantConstraint::Equals(pairs) => Ok(GrantConstraint::Equals(pairs.copy()?)),
+            GrantConstraint::Subset(pairs) => Ok(GrantConstraint::Subset(pairs.copy()?)),
+        }
+    }
+}
+
+impl CreateGrant {
+    /// A copy that equals its source.
+    pub fn copy(&self) -> Result<CreateGrant, NoMemory>
+        ensures { IfOk result (λ fields. fields ≡ self.now) }
+    {
+        Ok(CreateGrant {
+            key_id: self.key_id.copy()?,
+            grantee: self.grantee.copy()?,
+            retiring: copied(&self.retiring)?,
+            operations: self.operations,
+            constraint: self.constraint.copy()?,
+            grant_tokens: self.grant_tokens.copy()?,
+            name: copied(&self.name)?,
+            dry_run: self.dry_run,
+        })
+    }
+}
+
+impl RetiredGrant {
+    /// A copy that equals its source.
+    pub fn copy(&self) -> Result<RetiredGrant, NoMemory>
+        ensures { IfOk result (λ grant. grant ≡ self.now) }
+    {
+        match self {
+            RetiredGrant::OfToken(token) => Ok(RetiredGrant::OfToken(token.copy()?)),
+            RetiredGrant::OfKey { key_id, grant_id } => Ok(RetiredGrant::OfKey {
+                key_id: key_id.copy()?,
+                grant_id: grant_id.copy()?,
+            }),
+        }
+    }
+}
+
+impl ListGrants {
+    /// A copy that equals its source.
+    pub fn copy(&self) -> Result<ListGrants, NoMemory>
+        ensures { IfOk result (λ fields. fields ≡ self.now) }
+    {
+        Ok(ListGrants {
+            key_id: self.key_id.copy()?,
+            page: self.page.copy()?,
+            grant_id: copied(&self.grant_id)?,
+            grantee: copied(&self.grantee)?,
+        })
+    }
 }

@@ -1,5 +1,8 @@
 // What the operations on keys are asked.
-use kms_names::Text;
+ghost use Rattle.std.specs.Prelude.{◌≡◌, IfOk};
+
+use super::pages::copied;
+use kms_names::{NoMemory, Text};
 
 /// What CreateKey takes (AWS KMS API Reference, CreateKey).
 #[derive(Drop)]
@@ -26,4 +29,25 @@ pub struct CreateKey {
     pub multi_region: bool,
     /// Whether a key of an external key store is given.
     pub xks_key_id: bool,
+}
+
+impl CreateKey {
+    /// A copy that equals its source.
+    pub fn copy(&self) -> Result<CreateKey, NoMemory>
+        ensures { IfOk result (λ fields. fields ≡ self.now) }
+    {
+        Ok(CreateKey {
+            policy: copied(&self.policy)?,
+            description: self.description.copy()?,
+            key_usage: copied(&self.key_usage)?,
+            customer_master_key_spec: copied(&self.customer_master_key_spec)?,
+            key_spec: copied(&self.key_spec)?,
+            origin: copied(&self.origin)?,
+            custom_key_store_id: self.custom_key_store_id,
+            bypass_lockout_check: self.bypass_lockout_check,
+            tags: self.tags,
+            multi_region: self.multi_region,
+            xks_key_id: self.xks_key_id,
+        })
+    }
 }

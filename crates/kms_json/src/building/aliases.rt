@@ -2,7 +2,6 @@
 ghost use Rattle.std.specs.Prelude.{◌≡◌};
 ghost use Rattle.kms_json.specs.Building.{held};
 ghost use Rattle.kms_json.specs.AliasAsks as asked;
-ghost use Rattle.kms_json.specs.AliasFields.{put_alias_fields, delete_alias_fields, list_aliases_fields};
 
 use super::{next, page};
 use crate::asks::{Changing, Reading};
@@ -12,7 +11,7 @@ use std::collections::VecDeque;
 
 /// CreateAlias.
 pub fn create_alias(alloc: Global, values: &mut VecDeque<Given>) -> Changing
-    ensures { result ≡ asked.create_alias (held put_alias_fields values.old.items) }
+    ensures { result ≡ asked.create_alias (held asked.put_alias_fields values.old.items) }
 {
     let alias = text_in(alloc, next(values));
     let key_id = text_in(alloc, next(values));
@@ -21,7 +20,7 @@ pub fn create_alias(alloc: Global, values: &mut VecDeque<Given>) -> Changing
 
 /// UpdateAlias.
 pub fn update_alias(alloc: Global, values: &mut VecDeque<Given>) -> Changing
-    ensures { result ≡ asked.update_alias (held put_alias_fields values.old.items) }
+    ensures { result ≡ asked.update_alias (held asked.put_alias_fields values.old.items) }
 {
     let alias = text_in(alloc, next(values));
     let key_id = text_in(alloc, next(values));
@@ -30,7 +29,7 @@ pub fn update_alias(alloc: Global, values: &mut VecDeque<Given>) -> Changing
 
 /// DeleteAlias.
 pub fn delete_alias(alloc: Global, values: &mut VecDeque<Given>) -> Changing
-    ensures { result ≡ asked.delete_alias (held delete_alias_fields values.old.items) }
+    ensures { result ≡ asked.delete_alias (held asked.delete_alias_fields values.old.items) }
 {
     Changing::DeleteAlias {
         alias: text_in(alloc, next(values)),
@@ -39,7 +38,7 @@ pub fn delete_alias(alloc: Global, values: &mut VecDeque<Given>) -> Changing
 
 /// ListAliases.
 pub fn list_aliases(values: &mut VecDeque<Given>) -> Reading
-    ensures { result ≡ asked.list_aliases (held list_aliases_fields values.old.items) }
+    ensures { result ≡ asked.list_aliases (held asked.list_aliases_fields values.old.items) }
 {
     let key_id = text_if(next(values));
     let page = page(values, 50);

@@ -1,85 +1,60 @@
 // What the operations that use keys are asked.
-ghost use Rattle.std.specs.Prelude.{◌≡◌, IfOk};
+ghost use Rattle.std.specs.Prelude.{◌≡◌};
 ghost use Rattle.kms_json.specs.Building.{held};
 ghost use Rattle.kms_json.specs.CryptographyAsks as asked;
-ghost use Rattle.kms_json.specs.declared.asks.Reading.TheVariants as reading;
-ghost use Rattle.kms_json.specs.CryptographyFields.{encrypt_fields, decrypt_fields, re_encrypt_fields, generate_data_key_fields, generate_data_key_without_plaintext_fields, generate_random_fields};
 
 use super::next;
 use crate::asks::{DataKey, Decrypt, Encrypt, ReEncrypt, Reading};
 use crate::given::{
     Given, bytes_in, context_in, flag_in, is_given, number_in, text_if, text_in, texts_in,
 };
-use kms_names::NoMemory;
 use std::alloc::Global;
 use std::collections::VecDeque;
 
 /// Encrypt.
-pub fn encrypt(alloc: Global, values: &mut VecDeque<Given>) -> Result<Reading, NoMemory>
-    ensures { IfOk result (λ made. made ≡ reading.Encrypt (asked.encrypt (held encrypt_fields values.old.items))) }
+pub fn encrypt(alloc: Global, values: &mut VecDeque<Given>) -> Reading
+    ensures { result ≡ asked.encrypt (held asked.encrypt_fields values.old.items) }
 {
-    let key_id = text_in(alloc, next(values));
-    let plaintext = bytes_in(alloc, next(values));
-    let context = context_in(alloc, next(values))?;
-    let grant_tokens = texts_in(alloc, next(values));
-    let algorithm = text_if(next(values));
-    let dry_run = flag_in(next(values));
-    Ok(Reading::Encrypt(Encrypt {
-        key_id,
-        plaintext,
-        context,
-        grant_tokens,
-        algorithm,
-        dry_run,
-    }))
+    Reading::Encrypt(Encrypt {
+        key_id: text_in(alloc, next(values)),
+        plaintext: bytes_in(alloc, next(values)),
+        context: context_in(alloc, next(values)),
+        grant_tokens: texts_in(alloc, next(values)),
+        algorithm: text_if(next(values)),
+        dry_run: flag_in(next(values)),
+    })
 }
 
 /// Decrypt.
-pub fn decrypt(alloc: Global, values: &mut VecDeque<Given>) -> Result<Reading, NoMemory>
-    ensures { IfOk result (λ made. made ≡ reading.Decrypt (asked.decrypt (held decrypt_fields values.old.items))) }
+pub fn decrypt(alloc: Global, values: &mut VecDeque<Given>) -> Reading
+    ensures { result ≡ asked.decrypt (held asked.decrypt_fields values.old.items) }
 {
-    let blob = bytes_in(alloc, next(values));
-    let context = context_in(alloc, next(values))?;
-    let grant_tokens = texts_in(alloc, next(values));
-    let key_id = text_if(next(values));
-    let algorithm = text_if(next(values));
-    let recipient = is_given(next(values));
-    let dry_run = flag_in(next(values));
-    Ok(Reading::Decrypt(Decrypt {
-        blob,
-        context,
-        grant_tokens,
-        key_id,
-        algorithm,
-        recipient,
-        dry_run,
-    }))
+    Reading::Decrypt(Decrypt {
+        blob: bytes_in(alloc, next(values)),
+        context: context_in(alloc, next(values)),
+        grant_tokens: texts_in(alloc, next(values)),
+        key_id: text_if(next(values)),
+        algorithm: text_if(next(values)),
+        recipient: is_given(next(values)),
+        dry_run: flag_in(next(values)),
+    })
 }
 
 /// ReEncrypt.
-pub fn re_encrypt(alloc: Global, values: &mut VecDeque<Given>) -> Result<Reading, NoMemory>
-    ensures { IfOk result (λ made. made ≡ reading.ReEncrypt (asked.re_encrypt (held re_encrypt_fields values.old.items))) }
+pub fn re_encrypt(alloc: Global, values: &mut VecDeque<Given>) -> Reading
+    ensures { result ≡ asked.re_encrypt (held asked.re_encrypt_fields values.old.items) }
 {
-    let blob = bytes_in(alloc, next(values));
-    let source_context = context_in(alloc, next(values))?;
-    let source_key_id = text_if(next(values));
-    let key_id = text_in(alloc, next(values));
-    let context = context_in(alloc, next(values))?;
-    let source_algorithm = text_if(next(values));
-    let algorithm = text_if(next(values));
-    let grant_tokens = texts_in(alloc, next(values));
-    let dry_run = flag_in(next(values));
-    Ok(Reading::ReEncrypt(ReEncrypt {
-        blob,
-        source_context,
-        source_key_id,
-        key_id,
-        context,
-        source_algorithm,
-        algorithm,
-        grant_tokens,
-        dry_run,
-    }))
+    Reading::ReEncrypt(ReEncrypt {
+        blob: bytes_in(alloc, next(values)),
+        source_context: context_in(alloc, next(values)),
+        source_key_id: text_if(next(values)),
+        key_id: text_in(alloc, next(values)),
+        context: context_in(alloc, next(values)),
+        source_algorithm: text_if(next(values)),
+        algorithm: text_if(next(values)),
+        grant_tokens: texts_in(alloc, next(values)),
+        dry_run: flag_in(next(values)),
+    })
 }
 
 // The size of a data key of this spec.
@@ -101,11 +76,11 @@ fn data_key_size(spec: Given, number: Given) -> u64
 }
 
 /// GenerateDataKey: the number of bytes stands before the spec.
-pub fn generate_data_key(alloc: Global, values: &mut VecDeque<Given>) -> Result<Reading, NoMemory>
-    ensures { IfOk result (λ reading. reading ≡ asked.generate_data_key (held generate_data_key_fields values.old.items)) }
+pub fn generate_data_key(alloc: Global, values: &mut VecDeque<Given>) -> Reading
+    ensures { result ≡ asked.generate_data_key (held asked.generate_data_key_fields values.old.items) }
 {
     let key_id = text_in(alloc, next(values));
-    let context = context_in(alloc, next(values))?;
+    let context = context_in(alloc, next(values));
     let number = next(values);
     let size = data_key_size(next(values), number);
     let grant_tokens = texts_in(alloc, next(values));
@@ -118,38 +93,32 @@ pub fn generate_data_key(alloc: Global, values: &mut VecDeque<Given>) -> Result<
         grant_tokens,
         dry_run,
     };
-    Ok(Reading::GenerateDataKey { key, recipient })
+    Reading::GenerateDataKey { key, recipient }
 }
 
 /// GenerateDataKeyWithoutPlaintext: the spec stands before the number of bytes.
-pub fn seal_data_key(alloc: Global, values: &mut VecDeque<Given>) -> Result<Reading, NoMemory>
-    ensures { IfOk result (λ made. made ≡ reading.GenerateDataKeyWithoutPlaintext (asked.data_key (held generate_data_key_without_plaintext_fields values.old.items))) }
+pub fn generate_data_key_without_plaintext(
+    alloc: Global,
+    values: &mut VecDeque<Given>,
+) -> Reading
+    ensures { result ≡ asked.generate_data_key_without_plaintext (held asked.generate_data_key_without_plaintext_fields values.old.items) }
 {
-    let key_id = text_in(alloc, next(values));
-    let context = context_in(alloc, next(values))?;
-    let spec = next(values);
-    let size = data_key_size(spec, next(values));
-    let grant_tokens = texts_in(alloc, next(values));
-    let dry_run = flag_in(next(values));
-    Ok(Reading::GenerateDataKeyWithoutPlaintext(DataKey {
-        key_id,
-        context,
-        size,
-        grant_tokens,
-        dry_run,
-    }))
+    Reading::GenerateDataKeyWithoutPlaintext(DataKey {
+        key_id: text_in(alloc, next(values)),
+        context: context_in(alloc, next(values)),
+        size: data_key_size(next(values), next(values)),
+        grant_tokens: texts_in(alloc, next(values)),
+        dry_run: flag_in(next(values)),
+    })
 }
 
 /// GenerateRandom.
 pub fn generate_random(values: &mut VecDeque<Given>) -> Reading
-    ensures { result ≡ asked.generate_random (held generate_random_fields values.old.items) }
+    ensures { result ≡ asked.generate_random (held asked.generate_random_fields values.old.items) }
 {
-    let size = number_in(next(values));
-    let custom_key_store = is_given(next(values));
-    let recipient = is_given(next(values));
     Reading::GenerateRandom {
-        size,
-        custom_key_store,
-        recipient,
+        size: number_in(next(values)),
+        custom_key_store: is_given(next(values)),
+        recipient: is_given(next(values)),
     }
 }

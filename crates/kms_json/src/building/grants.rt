@@ -2,7 +2,6 @@
 ghost use Rattle.std.specs.Prelude.{◌≡◌};
 ghost use Rattle.kms_json.specs.Building.{held};
 ghost use Rattle.kms_json.specs.GrantAsks as asked;
-ghost use Rattle.kms_json.specs.GrantFields.{create_grant_fields, retire_grant_fields, revoke_grant_fields, list_grants_fields, list_retirable_grants_fields};
 
 use super::{next, page};
 use crate::asks::{Changing, CreateGrant, ListGrants, Reading, RetiredGrant};
@@ -12,25 +11,17 @@ use std::collections::VecDeque;
 
 /// CreateGrant.
 pub fn create_grant(alloc: Global, values: &mut VecDeque<Given>) -> Changing
-    ensures { result ≡ asked.create_grant (held create_grant_fields values.old.items) }
+    ensures { result ≡ asked.create_grant (held asked.create_grant_fields values.old.items) }
 {
-    let key_id = text_in(alloc, next(values));
-    let grantee = text_in(alloc, next(values));
-    let retiring = text_if(next(values));
-    let operations = operations_in(next(values));
-    let constraint = constraint_in(next(values));
-    let grant_tokens = texts_in(alloc, next(values));
-    let name = text_if(next(values));
-    let dry_run = flag_in(next(values));
     Changing::CreateGrant(CreateGrant {
-        key_id,
-        grantee,
-        retiring,
-        operations,
-        constraint,
-        grant_tokens,
-        name,
-        dry_run,
+        key_id: text_in(alloc, next(values)),
+        grantee: text_in(alloc, next(values)),
+        retiring: text_if(next(values)),
+        operations: operations_in(next(values)),
+        constraint: constraint_in(next(values)),
+        grant_tokens: texts_in(alloc, next(values)),
+        name: text_if(next(values)),
+        dry_run: flag_in(next(values)),
     })
 }
 
@@ -50,49 +41,39 @@ fn retired(alloc: Global, token: Given, key_id: Given, grant_id: Given) -> Retir
 
 /// RetireGrant.
 pub fn retire_grant(alloc: Global, values: &mut VecDeque<Given>) -> Changing
-    ensures { result ≡ asked.retire_grant (held retire_grant_fields values.old.items) }
+    ensures { result ≡ asked.retire_grant (held asked.retire_grant_fields values.old.items) }
 {
-    let token = next(values);
-    let key_id = next(values);
-    let grant_id = next(values);
-    let grant = retired(alloc, token, key_id, grant_id);
+    let grant = retired(alloc, next(values), next(values), next(values));
     let dry_run = flag_in(next(values));
     Changing::RetireGrant { grant, dry_run }
 }
 
 /// RevokeGrant.
 pub fn revoke_grant(alloc: Global, values: &mut VecDeque<Given>) -> Changing
-    ensures { result ≡ asked.revoke_grant (held revoke_grant_fields values.old.items) }
+    ensures { result ≡ asked.revoke_grant (held asked.revoke_grant_fields values.old.items) }
 {
-    let key_id = text_in(alloc, next(values));
-    let grant_id = text_in(alloc, next(values));
-    let dry_run = flag_in(next(values));
     Changing::RevokeGrant {
-        key_id,
-        grant_id,
-        dry_run,
+        key_id: text_in(alloc, next(values)),
+        grant_id: text_in(alloc, next(values)),
+        dry_run: flag_in(next(values)),
     }
 }
 
 /// ListGrants.
 pub fn list_grants(alloc: Global, values: &mut VecDeque<Given>) -> Reading
-    ensures { result ≡ asked.list_grants (held list_grants_fields values.old.items) }
+    ensures { result ≡ asked.list_grants (held asked.list_grants_fields values.old.items) }
 {
-    let key_id = text_in(alloc, next(values));
-    let page = page(values, 50);
-    let grant_id = text_if(next(values));
-    let grantee = text_if(next(values));
     Reading::ListGrants(ListGrants {
-        key_id,
-        page,
-        grant_id,
-        grantee,
+        key_id: text_in(alloc, next(values)),
+        page: page(values, 50),
+        grant_id: text_if(next(values)),
+        grantee: text_if(next(values)),
     })
 }
 
 /// ListRetirableGrants.
 pub fn list_retirable_grants(alloc: Global, values: &mut VecDeque<Given>) -> Reading
-    ensures { result ≡ asked.list_retirable_grants (held list_retirable_grants_fields values.old.items) }
+    ensures { result ≡ asked.list_retirable_grants (held asked.list_retirable_grants_fields values.old.items) }
 {
     let retiring = text_in(alloc, next(values));
     let page = page(values, 50);

@@ -2,7 +2,6 @@
 ghost use Rattle.std.specs.Prelude.{◌≡◌};
 ghost use Rattle.kms_json.specs.Building.{held};
 ghost use Rattle.kms_json.specs.KeyAsks as asked;
-ghost use Rattle.kms_json.specs.KeyFields.{create_key_fields, update_key_description_fields, describe_key_fields, list_keys_fields};
 
 use super::{next, page};
 use crate::asks::{Changing, CreateKey, Reading};
@@ -12,7 +11,7 @@ use std::collections::VecDeque;
 
 /// CreateKey.
 pub fn create_key(alloc: Global, values: &mut VecDeque<Given>) -> Changing
-    ensures { result ≡ asked.create_key (held create_key_fields values.old.items) }
+    ensures { result ≡ asked.create_key (held asked.create_key_fields values.old.items) }
 {
     Changing::CreateKey(CreateKey {
         policy: text_if(next(values)),
@@ -31,31 +30,27 @@ pub fn create_key(alloc: Global, values: &mut VecDeque<Given>) -> Changing
 
 /// UpdateKeyDescription.
 pub fn update_key_description(alloc: Global, values: &mut VecDeque<Given>) -> Changing
-    ensures { result ≡ asked.update_key_description (held update_key_description_fields values.old.items) }
+    ensures { result ≡ asked.update_key_description (held asked.update_key_description_fields values.old.items) }
 {
-    let key_id = text_in(alloc, next(values));
-    let description = text_in(alloc, next(values));
     Changing::UpdateKeyDescription {
-        key_id,
-        description,
+        key_id: text_in(alloc, next(values)),
+        description: text_in(alloc, next(values)),
     }
 }
 
 /// DescribeKey.
 pub fn describe_key(alloc: Global, values: &mut VecDeque<Given>) -> Reading
-    ensures { result ≡ asked.describe_key (held describe_key_fields values.old.items) }
+    ensures { result ≡ asked.describe_key (held asked.describe_key_fields values.old.items) }
 {
-    let key_id = text_in(alloc, next(values));
-    let grant_tokens = texts_in(alloc, next(values));
     Reading::DescribeKey {
-        key_id,
-        grant_tokens,
+        key_id: text_in(alloc, next(values)),
+        grant_tokens: texts_in(alloc, next(values)),
     }
 }
 
 /// ListKeys.
 pub fn list_keys(values: &mut VecDeque<Given>) -> Reading
-    ensures { result ≡ asked.list_keys (held list_keys_fields values.old.items) }
+    ensures { result ≡ asked.list_keys (held asked.list_keys_fields values.old.items) }
 {
     Reading::ListKeys {
         page: page(values, 100),

@@ -3,7 +3,6 @@ ghost use Rattle.std.specs.Prelude.{◌≡◌};
 ghost use Rattle.kms_json.specs.Building.{held};
 ghost use Rattle.kms_json.specs.Fields.{list_of_key};
 ghost use Rattle.kms_json.specs.PolicyAsks as asked;
-ghost use Rattle.kms_json.specs.PolicyFields.{put_key_policy_fields, get_key_policy_fields};
 
 use super::{next, page};
 use crate::asks::{Changing, Reading};
@@ -13,7 +12,7 @@ use std::collections::VecDeque;
 
 /// PutKeyPolicy.
 pub fn put_key_policy(alloc: Global, values: &mut VecDeque<Given>) -> Changing
-    ensures { result ≡ asked.put_key_policy (held put_key_policy_fields values.old.items) }
+    ensures { result ≡ asked.put_key_policy (held asked.put_key_policy_fields values.old.items) }
 {
     let key_id = text_in(alloc, next(values));
     let _policy_name = next(values);
@@ -37,7 +36,7 @@ pub fn list_key_policies(alloc: Global, values: &mut VecDeque<Given>) -> Reading
 
 /// GetKeyPolicy.
 pub fn get_key_policy(alloc: Global, values: &mut VecDeque<Given>) -> Reading
-    ensures { result ≡ asked.get_key_policy (held get_key_policy_fields values.old.items) }
+    ensures { result ≡ asked.get_key_policy (held asked.get_key_policy_fields values.old.items) }
 {
     Reading::GetKeyPolicy {
         key_id: text_in(alloc, next(values)),

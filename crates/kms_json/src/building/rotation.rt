@@ -3,7 +3,6 @@ ghost use Rattle.std.specs.Prelude.{◌≡◌};
 ghost use Rattle.kms_json.specs.Building.{held};
 ghost use Rattle.kms_json.specs.Fields.{key_alone, list_of_key};
 ghost use Rattle.kms_json.specs.RotationAsks as asked;
-ghost use Rattle.kms_json.specs.RotationFields.{enable_key_rotation_fields};
 
 use super::{next, page};
 use crate::asks::{Changing, Reading};
@@ -16,7 +15,7 @@ const PERIOD: u64 = 365;
 
 /// EnableKeyRotation.
 pub fn enable_key_rotation(alloc: Global, values: &mut VecDeque<Given>) -> Changing
-    ensures { result ≡ asked.enable_key_rotation (held enable_key_rotation_fields values.old.items) }
+    ensures { result ≡ asked.enable_key_rotation (held asked.enable_key_rotation_fields values.old.items) }
 {
     let key_id = text_in(alloc, next(values));
     let period = number_or(next(values), PERIOD);

@@ -3,7 +3,6 @@ ghost use Rattle.std.specs.Prelude.{◌≡◌};
 ghost use Rattle.kms_json.specs.Building.{held};
 ghost use Rattle.kms_json.specs.Fields.{key_alone};
 ghost use Rattle.kms_json.specs.StateAsks as asked;
-ghost use Rattle.kms_json.specs.StateFields.{schedule_key_deletion_fields};
 
 use super::next;
 use crate::asks::Changing;
@@ -16,7 +15,7 @@ const WAITING_DAYS: u64 = 30;
 
 /// ScheduleKeyDeletion.
 pub fn schedule_key_deletion(alloc: Global, values: &mut VecDeque<Given>) -> Changing
-    ensures { result ≡ asked.schedule_key_deletion (held schedule_key_deletion_fields values.old.items) }
+    ensures { result ≡ asked.schedule_key_deletion (held asked.schedule_key_deletion_fields values.old.items) }
 {
     let key_id = text_in(alloc, next(values));
     let days = number_or(next(values), WAITING_DAYS);

@@ -1,10 +1,10 @@
 // What the operations on aliases answer.
 ghost use Rattle.std.specs.Prelude.{◌≡◌, IfOk};
 ghost use Rattle.serde_json.specs.View.{view};
-ghost use Rattle.kms_json.specs.AliasReplies.{alias_by, alias_data, aliases_data};
+ghost use Rattle.kms_json.specs.AliasReplies as answered;
 
 use super::pages::page;
-use crate::objects::{Item, Member, Rows, list_of, object_of};
+use crate::objects::{Item, Member, RowWriter, list_of, object_of};
 use crate::replies::{AliasPage, ListedAlias};
 use kms_names::{AccountNumber, NoMemory, alias_arn, key_text};
 use serde_json::Value;
@@ -16,7 +16,7 @@ fn alias_by<'a>(
     alias: &'a ListedAlias,
     key: &'a str,
 ) -> Result<Value, NoMemory>
-    ensures { IfOk result (λ v. view v ≡ alias_by arn.now alias.now key.now) }
+    ensures { IfOk result (λ v. view v ≡ answered.alias_by arn.now alias.now key.now) }
 {
     let members = [
         Member("AliasArn", Item::Text(arn)),
@@ -35,10 +35,10 @@ struct AliasRows<'a> {
     region: &'a str,
 }
 
-impl Rows for AliasRows<'_> {
+impl RowWriter for AliasRows<'_> {
     type Row = ListedAlias;
 
-    ghost row_data = { λ rows alias. alias_data rows.account.now rows.region.now alias };
+    ghost row_data = { λ rows alias. answered.alias_data rows.account.now rows.region.now alias };
 
     fn row(&self, alloc: Global, alias: &ListedAlias) -> Result<Value, NoMemory> {
         let arn = alias_arn(alloc, self.account, self.region, &alias.name)?;
@@ -49,7 +49,7 @@ impl Rows for AliasRows<'_> {
 
 /// What ListAliases answers.
 pub fn alias_list(alloc: Global, list: &AliasPage) -> Result<Value, NoMemory>
-    ensures { IfOk result (λ v. view v ≡ aliases_data list.now) }
+    ensures { IfOk result (λ v. view v ≡ answered.aliases_data list.now) }
 {
     let writer = AliasRows {
         account: &list.account,

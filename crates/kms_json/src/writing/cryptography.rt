@@ -2,7 +2,7 @@
 ghost use Rattle.std.specs.Prelude.{◌≡◌, IfOk};
 ghost use Rattle.kms_json.specs.Objects.{base64_text};
 ghost use Rattle.serde_json.specs.View.{view};
-ghost use Rattle.kms_json.specs.CryptographyReplies.{encrypted_data, decrypted_data, re_encrypted_data, data_key_data, sealed_data_key_data, random_data};
+ghost use Rattle.kms_json.specs.CryptographyReplies as answered;
 
 use crate::objects::{Item, Member, object_of};
 use crate::replies::SYMMETRIC_DEFAULT;
@@ -12,7 +12,7 @@ use std::alloc::Global;
 
 /// What Encrypt answers.
 pub fn encrypted<'a>(alloc: Global, blob: &'a Bytes, arn: &'a str) -> Result<Value, NoMemory>
-    ensures { IfOk result (λ v. view v ≡ encrypted_data (base64_text blob.now) arn.now) }
+    ensures { IfOk result (λ v. view v ≡ answered.encrypted_data (base64_text blob.now) arn.now) }
 {
     let members = [
         Member("CiphertextBlob", Item::Base64(blob)),
@@ -24,7 +24,7 @@ pub fn encrypted<'a>(alloc: Global, blob: &'a Bytes, arn: &'a str) -> Result<Val
 
 /// What Decrypt answers.
 pub fn decrypted<'a>(alloc: Global, plaintext: &'a Bytes, arn: &'a str) -> Result<Value, NoMemory>
-    ensures { IfOk result (λ v. view v ≡ decrypted_data (base64_text plaintext.now) arn.now) }
+    ensures { IfOk result (λ v. view v ≡ answered.decrypted_data (base64_text plaintext.now) arn.now) }
 {
     let members = [
         Member("EncryptionAlgorithm", Item::Text(SYMMETRIC_DEFAULT)),
@@ -41,7 +41,7 @@ pub fn re_encrypted<'a>(
     arn: &'a str,
     source_arn: &'a str,
 ) -> Result<Value, NoMemory>
-    ensures { IfOk result (λ v. view v ≡ re_encrypted_data (base64_text blob.now) arn.now source_arn.now) }
+    ensures { IfOk result (λ v. view v ≡ answered.re_encrypted_data (base64_text blob.now) arn.now source_arn.now) }
 {
     let members = [
         Member("CiphertextBlob", Item::Base64(blob)),
@@ -63,7 +63,7 @@ pub fn data_key<'a>(
     plaintext: &'a Bytes,
     arn: &'a str,
 ) -> Result<Value, NoMemory>
-    ensures { IfOk result (λ v. view v ≡ data_key_data (base64_text blob.now) (base64_text plaintext.now) arn.now) }
+    ensures { IfOk result (λ v. view v ≡ answered.data_key_data (base64_text blob.now) (base64_text plaintext.now) arn.now) }
 {
     let members = [
         Member("CiphertextBlob", Item::Base64(blob)),
@@ -75,7 +75,7 @@ pub fn data_key<'a>(
 
 /// What GenerateDataKeyWithoutPlaintext answers.
 pub fn sealed_data_key<'a>(alloc: Global, blob: &'a Bytes, arn: &'a str) -> Result<Value, NoMemory>
-    ensures { IfOk result (λ v. view v ≡ sealed_data_key_data (base64_text blob.now) arn.now) }
+    ensures { IfOk result (λ v. view v ≡ answered.sealed_data_key_data (base64_text blob.now) arn.now) }
 {
     let members = [
         Member("CiphertextBlob", Item::Base64(blob)),
@@ -86,7 +86,7 @@ pub fn sealed_data_key<'a>(alloc: Global, blob: &'a Bytes, arn: &'a str) -> Resu
 
 /// What GenerateRandom answers.
 pub fn random(alloc: Global, plaintext: &Bytes) -> Result<Value, NoMemory>
-    ensures { IfOk result (λ v. view v ≡ random_data (base64_text plaintext.now)) }
+    ensures { IfOk result (λ v. view v ≡ answered.random_data (base64_text plaintext.now)) }
 {
     object_of(alloc, &[Member("Plaintext", Item::Base64(plaintext))])
 }

@@ -5,11 +5,11 @@ ghost use Rattle.serde_json.specs.View.{view};
 ghost use Rattle.kms_names.specs.GrantOps.{contains, grant_op_name};
 ghost use Rattle.kms_names.specs.Principal.{principal_text};
 ghost use Rattle.kms_json.specs.Objects.{list_data};
-ghost use Rattle.kms_json.specs.GrantReplies.{granted_data, context_data, constraint_data, operations_data, grant_by, grant_data, grants_data};
+ghost use Rattle.kms_json.specs.GrantReplies as answered;
 
 use super::pages::page;
 use crate::asks::GrantConstraint;
-use crate::objects::{Item, Member, Rows, list_of, members_of, object_of, put_if_any};
+use crate::objects::{Item, Member, RowWriter, list_of, members_of, object_of, put_if_any};
 use crate::replies::{GrantPage, ListedGrant};
 use enc_context::Context;
 use kms_names::{
@@ -21,7 +21,7 @@ use std::alloc::Global;
 
 /// What CreateGrant answers.
 pub fn granted(alloc: Global, grant: &GrantId) -> Result<Value, NoMemory>
-    ensures { IfOk result (λ v. view v ≡ granted_data grant.now) }
+    ensures { IfOk result (λ v. view v ≡ answered.granted_data grant.now) }
 {
     let id = grant_text(alloc, grant)?;
     let members = [
@@ -32,7 +32,7 @@ pub fn granted(alloc: Global, grant: &GrantId) -> Result<Value, NoMemory>
 }
 
 fn context(alloc: Global, context: &Context) -> Result<Value, NoMemory>
-    ensures { IfOk result (λ v. view v ≡ context_data context.now) }
+    ensures { IfOk result (λ v. view v ≡ answered.context_data context.now) }
 {
     let mut members = Map::new(alloc);
     for pair in context.pairs() {
@@ -44,7 +44,7 @@ fn context(alloc: Global, context: &Context) -> Result<Value, NoMemory>
 
 // What a grant asks of contexts, if it is anything.
 fn constraint(alloc: Global, constraint: &GrantConstraint) -> Result<Option<Value>, NoMemory>
-    ensures { IfOk result (λ value. option_map (λ v. view v) value ≡ constraint_data constraint.now) }
+    ensures { IfOk result (λ value. option_map (λ v. view v) value ≡ answered.constraint_data constraint.now) }
 {
     match constraint {
         GrantConstraint::Free => Ok(None),
@@ -74,7 +74,7 @@ fn names_in(alloc: Global, operations: &GrantOps, all: &[GrantOp]) -> Result<Val
 
 // The names of a set of operations, in their order.
 fn operations(alloc: Global, operations: &GrantOps) -> Result<Value, NoMemory>
-    ensures { IfOk result (λ v. view v ≡ operations_data operations.now) }
+    ensures { IfOk result (λ v. view v ≡ answered.operations_data operations.now) }
 {
     names_in(alloc, operations, &GrantOp::ALL)
 }
@@ -143,7 +143,7 @@ fn grant_by(
     constraint: Option<Value>,
     operations: Value,
 ) -> Result<Value, NoMemory>
-    ensures { IfOk result (λ v. view v ≡ grant_by created texts.entry.id.now texts.entry.grantee.now texts.entry.issuer.now texts.entry.arn.now (option_map (λ t. t.now) texts.entry.name) (option_map (λ t. t.now) texts.entry.retiring) (option_map (λ v. view v) constraint) (view operations)) }
+    ensures { IfOk result (λ v. view v ≡ answered.grant_by created texts.entry.id.now texts.entry.grantee.now texts.entry.issuer.now texts.entry.arn.now (option_map (λ t. t.now) texts.entry.name) (option_map (λ t. t.now) texts.entry.retiring) (option_map (λ v. view v) constraint) (view operations)) }
 {
     let members = [
         Member("CreationDate", Item::Number(created)),
@@ -167,10 +167,10 @@ struct GrantRows<'a> {
     region: &'a str,
 }
 
-impl Rows for GrantRows<'_> {
+impl RowWriter for GrantRows<'_> {
     type Row = ListedGrant;
 
-    ghost row_data = { λ rows grant. grant_data rows.account.now rows.region.now grant };
+    ghost row_data = { λ rows grant. answered.grant_data rows.account.now rows.region.now grant };
 
     fn row(&self, alloc: Global, grant: &ListedGrant) -> Result<Value, NoMemory> {
         let id = grant_text(alloc, &grant.grant)?;
@@ -187,7 +187,7 @@ impl Rows for GrantRows<'_> {
 
 /// What ListGrants and ListRetirableGrants answer.
 pub fn grant_list(alloc: Global, list: &GrantPage) -> Result<Value, NoMemory>
-    ensures { IfOk result (λ v. view v ≡ grants_data list.now) }
+    ensures { IfOk result (λ v. view v ≡ answered.grants_data list.now) }
 {
     let writer = GrantRows {
         account: &list.account,

@@ -1,10 +1,10 @@
 // What the operations on keys answer.
 ghost use Rattle.std.specs.Prelude.{◌≡◌, IfOk};
 ghost use Rattle.serde_json.specs.View.{view};
-ghost use Rattle.kms_json.specs.KeyReplies.{described_as, metadata_data, key_by, key_data, keys_data};
+ghost use Rattle.kms_json.specs.KeyReplies as answered;
 
 use super::pages::page;
-use crate::objects::{Item, Member, Rows, list_of, object_of};
+use crate::objects::{Item, Member, RowWriter, list_of, object_of};
 use crate::replies::{KeyMetadata, KeyPage, SYMMETRIC_DEFAULT};
 use kms_names::{AccountNumber, KeyId, NoMemory, key_arn, key_text};
 use serde_json::{Value, json};
@@ -18,7 +18,7 @@ fn described<'a>(
     key: &'a KeyMetadata,
     id: &'a str,
 ) -> Result<Value, NoMemory>
-    ensures { IfOk result (λ v. view v ≡ described_as account.now arn.now key.now id.now) }
+    ensures { IfOk result (λ v. view v ≡ answered.described_as account.now arn.now key.now id.now) }
 {
     let state = key.state;
     let members = [
@@ -43,7 +43,7 @@ fn described<'a>(
 
 /// What DescribeKey and CreateKey answer.
 pub fn metadata(alloc: Global, key: &KeyMetadata) -> Result<Value, NoMemory>
-    ensures { IfOk result (λ v. view v ≡ metadata_data key.now) }
+    ensures { IfOk result (λ v. view v ≡ answered.metadata_data key.now) }
 {
     let id = key_text(alloc, &key.key)?;
     let arn = key_arn(alloc, &key.account, key.region.as_str(), &key.key)?;
@@ -53,7 +53,7 @@ pub fn metadata(alloc: Global, key: &KeyMetadata) -> Result<Value, NoMemory>
 }
 
 fn key_by<'a>(alloc: Global, arn: &'a str, id: &'a str) -> Result<Value, NoMemory>
-    ensures { IfOk result (λ v. view v ≡ key_by arn.now id.now) }
+    ensures { IfOk result (λ v. view v ≡ answered.key_by arn.now id.now) }
 {
     let members = [
         Member("KeyArn", Item::Text(arn)),
@@ -69,10 +69,10 @@ struct KeyRows<'a> {
     region: &'a str,
 }
 
-impl Rows for KeyRows<'_> {
+impl RowWriter for KeyRows<'_> {
     type Row = KeyId;
 
-    ghost row_data = { λ rows key. key_data rows.account.now rows.region.now key };
+    ghost row_data = { λ rows key. answered.key_data rows.account.now rows.region.now key };
 
     fn row(&self, alloc: Global, key: &KeyId) -> Result<Value, NoMemory> {
         let id = key_text(alloc, key)?;
@@ -83,7 +83,7 @@ impl Rows for KeyRows<'_> {
 
 /// What ListKeys answers.
 pub fn key_list(alloc: Global, list: &KeyPage) -> Result<Value, NoMemory>
-    ensures { IfOk result (λ v. view v ≡ keys_data list.now) }
+    ensures { IfOk result (λ v. view v ≡ answered.keys_data list.now) }
 {
     let writer = KeyRows {
         account: &list.account,

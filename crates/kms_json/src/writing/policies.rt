@@ -1,7 +1,7 @@
 // What the operations on key policies answer.
 ghost use Rattle.std.specs.Prelude.{◌≡◌, IfOk};
 ghost use Rattle.serde_json.specs.View.{view};
-ghost use Rattle.kms_json.specs.PolicyReplies.{key_policy_data, key_policies_data};
+ghost use Rattle.kms_json.specs.PolicyReplies as answered;
 
 use crate::objects::{Item, Member, object_of};
 use kms_names::NoMemory;
@@ -10,7 +10,7 @@ use std::alloc::Global;
 
 /// What GetKeyPolicy answers.
 pub fn key_policy(alloc: Global, policy: &str) -> Result<Value, NoMemory>
-    ensures { IfOk result (λ v. view v ≡ key_policy_data policy.now) }
+    ensures { IfOk result (λ v. view v ≡ answered.key_policy_data policy.now) }
 {
     let members = [
         Member("Policy", Item::Text(policy)),
@@ -21,7 +21,7 @@ pub fn key_policy(alloc: Global, policy: &str) -> Result<Value, NoMemory>
 
 /// What ListKeyPolicies answers.
 pub fn key_policies(alloc: Global) -> Result<Value, NoMemory>
-    ensures { IfOk result (λ v. view v ≡ key_policies_data) }
+    ensures { IfOk result (λ v. view v ≡ answered.key_policies_data) }
 {
     let members = [
         Member("PolicyNames", Item::OneText("default")),

@@ -1,10 +1,10 @@
 // What the operations on the rotation of keys answer.
 ghost use Rattle.std.specs.Prelude.{◌≡◌, IfOk};
 ghost use Rattle.serde_json.specs.View.{view};
-ghost use Rattle.kms_json.specs.RotationReplies.{rotated_data, rotation_data, rotation_type, one_rotation_data, rotations_data};
+ghost use Rattle.kms_json.specs.RotationReplies as answered;
 
 use super::pages::page;
-use crate::objects::{Item, Member, Rows, list_of, object_of};
+use crate::objects::{Item, Member, RowWriter, list_of, object_of};
 use crate::replies::{AutomaticRotation, Rotation, RotationPage};
 use kms_names::{KeyId, NoMemory, key_text};
 use serde_json::Value;
@@ -12,7 +12,7 @@ use std::alloc::Global;
 
 /// What RotateKeyOnDemand answers.
 pub fn rotated(alloc: Global, key: &KeyId) -> Result<Value, NoMemory>
-    ensures { IfOk result (λ v. view v ≡ rotated_data key.now) }
+    ensures { IfOk result (λ v. view v ≡ answered.rotated_data key.now) }
 {
     let id = key_text(alloc, key)?;
     object_of(alloc, &[Member("KeyId", Item::Text(id.as_str()))])
@@ -24,7 +24,7 @@ pub fn rotation(
     key: &KeyId,
     rotation: Option<AutomaticRotation>,
 ) -> Result<Value, NoMemory>
-    ensures { IfOk result (λ v. view v ≡ rotation_data key.now rotation) }
+    ensures { IfOk result (λ v. view v ≡ answered.rotation_data key.now rotation) }
 {
     let id = key_text(alloc, key)?;
     let id = Member("KeyId", Item::Text(id.as_str()));
@@ -46,7 +46,7 @@ pub fn rotation(
 }
 
 fn rotation_type(on_demand: bool) -> &'static str
-    ensures { result.now ≡ rotation_type on_demand }
+    ensures { result.now ≡ answered.rotation_type on_demand }
 {
     if on_demand { "ON_DEMAND" } else { "AUTOMATIC" }
 }
@@ -57,10 +57,10 @@ struct RotationRows<'a> {
     id: &'a str,
 }
 
-impl Rows for RotationRows<'_> {
+impl RowWriter for RotationRows<'_> {
     type Row = Rotation;
 
-    ghost row_data = { λ rows rotation. one_rotation_data rows.id.now rotation };
+    ghost row_data = { λ rows rotation. answered.one_rotation_data rows.id.now rotation };
 
     fn row(&self, alloc: Global, rotation: &Rotation) -> Result<Value, NoMemory> {
         let members = [
@@ -77,7 +77,7 @@ impl Rows for RotationRows<'_> {
 
 /// What ListKeyRotations answers.
 pub fn rotation_list(alloc: Global, list: &RotationPage) -> Result<Value, NoMemory>
-    ensures { IfOk result (λ v. view v ≡ rotations_data list.now) }
+    ensures { IfOk result (λ v. view v ≡ answered.rotations_data list.now) }
 {
     let id = key_text(alloc, &list.key)?;
     let rows = list_of(

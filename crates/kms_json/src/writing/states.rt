@@ -1,7 +1,7 @@
 // What the operations on the states of keys answer.
 ghost use Rattle.std.specs.Prelude.{◌≡◌, IfOk};
 ghost use Rattle.serde_json.specs.View.{view};
-ghost use Rattle.kms_json.specs.StateReplies.{deletion_data, cancelled_data};
+ghost use Rattle.kms_json.specs.StateReplies as answered;
 
 use crate::objects::{Item, Member, object_of};
 use kms_names::NoMemory;
@@ -10,7 +10,7 @@ use std::alloc::Global;
 
 /// What ScheduleKeyDeletion answers.
 pub fn deletion(alloc: Global, arn: &str, deletion_date: u64, days: u64) -> Result<Value, NoMemory>
-    ensures { IfOk result (λ v. view v ≡ deletion_data arn.now deletion_date days) }
+    ensures { IfOk result (λ v. view v ≡ answered.deletion_data arn.now deletion_date days) }
 {
     let members = [
         Member("DeletionDate", Item::Number(deletion_date)),
@@ -23,7 +23,7 @@ pub fn deletion(alloc: Global, arn: &str, deletion_date: u64, days: u64) -> Resu
 
 /// What CancelKeyDeletion answers.
 pub fn cancelled(alloc: Global, arn: &str) -> Result<Value, NoMemory>
-    ensures { IfOk result (λ v. view v ≡ cancelled_data arn.now) }
+    ensures { IfOk result (λ v. view v ≡ answered.cancelled_data arn.now) }
 {
     object_of(alloc, &[Member("KeyId", Item::Text(arn))])
 }

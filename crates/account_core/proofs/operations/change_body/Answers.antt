@@ -15,7 +15,10 @@ pub returns-in-PutKeyPolicy : goal.returns-in-PutKeyPolicy
 returns-in-PutKeyPolicy c = subst (OfBody c.args.view.now c.change-in-PutKeyPolicy.result) (sym c.in-PutKeyPolicy.is) c.change-in-PutKeyPolicy.ensures
 
 pub returns-in-UpdateKeyDescription : goal.returns-in-UpdateKeyDescription
-returns-in-UpdateKeyDescription c = subst (OfBody c.args.view.now c.change-in-UpdateKeyDescription.result) (sym c.in-UpdateKeyDescription.is) c.change-in-UpdateKeyDescription.ensures
+returns-in-UpdateKeyDescription c =
+    let made = c.change_key.result in
+    subst (OfBody c.args.view.now made) (sym c.in-UpdateKeyDescription.is)
+    (subst (λ (text : List ℕ). OfBody c.args.view.now made (changing.UpdateKeyDescription c.in-UpdateKeyDescription.key_id.now text)) c.new-text.ensures c.change_key.ensures)
 
 pub returns-in-ScheduleKeyDeletion : goal.returns-in-ScheduleKeyDeletion
 returns-in-ScheduleKeyDeletion c = subst (OfBody c.args.view.now c.change_key-in-ScheduleKeyDeletion.result) (sym c.in-ScheduleKeyDeletion.is) c.change_key-in-ScheduleKeyDeletion.ensures

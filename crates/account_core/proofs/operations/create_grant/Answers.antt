@@ -9,5 +9,5 @@ use Rattle.account_core.proofs.operations.create_grant.Goals as goal
 pub returns : goal.returns
 returns c =
     let made = c.change.result in
-    subst (λ (view : View). Makes (changes view (creates_grant view c.args.x.now)) made) c.in_ok-creating.ensures.0
+    subst (λ (view : View). Makes (changes view (creates_grant view c.args.request.now)) made) c.in_ok-creating.ensures.0
     (subst (λ (x : CreateGrant). Makes (changes c.in_ok-creating.creating.view.now (creates_grant c.in_ok-creating.creating.view.now x)) made) c.in_ok-creating.ensures.1 c.change.ensures)

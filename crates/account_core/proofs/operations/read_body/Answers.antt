@@ -9,8 +9,8 @@ use Rattle.account_core.proofs.operations.read_body.Goals as goal
 pub returns-in-GenerateDataKey : goal.returns-in-GenerateDataKey
 returns-in-GenerateDataKey c =
     let line = c.args.line.now in
-    subst (λ (b : Reading). Settles (decided_read (read_outcome c.args.view.now b) (places_of line)) line c.read-in-GenerateDataKey.result c.read-in-GenerateDataKey.new.line)
-    (sym c.in-GenerateDataKey.is) c.read-in-GenerateDataKey.ensures
+    subst (λ (b : Reading). Settles (decided_read (read_outcome c.args.view.now b) (places_of line)) line c.generate.result c.generate.new.line)
+    (sym c.in-GenerateDataKey.is) c.generate.ensures
 
 pub returns-in-GenerateRandom : goal.returns-in-GenerateRandom
 returns-in-GenerateRandom c =

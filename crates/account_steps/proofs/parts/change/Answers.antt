@@ -15,8 +15,8 @@ made_is reply wanted_reply what wanted e f = λ i. record { reply = sym e i; eff
 
 pub returns : goal.returns
 returns g c =
-    let view = g.O.Operation.seen c.args.operation.now in
-    let parts = g.O.Operation.parts c.args.operation.now in
+    let view = g.O.Request.seen c.args.operation.now in
+    let parts = g.O.Request.parts c.args.operation.now in
     let does = g.O.Changes.does c.args.operation.now in
     let passes : Outcome (Option What) → Result (Outcome (Option What)) Refusal = λ o. unless (or_else (limited view o.effect) (only_asked parts.dry_run)) (Ok o) in
     let made = c.in_ok-make.field-0 in

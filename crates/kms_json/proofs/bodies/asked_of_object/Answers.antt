@@ -45,4 +45,4 @@ returns c =
     let read : values_of (fields_of op) body ≡ Some values = subst (λ (rows : List FieldRow). values_of rows body ≡ Some values) c.fields-fields.ensures (sym all) in
     let valid : None ≡ first_invalid (fields_of op) body values =
     subst (λ (rows : List FieldRow). None ≡ first_invalid rows body values) c.fields-fields.ensures c.in_default-first_fault.ensures in
-    served_is op body values c.in_ok-asked_from.field-0 read valid c.in_ok-asked_from.ensures
+    served_is op body values c.asked_from.result read valid c.asked_from.ensures

@@ -33,7 +33,7 @@ answer-answered-requires-clause-line g c =
 pub returns-clause-found : goal.returns-clause-found
 returns-clause-found g c =
     let facts = c.account.ensures.0 ∙ ap (λ (w : Whole). w.facts) c.whole-2.ensures ∙ c.requires.names.1 in
-    let same : c.joined-line.result ≡ c.args.shown.now.whole.pairs = c.joined-line.ensures.same ∙ c.of.ensures ∙ c.glimpse.ensures.1 in
+    let same : c.joined-prefix.result ≡ c.args.shown.now.whole.pairs = c.joined-prefix.ensures.same ∙ c.of.ensures ∙ c.glimpse.ensures.1 in
     let entries = c.account.ensures.1 ∙ ap (λ (w : Whole). entries_of w.pairs) c.whole-2.ensures ∙ ap entries_of (sym same) in
-    subst (λ (f : RealmFacts). Settles f (entries_of c.joined-line.result) c.args.ask.now c.args.draws.now c.answer-answered.result c.answer-answered.new.draws) facts
+    subst (λ (f : RealmFacts). Settles f (entries_of c.joined-prefix.result) c.args.ask.now c.args.draws.now c.answer-answered.result c.answer-answered.new.draws) facts
     (subst (λ (h : List Entry). Settles c.account.result.now.facts h c.args.ask.now c.args.draws.now c.answer-answered.result c.answer-answered.new.draws) entries c.answer-answered.ensures)

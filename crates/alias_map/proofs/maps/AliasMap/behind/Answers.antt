@@ -1,9 +1,9 @@
 use Rattle.std.proofs.Common.{◌≡◌, true, false, rules, subst, ap, ◌∙◌, List, length, ◌-◌, take, drop}
+use Rattle.kms_names.specs.Place.{is_behind}
 use Rattle.std.specs.Prelude.{filter}
 use Rattle.std.specs.List.Sorted.{IsPartitionedBy, IsPartitionPoint}
 use Rattle.std.proofs.lemmas.Fn.{always_returns_same}
 use Rattle.alias_map.specs.declared.rows.AliasRow.{AliasRow}
-use Rattle.alias_map.specs.Aliases.{is_after}
 use Rattle.kms_names.proofs.Behind.{was_before, parted, those_behind}
 use Rattle.alias_map.proofs.maps.AliasMap.behind.Goals as goal
 
@@ -16,4 +16,4 @@ returns c =
     let parts = c.partition_point-start.ensures.partitioned (was_before born after) (always_returns_same _ _ _ (λ a r q k. (search rules, search rules))) in
     let at = subst (λ (xs : List AliasRow). IsPartitionedBy (was_before born after) xs → IsPartitionPoint (λ (row : AliasRow). was_before born after row ≡ true) (λ (row : AliasRow). was_before born after row ≡ false) xs start) c.deref.ensures.value parts in
     ap (λ (xs : List AliasRow). take (length xs - start) (drop start xs)) c.deref-2.ensures.value
-    ∙ (those_behind born rows c.self.invariant.0.1 after start (at (parted born rows c.self.invariant.0.1 after)) ∙ ap (λ xs. filter (is_after after) xs) c.self.view_is)
+    ∙ (those_behind born rows c.self.invariant.0.1 after start (at (parted born rows c.self.invariant.0.1 after)) ∙ ap (λ xs. filter (λ (row : AliasRow). is_behind after row.born) xs) c.self.view_is)

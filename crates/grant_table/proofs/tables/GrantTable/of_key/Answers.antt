@@ -5,7 +5,8 @@ use Rattle.std.specs.Ordering.{nat_cmp}
 use Rattle.std.specs.Str.{bytes_eq}
 use Rattle.grant_table.specs.declared.index.Entry.{Entry}
 use Rattle.grant_table.specs.declared.rows.GrantRow.{GrantRow}
-use Rattle.grant_table.specs.Grants.{is_of_key, is_after, grant_of_key}
+use Rattle.grant_table.specs.Grants.{is_of_key, grant_of_key}
+use Rattle.kms_names.specs.Place.{is_behind}
 use Rattle.grant_table.specs.Index.{entries_with, rows_at}
 use Rattle.grant_table.proofs.PlaceFacts.{index_in_order, find_by_index, and_turned}
 use Rattle.grant_table.proofs.tables.GrantTable.of_key.Goals as goal
@@ -22,7 +23,7 @@ returns c =
     let entries = c.self.inside.by_key.items in
     let after = c.args.after in
     c.first_behind.ensures
-    ∙ (ap (λ rs. find (is_after after) (rows_at rs c.group-entries.result.now)) c.as_slice-2.ensures.value
-    ∙ (ap (λ es. find (is_after after) (rows_at rows es)) (c.group-entries.ensures ∙ ap (entries_with key) c.as_slice.ensures.value)
-    ∙ (find_by_index (λ (row : GrantRow). row.key) key rows entries c.self.invariant.keys (is_after after) (λ row. is_of_key key row && is_after after row) (λ row. and_turned (is_after after row) (bytes_eq row.key key))
+    ∙ (ap (λ rs. find (λ (row : GrantRow). is_behind after row.born) (rows_at rs c.group-entries.result.now)) c.as_slice-2.ensures.value
+    ∙ (ap (λ es. find (λ (row : GrantRow). is_behind after row.born) (rows_at rows es)) (c.group-entries.ensures ∙ ap (entries_with key) c.as_slice.ensures.value)
+    ∙ (find_by_index (λ (row : GrantRow). row.key) key rows entries c.self.invariant.keys (λ (row : GrantRow). is_behind after row.born) (λ row. is_of_key key row && is_behind after row.born) (λ row. and_turned (is_behind after row.born) (bytes_eq row.key key))
     ∙ ap (λ rs. grant_of_key rs key after) c.self.view_is)))

@@ -15,7 +15,7 @@ pub returns : goal.returns
 returns c = all_passed (is_like c.args.patterns.now) c.loop-action.action-index c.loop-action.set c.loop-action-test.false c.loop-action.invariant
 
 pub loop-action-init : goal.loop-action-init
-loop-action-init c = none_yet (is_like c.args.patterns.now) c.new-set.result c.new-set.ensures
+loop-action-init c = none_yet (is_like c.args.patterns.now) c.new-set.result c.new-set.ensures.empty
 
 pub loop-action-preserved : goal.loop-action-preserved
 loop-action-preserved c =

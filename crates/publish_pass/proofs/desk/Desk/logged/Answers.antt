@@ -6,5 +6,5 @@ use Rattle.publish_pass.proofs.desk.Desk.logged.Goals as goal
 
 pub push-requires-clause-next : goal.push-requires-clause-next
 push-requires-clause-next g c =
-    let next = subst (λ (h : Pairs). IsNext g.R.Realm.facts (entries_of h) c.args.entry) (sym c.line-line.ensures) c.requires.next.0 in
+    let next = subst (λ (h : Pairs). IsNext g.R.Realm.facts (entries_of h) c.args.entry) (sym c.prefix-prefix.ensures) c.requires.next.0 in
     (next, c.requires.next.1, c.requires.next.2)

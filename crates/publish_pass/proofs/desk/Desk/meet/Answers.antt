@@ -11,8 +11,8 @@ same_number m n is = grind (arith, nat_tests)
 pub returns-clause-alone : goal.returns-clause-alone
 returns-clause-alone g c = λ yes.
     let i = c.pass.inside in
-    let t = c.learn_line.new.self in
-    let passes : t.passes ≡ c.args.pass.now.passes = ap (λ (p : Pass). p.passes) c.learn_line.ensures.learns.others ∙ ap (λ (p : Pass). p.passes) c.pass.view_is in
+    let t = c.learn_prefix.new.self in
+    let passes : t.passes ≡ c.args.pass.now.passes = ap (λ (p : Pass). p.passes) c.learn_prefix.ensures.learns.others ∙ ap (λ (p : Pass). p.passes) c.pass.view_is in
     let as_many : t.passes ≡ 1 → length i.own.items ≡ length t.history = λ one. omega (
       arith,
       same_number c.seen.result c.len.result yes,
@@ -20,10 +20,10 @@ returns-clause-alone g c = λ yes.
       c.pass.invariant.amount,
       c.self.invariant.total,
       ap length c.self.view_is,
-      ap length c.line-line.ensures,
+      ap length c.prefix-prefix.ensures,
       c.seen.ensures.number,
       c.len.ensures.count,
     ) in (
-      λ one. it_knew _ t c.pass.invariant.own c.learn_line.ensures.learns (as_many (passes ∙ one)) ∙ c.pass.view_is,
-      λ one. it_made _ t c.pass.invariant.own c.learn_line.ensures.learns (as_many one),
+      λ one. it_knew _ t c.pass.invariant.own c.learn_prefix.ensures.learns (as_many (passes ∙ one)) ∙ c.pass.view_is,
+      λ one. it_made _ t c.pass.invariant.own c.learn_prefix.ensures.learns (as_many one),
     )
