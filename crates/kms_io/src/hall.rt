@@ -124,10 +124,18 @@ impl Hall {
         }
     }
 
-    /// Whether a connection waits for a worker, where no ear is asked for one. Whoever asks is to make room.
+    /// Whether a connection waits for which no worker makes room, where no ear is asked for one.
     pub fn is_awaited(&self, now: Millis) -> bool {
         match self.lobby.try_lock() {
             Some(mut lobby) => lobby.is_awaited(now),
+            None => false,
+        }
+    }
+
+    /// The same; where one does, whoever asks is to make room for it.
+    pub fn calls(&self, now: Millis) -> bool {
+        match self.lobby.try_lock() {
+            Some(mut lobby) => lobby.calls(now),
             None => false,
         }
     }

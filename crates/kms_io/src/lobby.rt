@@ -168,15 +168,20 @@ impl Lobby {
         let _ = self.gather(rt, 0);
     }
 
-    /// Whether a connection waits for which no worker makes room yet. Where it does, whoever asks is to.
+    /// Whether a connection waits for which no worker makes room yet.
     pub fn is_awaited(&mut self, now: Millis) -> bool {
         if since(self.called_at, now) >= CALL {
             self.called = 0;
         }
-        if self.ready.len() <= self.called {
+        self.ready.len() > self.called
+    }
+
+    /// The same; where one does, whoever asks is to make room for it.
+    pub fn calls(&mut self, now: Millis) -> bool {
+        if !self.is_awaited(now) {
             return false;
         }
-        self.called += 1;
+        self.called = self.called.saturating_add(1);
         self.called_at = now;
         true
     }

@@ -48,18 +48,25 @@ enum Stage {
 /// How a connection spends the time of its worker.
 #[derive(Clone, Copy)]
 pub struct Pace {
-    given: Millis,
+    begun: Option<Millis>,
     looked: Millis,
     stage: Stage,
 }
 
 impl Pace {
-    /// The connection is given to a worker. Its first bytes came at an earlier moment.
-    pub fn new(came: Millis, given: Millis) -> Pace {
+    /// A connection whose first bytes came at this moment, and which no worker has read yet.
+    pub fn new(came: Millis) -> Pace {
         Pace {
-            given,
-            looked: given,
+            begun: None,
+            looked: came,
             stage: Stage::Asking(came),
+        }
+    }
+
+    /// The worker reads or writes. The turn begins when it does so first.
+    pub fn acts(&mut self, now: Millis) {
+        if self.begun.is_none() {
+            self.begun = Some(now);
         }
     }
 
@@ -116,10 +123,17 @@ impl Pace {
 
     /// Whether its turn is so long that it ends also where more has come.
     pub fn had_longest_turn(&self, now: Millis) -> bool {
-        since(self.given, now) >= LONGEST_TURN
+        self.has_lasted(LONGEST_TURN, now)
     }
 
     fn had_turn(&self, now: Millis) -> bool {
-        since(self.given, now) >= TURN
+        self.has_lasted(TURN, now)
+    }
+
+    fn has_lasted(&self, time: Millis, now: Millis) -> bool {
+        match self.begun {
+            Some(begun) => since(begun, now) >= time,
+            None => false,
+        }
     }
 }

@@ -39,7 +39,7 @@ impl<'a, R: rt::Clock> TimedStream<'a, R> {
             rt,
             hall: Arc::try_clone(hall)?,
             stream,
-            pace: Pace::new(came, moment(rt)),
+            pace: Pace::new(came),
             cause: None,
             is_at_end: false,
         })
@@ -118,6 +118,7 @@ impl<R: rt::Clock + Eprint> TimedStream<'_, R> {
     // Whether it has lasted too long, and notes why.
     fn is_over(&mut self) -> bool {
         let now = moment(self.rt);
+        self.pace.acts(now);
         self.cause = match self.pace.limit(now) {
             Some(cause) => Some(cause),
             None => self.makes_room(now),
@@ -125,18 +126,18 @@ impl<R: rt::Clock + Eprint> TimedStream<'_, R> {
         self.cause.is_some()
     }
 
-    // Why it makes room for somebody who waits, if it does. It looks who waits from time to time.
+    // Why it makes room for somebody who waits, if it does. It looks who waits from time to time. A turn ends only where
+    // nothing more has come, or late.
     fn makes_room(&mut self, now: Millis) -> Option<Cause> {
-        if !self.pace.looks(now) {
+        if self.pace.looks(now) {
+            self.hall.look(self.rt);
+        }
+        let cause = self.pace.limit_if_awaited(now)?;
+        let is_early = matches!(cause, Cause::Turn) && !self.pace.had_longest_turn(now);
+        if is_early && self.hall.is_awaited(now) && self.has_more() {
             return None;
         }
-        self.hall.look(self.rt);
-        let cause = self.pace.limit_if_awaited(now)?;
-        let is_asked = match cause {
-            Cause::Turn => self.pace.had_longest_turn(now) || !self.has_more(),
-            Cause::Idle | Cause::Slow => true,
-        };
-        if is_asked && self.hall.is_awaited(now) {
+        if self.hall.calls(now) {
             Some(cause)
         } else {
             None
