@@ -126,15 +126,19 @@ impl<R: rt::Clock + Eprint> TimedStream<'_, R> {
         self.cause.is_some()
     }
 
-    // Why it makes room for somebody who waits, if it does. It looks who waits from time to time. A turn ends only where
-    // nothing more has come, or late.
+    // Why it makes room for somebody who waits, if it does. It looks who waits from time to time. Between two messages it
+    // does so only where nothing more has come, but for a turn that has lasted longest.
     fn makes_room(&mut self, now: Millis) -> Option<Cause> {
         if self.pace.looks(now) {
             self.hall.look(self.rt);
         }
         let cause = self.pace.limit_if_awaited(now)?;
-        let is_early = matches!(cause, Cause::Turn) && !self.pace.had_longest_turn(now);
-        if is_early && self.hall.is_awaited(now) && self.has_more() {
+        let may_go_on = match cause {
+            Cause::Idle => true,
+            Cause::Turn => !self.pace.had_longest_turn(now),
+            Cause::Slow => false,
+        };
+        if may_go_on && self.hall.is_awaited(now) && self.has_more() {
             return None;
         }
         if self.hall.calls(now) {
