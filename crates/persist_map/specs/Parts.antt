@@ -1,5 +1,5 @@
 -- How a map is kept: its pairs in parts of at most 1,024. No public clause names any of this.
-use Rattle.std.specs.Prelude.{◌≡◌, ℕ, ◌+◌, ◌<◌, ◌≤◌, List, [], ◌∷◌, Bool, true, false, length, take, drop, All, slice_index_or}
+use Rattle.std.specs.Prelude.{◌≡◌, ℕ, ◌+◌, ◌<◌, ◌≤◌, List, [], ◌∷◌, Bool, true, false, length, take, drop, All, slice_index_or, Option, Some, None, if◌then◌else◌}
 use Rattle.std.specs.List.{flat_map, AllWithin}
 use Rattle.std.specs.declared.cmp.Ordering.{Ordering}
 use Rattle.std.specs.declared.cmp.Ordering.TheVariants.{Less, Greater}
@@ -36,6 +36,11 @@ module _ {K V : Type 0} (cmp : K → K → Ordering) where
   abbrev pub begins_with : K → List (K × V) → Bool
   begins_with key [] = false
   begins_with key (pair ∷ pairs) = is_eq (cmp pair.0 key)
+
+  -- the value of the first pair, where that has the key
+  abbrev pub first_value : K → List (K × V) → Option V
+  first_value key [] = None
+  first_value key (pair ∷ pairs) = if is_eq (cmp pair.0 key) then Some pair.1 else None
 
   -- the key's place: smaller keys before it, none behind it, and greater ones in the parts behind its part
   pub record IsPlace (key : K) (parts : List (List (K × V))) (place : Place) : Type 0 where

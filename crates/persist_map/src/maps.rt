@@ -136,13 +136,8 @@ impl<K: Ord + Drop, V: Drop> PMap<K, V> {
     {
         let parts = self.parts.as_slice();
         let place = place_of(parts, key, steps)?;
-        let pair = parts[place.part].pairs.get(place.pair)?;
         steps.tick();
-        if pair.0.cmp(key).is_eq() {
-            Some(&pair.1)
-        } else {
-            None
-        }
+        parts[place.part].value_at(place.pair, key)
     }
 
     /// As `get`, with no count.
@@ -151,12 +146,7 @@ impl<K: Ord + Drop, V: Drop> PMap<K, V> {
     {
         let parts = self.parts.as_slice();
         let place = place_in(parts, key)?;
-        let pair = parts[place.part].pairs.get(place.pair)?;
-        if pair.0.cmp(key).is_eq() {
-            Some(&pair.1)
-        } else {
-            None
-        }
+        parts[place.part].value_at(place.pair, key)
     }
 
     /// The map with a pair behind all others, in a new part.

@@ -1,10 +1,11 @@
 //! The parts of a map.
 
 ghost use Rattle.std.specs.Prelude.{◌≡◌, ◌+◌, ◌<◌, ◌≤◌, ◌++◌, ◌∷◌, map, length, take, drop, IfOk};
+ghost use Rattle.std.specs.Option.{option_map};
 ghost use Rattle.std.specs.Arc.{arc_value};
 ghost use Rattle.persist_map.specs.Digits.{binary_digits};
 ghost use Rattle.persist_map.specs.Pairs.{Ascends, is_below};
-ghost use Rattle.persist_map.specs.Parts.{IsCut, begins_above, begins_with};
+ghost use Rattle.persist_map.specs.Parts.{IsCut, begins_above, begins_with, first_value};
 
 use crate::sharing::{add_shared, shared};
 use kms_names::{NoMemory, Steps};
@@ -82,6 +83,18 @@ impl<K: Ord, V> Part<K, V> {
         match self.pairs.get(place) {
             Some(pair) => pair.0.cmp(key).is_eq(),
             None => false,
+        }
+    }
+
+    /// The value of the pair at a place, where it has the key. It takes at most one comparison.
+    pub(crate) fn value_at(&self, place: usize, key: &K) -> Option<&V>
+        ensures { option_map (λ value. value.now) result ≡ first_value K.cmp key.now (drop place self.now) }
+    {
+        let pair = self.pairs.get(place)?;
+        if pair.0.cmp(key).is_eq() {
+            Some(&pair.1)
+        } else {
+            None
         }
     }
 }
