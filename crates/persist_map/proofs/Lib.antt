@@ -1,3 +1,6 @@
+pub mod Edits
 pub mod Halving
 pub mod Orders
+pub mod Placed
+pub mod ReadFacts
 pub mod Tree

@@ -122,3 +122,13 @@ module _ {K V : Type 0} (cmp : K → K → Ordering) where
   pub rises_both : (front back : List (K × V)) → Rises front → Rises back → Before front back → Rises (front ++ back)
   rises_both [] back up later between = later
   rises_both (pair ∷ pairs) back up later between = (every_both (Precedes pair) pairs back up.0 between.0, rises_both pairs back up.1 later between.1)
+
+module _ {K V : Type 0} {cmp : K → K → Ordering} (order : IsTotalOrder cmp) (pair : K × V) where
+  every_with : (P : K × V → Type 0) (front back : List (K × V)) → P pair → AllByRecursion P (front ++ back) → AllByRecursion P (front ++ (pair ∷ back))
+  every_with P [] back h k = (h, k)
+  every_with P (other ∷ others) back h k = (k.0, every_with P others back h k.1)
+
+  -- a pair between those below it and those above it
+  pub rises_with : (front back : List (K × V)) → Rises cmp (front ++ back) → AllByRecursion (λ other. cmp other.0 pair.0 ≡ Less) front → AllByRecursion (λ other. cmp other.0 pair.0 ≡ Greater) back → Rises cmp (front ++ (pair ∷ back))
+  rises_with [] back up below above = (every_weaker cmp (λ other. cmp other.0 pair.0 ≡ Greater) (Precedes cmp pair) (λ other e. turned_greater order other.0 pair.0 e) back above, up)
+  rises_with (other ∷ others) back up below above = (every_with (Precedes cmp other) others back below.0 up.0, rises_with others back up.1 below.1 above)

@@ -49,26 +49,44 @@ fn part_of<K: Drop, V: Drop>(
     Ok(Arc::new(alloc, Part { pairs })?)
 }
 
+/// Two parts, of the halves of these pairs.
+fn halves_of<K: Drop, V: Drop>(
+    alloc: Global,
+    mut pairs: Vec<Arc<(K, V)>>,
+) -> Result<Vec<Arc<Part<K, V>>>, NoMemory>
+    requires some { 1 < length pairs.items }
+    requires few { length pairs.items ≤ PART_MAX + 1 }
+    ensures pairs { IfOk result (λ parts. joined (map arc_value parts.items) ≡ map arc_value pairs.items) }
+    ensures sizes { IfOk result (λ parts. HaveSizes (map arc_value parts.items)) }
+{
+    let half = pairs.len() / 2;
+    let later = pairs.split_off(half)?;
+    let first = part_of(alloc, pairs)?;
+    let second = part_of(alloc, later)?;
+    let mut parts = Vec::with_capacity(alloc, 2)?;
+    parts.push(first)?;
+    parts.push(second)?;
+    Ok(parts)
+}
+
 /// The parts of these pairs: none where there are no pairs, and two halves where they are too many for one part.
 fn parts_of<K: Drop, V: Drop>(
     alloc: Global,
-    mut pairs: Vec<Arc<(K, V)>>,
+    pairs: Vec<Arc<(K, V)>>,
 ) -> Result<Vec<Arc<Part<K, V>>>, NoMemory>
     requires { length pairs.items ≤ PART_MAX + 1 }
     ensures pairs { IfOk result (λ parts. joined (map arc_value parts.items) ≡ map arc_value pairs.items) }
     ensures sizes { IfOk result (λ parts. HaveSizes (map arc_value parts.items)) }
 {
-    let mut parts = Vec::new(alloc);
     if pairs.is_empty() {
-        return Ok(parts);
+        return Ok(Vec::new(alloc));
     }
     if pairs.len() > PART_MAX {
-        let later = pairs.split_off(PART_MAX / 2)?;
-        parts.push(part_of(alloc, pairs)?)?;
-        parts.push(part_of(alloc, later)?)?;
-    } else {
-        parts.push(part_of(alloc, pairs)?)?;
+        return halves_of(alloc, pairs);
     }
+    let part = part_of(alloc, pairs)?;
+    let mut parts = Vec::with_capacity(alloc, 1)?;
+    parts.push(part)?;
     Ok(parts)
 }
 
@@ -223,7 +241,7 @@ impl<K: Ord + Drop, V: Drop> PMap<K, V> {
         let parts = self.parts.as_slice();
         match place_in(parts, key) {
             Some(place) => PFrom {
-                pairs: &parts[place.part].pairs[place.pair..],
+                pairs: parts[place.part].pairs_from(place.pair),
                 parts: &parts[place.part + 1..],
             },
             None => PFrom { pairs: &[], parts },

@@ -100,6 +100,14 @@ impl<K: Ord, V> Part<K, V> {
 }
 
 impl<K: Drop, V: Drop> Part<K, V> {
+    /// The pairs from a place on.
+    pub(crate) fn pairs_from(&self, place: usize) -> &[Arc<(K, V)>]
+        requires { place ≤ length self.now }
+        ensures { map arc_value result.now ≡ drop place self.now }
+    {
+        &self.pairs.as_slice()[place..]
+    }
+
     /// How many pairs there are.
     pub(crate) fn len(&self) -> usize
         ensures { result ≡ length self.now }
