@@ -100,7 +100,7 @@ module _ {K V : Type 0} {cmp : K → K → Ordering} (order : IsTotalOrder cmp) 
           ∙ sym (ap (λ b. rest_behind b (pair ∷ pairs) ++ later) e)
 
   module _ (pairs front here later : List (K × V)) (split : IsSplit cmp key pairs front here later) where
-    back_rises : Rises cmp (here ++ later)
+    pub back_rises : Rises cmp (here ++ later)
     back_rises = rises_back cmp front (here ++ later) (subst (Rises cmp) split.is split.rises)
 
     back_above : AllByRecursion (λ pair. cmp pair.0 key ≡ Greater) (rest_behind (begins_with cmp key here) here ++ later)
@@ -150,3 +150,9 @@ module _ {K V : Type 0} {cmp : K → K → Ordering} (order : IsTotalOrder cmp) 
 
     pub with_rises : (value : V) → Rises cmp (front ++ ((key, value) ∷ (rest_behind (begins_with cmp key here) here ++ later)))
     with_rises value = rises_with order (key, value) front (rest_behind (begins_with cmp key here) here ++ later) (without_rises (begins_with cmp key here)) split.before back_above
+
+-- a pair behind all those of smaller keys
+pub with_pair_behind : {K V : Type 0} (cmp : K → K → Ordering) (pairs : List (K × V)) (key : K) (value : V) → AllByRecursion (λ (pair : K × V). cmp pair.0 key ≡ Less) pairs → with_pair cmp pairs key value ≡ pairs ++ ((key, value) ∷ [])
+with_pair_behind {V = V} cmp pairs key value below =
+    ap (λ l. l ++ ((key, value) ∷ filter (is_above cmp key) pairs)) (filter_all (is_below cmp key) pairs (tested cmp key is_lt true Less refl pairs below))
+    ∙ ap (λ (l : List (_ × V)). pairs ++ ((key, value) ∷ l)) (filter_none (is_above cmp key) pairs (tested cmp key is_gt false Less refl pairs below))

@@ -1,6 +1,6 @@
 //! Maps.
 
-ghost use Rattle.std.specs.Prelude.{◌≡◌, ◌+◌, ◌*◌, ◌<◌, ◌≤◌, ◌==◌, [], ◌∷◌, ◌++◌, map, length, take, drop, All, IfOk};
+ghost use Rattle.std.specs.Prelude.{◌≡◌, ◌+◌, ◌*◌, ◌<◌, ◌≤◌, ◌==◌, [], ◌∷◌, ◌++◌, map, length, take, drop, All, IfOk, if◌then◌else◌};
 ghost use Rattle.std.specs.declared.cmp.Ordering.TheVariants.{Less};
 ghost use Rattle.std.specs.Option.{option_map};
 ghost use Rattle.std.specs.Arc.{arc_value};
@@ -104,6 +104,14 @@ fn part_of_one<K: Drop, V: Drop>(
     part_of(alloc, pairs)
 }
 
+/// The place behind one whose pair is replaced, or the place itself.
+fn place_behind(place: usize, replaces: bool) -> usize
+    requires { place ≤ PART_MAX }
+    ensures { result ≡ (if replaces then place + 1 else place) }
+{
+    if replaces { place + 1 } else { place }
+}
+
 /// The parts with others in place of one.
 fn with_parts<K: Drop, V: Drop>(
     alloc: Global,
@@ -167,6 +175,16 @@ impl<K: Ord + Drop, V: Drop> PMap<K, V> {
         parts[place.part].value_at(place.pair, key)
     }
 
+    /// How many pairs there are with one more, which may replace one.
+    fn len_with(&self, replaces: bool) -> Result<usize, NoMemory>
+        ensures { IfOk result (λ len. len ≡ (if replaces then length self.now else length self.now + 1)) }
+    {
+        if replaces {
+            return Ok(self.len);
+        }
+        self.len.checked_add(1).ok_or(NoMemory)
+    }
+
     /// The map with a pair behind all others, in a new part.
     fn appended(&self, key: K, value: V) -> Result<PMap<K, V>, NoMemory>
         requires { All (λ pair. K.cmp pair.0 key ≡ Less) self.now }
@@ -189,15 +207,16 @@ impl<K: Ord + Drop, V: Drop> PMap<K, V> {
         let Some(place) = place_in(parts, &key) else {
             return self.appended(key, value);
         };
-        let part = &parts[place.part];
         if place.pair == PART_MAX && place.part + 1 == parts.len() {
             return self.appended(key, value);
         }
+        let part: &Part<K, V> = &parts[place.part];
         let replaces = part.has_key_at(place.pair, &key);
-        let next = if replaces { place.pair + 1 } else { place.pair };
-        let len = if replaces { self.len } else { self.len.checked_add(1).ok_or(NoMemory)? };
+        let len = self.len_with(replaces)?;
+        let next = place_behind(place.pair, replaces);
         let pair = Arc::new(alloc, (key, value))?;
-        let changed = parts_of(alloc, part.with_pair(place.pair, pair, next)?)?;
+        let pairs = part.with_pair(place.pair, pair, next)?;
+        let changed = parts_of(alloc, pairs)?;
         let parts = with_parts(alloc, parts, place.part, changed.as_slice())?;
         Ok(PMap { parts, len })
     }
@@ -211,11 +230,12 @@ impl<K: Ord + Drop, V: Drop> PMap<K, V> {
         let Some(place) = place_in(parts, key) else {
             return self.share();
         };
-        let part = &parts[place.part];
+        let part: &Part<K, V> = &parts[place.part];
         if !part.has_key_at(place.pair, key) {
             return self.share();
         }
-        let changed = parts_of(alloc, part.without_pair(place.pair)?)?;
+        let pairs = part.without_pair(place.pair)?;
+        let changed = parts_of(alloc, pairs)?;
         let parts = with_parts(alloc, parts, place.part, changed.as_slice())?;
         let len = self.len - 1;
         Ok(PMap { parts, len })
