@@ -1,4 +1,5 @@
 pub mod Edits
+pub mod Halves
 pub mod Halving
 pub mod Orders
 pub mod Placed

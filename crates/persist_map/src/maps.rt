@@ -191,7 +191,7 @@ impl<K: Ord + Drop, V: Drop> PMap<K, V> {
         ensures { IfOk result (λ m. m ≡ self.now ++ (key, value) ∷ []) }
     {
         let alloc = *self.parts.allocator();
-        let len = self.len.checked_add(1).ok_or(NoMemory)?;
+        let len = self.len_with(false)?;
         let part = part_of_one(alloc, key, value)?;
         let mut parts = shared(alloc, self.parts.as_slice(), self.parts.len().saturating_add(1))?;
         parts.push(part)?;
