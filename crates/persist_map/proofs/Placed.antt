@@ -1,7 +1,7 @@
 -- A map's list, cut at a key's place, and the parts of a changed map.
-use Rattle.std.proofs.Common.{◌≡◌, ℕ, zero, suc, ◌+◌, ◌-◌, ◌<◌, ◌≤◌, Bool, true, false, cond, List, [], ◌∷◌, ◌++◌, length, get_or, take, drop, All, refl, sym, ap, ◌∙◌, subst, append_assoc, length-append, add-one, arith}
+use Rattle.std.proofs.Common.{◌≡◌, ℕ, zero, suc, ◌+◌, ◌-◌, ◌<◌, ◌≤◌, Bool, true, false, cond, List, [], ◌∷◌, ◌++◌, length, get_or, map, take, drop, All, refl, sym, ap, ◌∙◌, subst, append_assoc, length-append, add-one, arith}
 use Rattle.std.proofs.lemmas.Bool.{false≢true}
-use Rattle.std.proofs.lemmas.List.{take-append-drop, length-take-le, append-nil}
+use Rattle.std.proofs.lemmas.List.{take-append-drop, length-take-le, length-drop, length-map, append-nil}
 use Rattle.std.proofs.Math.ListN.{drop_of_length-le}
 use Rattle.std.proofs.lemmas.List.Concat.{flat_map-append}
 use Rattle.std.proofs.lemmas.List.Elements.{recursion_from_All, All-from_recursion, All-append, All-take, All-drop, All-push}
@@ -214,3 +214,36 @@ module _ {K V : Type 0} {cmp : K → K → Ordering} (order : IsTotalOrder cmp) 
       let no_parts : later_of ≡ [] = ap joined (drop_of_length-le parts (omega arith)) in
       let all : joined parts ≡ front_of = split_of.is ∙ ap (λ l. front_of ++ (l ++ later_of)) no_more ∙ ap (λ (l : List (K × V)). front_of ++ l) no_parts ∙ append-nil front_of in
       All-from_recursion (λ (pair : K × V). cmp pair.0 key ≡ Less) (joined parts) (subst (AllByRecursion (λ (pair : K × V). cmp pair.0 key ≡ Less)) (sym all) split_of.before)
+
+-- the pairs of a part with one more, and without one, by what was read
+module _ {K V : Type 0} (cmp : K → K → Ordering) (key : K) (parts : List (List (K × V))) (place : Place) (part : List (K × V)) (part_is : part ≡ get_or parts place.part []) where
+  pub changed_with : (value : V) (b : Bool) → b ≡ begins_with cmp key (drop place.pair part) → (next : ℕ) → next ≡ cond b (place.pair + 1) place.pair → (pair : K × V) → pair ≡ (key, value) → (pairs : List (K × V)) → pairs ≡ take place.pair part ++ (pair ∷ drop next part) → (changed : List (List (K × V))) → joined changed ≡ pairs → joined changed ≡ take place.pair (get_or parts place.part []) ++ ((key, value) ∷ rest_behind (begins_with cmp key (drop place.pair (get_or parts place.part []))) (drop place.pair (get_or parts place.part [])))
+  changed_with value b b_is next next_is pair pair_is pairs pairs_are changed changed_is =
+      changed_is ∙ pairs_are ∙ ap (λ p. take place.pair part ++ (p ∷ drop next part)) pair_is
+      ∙ ap (λ l. take place.pair part ++ ((key, value) ∷ l)) (drop_behind b place.pair next part next_is ∙ ap (λ c. rest_behind c (drop place.pair part)) b_is)
+      ∙ ap (λ l. take place.pair l ++ ((key, value) ∷ rest_behind (begins_with cmp key (drop place.pair l)) (drop place.pair l))) part_is
+
+  pub changed_without : (pairs : List (K × V)) → pairs ≡ take place.pair part ++ drop (place.pair + 1) part → (changed : List (List (K × V))) → joined changed ≡ pairs → joined changed ≡ take place.pair (get_or parts place.part []) ++ drop (place.pair + 1) (get_or parts place.part [])
+  changed_without pairs pairs_are changed changed_is = changed_is ∙ pairs_are ∙ ap (λ l. take place.pair l ++ drop (place.pair + 1) l) part_is
+
+  pub begins_there : (b : Bool) → b ≡ begins_with cmp key (drop place.pair part) → b ≡ begins_with cmp key (drop place.pair (get_or parts place.part []))
+  begins_there b b_is = b_is ∙ ap (λ l. begins_with cmp key (drop place.pair l)) part_is
+
+  pub few_in_part : HaveSizes parts → place.part < length parts → length part ≤ PART_MAX
+  few_in_part sizes in_range = omega (arith, ap length part_is, (sizes place.part [] in_range).1)
+
+-- a part with one more pair is little too long at most
+pub few_with : {A B : Type 0} (f : A → B) (items : List A) (part : List B) (item : B) (b : Bool) (n next : ℕ) → map f items ≡ take n part ++ (item ∷ drop next part) → next ≡ cond b (n + 1) n → n ≤ length part → length part ≤ PART_MAX → length items ≤ PART_MAX + 1
+few_with f items part item b n next is next_is in_range few =
+    let lengths = simp length-append at (ap length is) in
+    let behind : n ≤ next = at_least b next_is in
+    omega (arith, length-map items f, lengths, length-take-le n part in_range, length-drop next part)
+  where
+    at_least : (b : Bool) → next ≡ cond b (n + 1) n → n ≤ next
+    at_least true e = omega arith
+    at_least false e = omega arith
+
+pub few_without : {A B : Type 0} (f : A → B) (items : List A) (part : List B) (n : ℕ) → map f items ≡ take n part ++ drop (n + 1) part → n < length part → length part ≤ PART_MAX → length items ≤ PART_MAX + 1
+few_without f items part n is in_range few =
+    let lengths = simp length-append at (ap length is) in
+    omega (arith, length-map items f, lengths, length-take-le n part (omega arith), length-drop (n + 1) part)
