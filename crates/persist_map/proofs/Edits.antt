@@ -1,6 +1,5 @@
 -- What the definitions of a map's calls say of a list that is cut at a key's place.
-use Rattle.std.proofs.Common.{◌≡◌, ℕ, ◌+◌, ◌<◌, ◌≤◌, Bool, true, false, cond, not, List, [], ◌∷◌, ◌++◌, length, filter, find, Option, Some, None, refl, sym, ap, ◌∙◌, subst, append_assoc, length-append, arith}
-use Rattle.std.proofs.lemmas.Bool.{false≢true}
+use Rattle.std.proofs.Common.{◌≡◌, Bool, true, false, cond, not, List, [], ◌∷◌, ◌++◌, filter, find, Some, None, refl, sym, ap, ◌∙◌, subst}
 use Rattle.std.proofs.lemmas.List.Elements.{filter-append}
 use Rattle.std.specs.Cmp.{IsTotalOrder}
 use Rattle.std.specs.List.{AllByRecursion}
@@ -8,9 +7,9 @@ use Rattle.std.specs.Option.{option_map}
 use Rattle.std.specs.declared.cmp.Ordering.{Ordering}
 use Rattle.std.specs.declared.cmp.Ordering.TheVariants.{Less, Equal, Greater}
 use Rattle.std.specs.Ordering.{is_lt, is_eq, is_gt}
-use Rattle.persist_map.specs.Pairs.{Ascends, is_below, is_above, has_key, value_at, with_pair, without_key, pairs_from}
+use Rattle.persist_map.specs.Pairs.{is_below, is_above, has_key, value_at, with_pair, without_key, pairs_from}
 use Rattle.persist_map.specs.Parts.{begins_with, first_value}
-use Rattle.persist_map.proofs.Orders.{less, greater, equal, greater_otherwise, greater_later, rises_with, Precedes, Rises, Before, every_front, every_back, every_both, every_weaker, rises_front, rises_back, rises_between, rises_both, Rises-from_ascends, Ascends-from_rises}
+use Rattle.persist_map.proofs.Orders.{equal, greater_otherwise, greater_later, rises_with, Precedes, Rises, every_front, every_back, every_both, every_weaker, rises_back}
 
 -- the pairs behind the first one, where that has the key
 abbrev pub rest_behind : {A : Type 0} → Bool → List A → List A
@@ -66,9 +65,10 @@ module _ {K V : Type 0} (cmp : K → K → Ordering) (key : K) where
   rises_rest b [] [] later up = up
   rises_rest true [] (pair ∷ pairs) later up = up.1
   rises_rest false [] (pair ∷ pairs) later up = up
-  rises_rest b (pair ∷ pairs) here later up =
-      (every_both cmp (Precedes cmp pair) pairs (rest_behind b here ++ later) (every_front cmp (Precedes cmp pair) pairs (here ++ later) up.0) (every_rest (Precedes cmp pair) b here later (every_back cmp (Precedes cmp pair) pairs (here ++ later) up.0)),
-      rises_rest b pairs here later up.1)
+  rises_rest b (pair ∷ pairs) here later up = (
+    every_both cmp (Precedes cmp pair) pairs (rest_behind b here ++ later) (every_front cmp (Precedes cmp pair) pairs (here ++ later) up.0) (every_rest (Precedes cmp pair) b here later (every_back cmp (Precedes cmp pair) pairs (here ++ later) up.0)),
+    rises_rest b pairs here later up.1,
+  )
 
 module _ {K V : Type 0} {cmp : K → K → Ordering} (order : IsTotalOrder cmp) (key : K) where
   -- what is behind the key's own place is above it

@@ -1,16 +1,16 @@
 -- Keys in order, and lists of pairs that ascend.
-use Rattle.std.proofs.Common.{◌≡◌, ℕ, zero, suc, ◌+◌, ◌<◌, ◌≤◌, Bool, true, false, not, List, [], ◌∷◌, ◌++◌, length, get_or, take, drop, filter, All, AllPairs, refl, sym, ap, ◌∙◌, subst, ltb, arith}
+use Rattle.std.proofs.Common.{◌≡◌, zero, suc, Bool, true, false, List, [], ◌∷◌, ◌++◌, get_or, refl, sym, ap, ◌∙◌, subst, ltb, arith}
 use Rattle.std.proofs.lemmas.Bool.{false≢true}
 use borrow.Author.Tests.{ltb-true, ltb-false}
-use Rattle.std.proofs.lemmas.Cmp.{tied_itself, tied_back, alike_right, upto}
+use Rattle.std.proofs.lemmas.Cmp.{alike_right}
 use Rattle.std.proofs.lemmas.List.Elements.{All-from_recursion, recursion_from_All}
 use Rattle.std.specs.Cmp.{IsTotalOrder}
-use Rattle.std.specs.List.{AllByRecursion, AllWithin}
+use Rattle.std.specs.List.{AllByRecursion}
 use Rattle.std.specs.List.Sorted.{IsPartitionedBy}
 use Rattle.std.specs.declared.cmp.Ordering.{Ordering}
 use Rattle.std.specs.declared.cmp.Ordering.TheVariants.{Less, Equal, Greater}
 use Rattle.std.specs.Ordering.{is_lt, is_eq, is_gt, ordering_reverse}
-use Rattle.persist_map.specs.Pairs.{Ascends, is_below, is_above, has_key}
+use Rattle.persist_map.specs.Pairs.{Ascends, is_below}
 
 -- what a test of an answer says
 pub less : (o : Ordering) → is_lt o ≡ true → o ≡ Less
@@ -44,20 +44,20 @@ module _ {K : Type 0} {cmp : K → K → Ordering} (order : IsTotalOrder cmp) wh
   pub greater_later : (x y key : K) → cmp x y ≡ Less → is_lt (cmp x key) ≡ false → cmp y key ≡ Greater
   greater_later x y key before e =
       turned_less key y (by_order (cmp x key) refl)
-      where
-        by_order : (o : Ordering) → cmp x key ≡ o → cmp key y ≡ Less
-        by_order Less f = absurd (false≢true (sym e ∙ ap is_lt f))
-        by_order Equal f = sym (order.congr x key y f) ∙ before
-        by_order Greater f = order.trans key x y (turned_greater x key f) before
+    where
+      by_order : (o : Ordering) → cmp x key ≡ o → cmp key y ≡ Less
+      by_order Less f = absurd (false≢true (sym e ∙ ap is_lt f))
+      by_order Equal f = sym (order.congr x key y f) ∙ before
+      by_order Greater f = order.trans key x y (turned_greater x key f) before
 
   -- below what is below, or is, the key
   pub less_before : (x y key : K) → cmp x y ≡ Less → is_gt (cmp y key) ≡ false → cmp x key ≡ Less
   less_before x y key before e = by_order (cmp y key) refl
-      where
-        by_order : (o : Ordering) → cmp y key ≡ o → cmp x key ≡ Less
-        by_order Less f = order.trans x y key before f
-        by_order Equal f = sym (alike_right order y key x f) ∙ before
-        by_order Greater f = absurd (false≢true (sym e ∙ ap is_gt f))
+    where
+      by_order : (o : Ordering) → cmp y key ≡ o → cmp x key ≡ Less
+      by_order Less f = order.trans x y key before f
+      by_order Equal f = sym (alike_right order y key x f) ∙ before
+      by_order Greater f = absurd (false≢true (sym e ∙ ap is_gt f))
 
 -- each pair is below those behind it, by recursion
 module _ {K V : Type 0} (cmp : K → K → Ordering) where
@@ -70,9 +70,10 @@ module _ {K V : Type 0} (cmp : K → K → Ordering) where
 
   pub Rises-from_ascends : (pairs : List (K × V)) → Ascends cmp pairs → Rises pairs
   Rises-from_ascends [] up = tt
-  Rises-from_ascends (pair ∷ pairs) up =
-      (recursion_from_All (Precedes pair) pairs (λ k d h. up 0 (suc k) d (omega arith) (omega arith)),
-      Rises-from_ascends pairs (λ i j d h k. up (suc i) (suc j) d (omega arith) (omega arith)))
+  Rises-from_ascends (pair ∷ pairs) up = (
+    recursion_from_All (Precedes pair) pairs (λ k d h. up 0 (suc k) d (omega arith) (omega arith)),
+    Rises-from_ascends pairs (λ i j d h k. up (suc i) (suc j) d (omega arith) (omega arith)),
+  )
 
   pub Ascends-from_rises : (pairs : List (K × V)) → Rises pairs → Ascends cmp pairs
   Ascends-from_rises [] up i j d h k = absurd (omega arith)

@@ -1,5 +1,5 @@
 -- The parts of a map, and the place of a key among them.
-use Rattle.std.proofs.Common.{◌≡◌, ℕ, zero, suc, ◌+◌, ◌-◌, ◌<◌, ◌≤◌, Bool, true, false, not, List, [], ◌∷◌, ◌++◌, length, get_or, take, drop, ltb, All, refl, sym, ap, ◌∙◌, subst, append_assoc, add-one, length-append, arith}
+use Rattle.std.proofs.Common.{◌≡◌, ℕ, zero, suc, ◌+◌, ◌-◌, ◌<◌, ◌≤◌, Bool, true, false, not, List, [], ◌∷◌, ◌++◌, length, get_or, take, drop, ltb, refl, sym, ap, ◌∙◌, subst, append_assoc, add-one, length-append, arith}
 use Rattle.std.proofs.Math.Seq.{drop-cons}
 use Rattle.persist_map.specs.declared.parts.TheConstants.{PART_MAX}
 use Rattle.std.proofs.lemmas.Bool.{false≢true}
@@ -9,15 +9,15 @@ use borrow.Author.Tests.{ltb-true, ltb-false}
 use Rattle.std.proofs.lemmas.List.Concat.{flat_map-append}
 use Rattle.std.proofs.lemmas.List.Elements.{All-from_recursion, All-tail, All-head}
 use Rattle.std.specs.Cmp.{IsTotalOrder}
-use Rattle.std.specs.List.{AllByRecursion, AllWithin}
+use Rattle.std.specs.List.{AllByRecursion}
 use Rattle.std.specs.List.Sorted.{IsPartitionedBy}
 use Rattle.std.specs.declared.cmp.Ordering.{Ordering}
-use Rattle.std.specs.declared.cmp.Ordering.TheVariants.{Less, Equal, Greater}
-use Rattle.std.specs.Ordering.{is_lt, is_eq, is_gt}
+use Rattle.std.specs.declared.cmp.Ordering.TheVariants.{Less, Greater}
+use Rattle.std.specs.Ordering.{is_lt, is_gt}
 use Rattle.persist_map.specs.Pairs.{Ascends, is_below}
 use Rattle.persist_map.specs.Parts.{IsCut, IsTree, IsPlace, HaveSizes, begins_above, joined}
 use Rattle.persist_map.specs.declared.places.Place.{Place}
-use Rattle.persist_map.proofs.Orders.{less, greater, greater_later, less_before, Precedes, Rises, Before, Rises-from_ascends, Ascends-from_rises, every_front, every_back, every_both, every_weaker, rises_front, rises_back, rises_between}
+use Rattle.persist_map.proofs.Orders.{greater, greater_later, less_before, Precedes, Rises, Rises-from_ascends, Ascends-from_rises, every_front, every_back, every_weaker, rises_front, rises_back, rises_between}
 
 not_true : (b : Bool) → not b ≡ true → b ≡ false
 not_true true e = absurd (false≢true e)

@@ -3,7 +3,7 @@ use Rattle.std.specs.Prelude.{◌≡◌, ℕ, ◌+◌, ◌<◌, ◌≤◌, List,
 use Rattle.std.specs.List.{flat_map, AllWithin}
 use Rattle.std.specs.declared.cmp.Ordering.{Ordering}
 use Rattle.std.specs.declared.cmp.Ordering.TheVariants.{Less, Greater}
-use Rattle.std.specs.Ordering.{is_lt, is_eq, is_gt}
+use Rattle.std.specs.Ordering.{is_eq, is_gt}
 use Rattle.persist_map.specs.declared.parts.TheConstants.{PART_MAX}
 use Rattle.persist_map.specs.declared.places.Place.{Place}
 use Rattle.persist_map.specs.Pairs.{Ascends, is_below}

@@ -122,7 +122,11 @@ fn with_parts<K: Drop, V: Drop>(
     requires { place < length parts.now }
     ensures { IfOk result (λ all. map arc_value all.items ≡ take place (map arc_value parts.now) ++ map arc_value changed.now ++ drop (place + 1) (map arc_value parts.now)) }
 {
-    let mut all = shared(alloc, &parts[..place], parts.len().saturating_add(changed.len()))?;
+    let mut all = shared(
+        alloc,
+        &parts[..place],
+        parts.len().saturating_add(changed.len()),
+    )?;
     add_shared(&mut all, changed)?;
     add_shared(&mut all, &parts[place + 1..])?;
     Ok(all)
@@ -193,7 +197,11 @@ impl<K: Ord + Drop, V: Drop> PMap<K, V> {
         let alloc = *self.parts.allocator();
         let len = self.len_with(false)?;
         let part = part_of_one(alloc, key, value)?;
-        let mut parts = shared(alloc, self.parts.as_slice(), self.parts.len().saturating_add(1))?;
+        let mut parts = shared(
+            alloc,
+            self.parts.as_slice(),
+            self.parts.len().saturating_add(1),
+        )?;
         parts.push(part)?;
         Ok(PMap { parts, len })
     }

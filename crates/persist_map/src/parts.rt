@@ -33,11 +33,7 @@ impl<K, V> Model for Part<K, V> {
 
 /// How many pairs have their keys below the key: they come first. The places are halved, so that each comparison
 /// leaves one binary digit less of their number.
-fn count_below<K: Ord, V, L: Ledger>(
-    pairs: &[Arc<(K, V)>],
-    key: &K,
-    steps: &mut Steps<L>,
-) -> usize
+fn count_below<K: Ord, V, L: Ledger>(pairs: &[Arc<(K, V)>], key: &K, steps: &mut Steps<L>) -> usize
     requires { Ascends K.cmp (map arc_value pairs.now) }
     ensures place { IsCut (is_below K.cmp key.now) (map arc_value pairs.now) result }
     ensures cost { steps.new ≤ steps.old + binary_digits (length pairs.now) }
@@ -106,13 +102,6 @@ impl<K: Drop, V: Drop> Part<K, V> {
         ensures { map arc_value result.now ≡ drop place self.now }
     {
         &self.pairs.as_slice()[place..]
-    }
-
-    /// How many pairs there are.
-    pub(crate) fn len(&self) -> usize
-        ensures { result ≡ length self.now }
-    {
-        self.pairs.len()
     }
 
     /// The pairs up to a place, one, and those from another place on.

@@ -1,4 +1,4 @@
-use Rattle.std.proofs.Common.{◌≡◌, ◌+◌, ◌-◌, ◌++◌, map, length, take, drop, refl, sym, ap, ◌∙◌, append_assoc, arith}
+use Rattle.std.proofs.Common.{◌+◌, ◌-◌, ◌++◌, map, length, take, drop, refl, ap, ◌∙◌}
 use Rattle.std.specs.Arc.{arc_value}
 use Rattle.persist_map.proofs.ReadFacts.{seen_front, seen_back}
 use Rattle.persist_map.proofs.maps.with_parts.Goals as goal

@@ -1,14 +1,14 @@
-use Rattle.std.proofs.Common.{◌≡◌, ◌+◌, ◌<◌, ◌≤◌, ◌++◌, Bool, true, false, cond, [], ◌∷◌, List, All, length, map, take, drop, get_or, refl, sym, ap, ◌∙◌, subst, arith}
+use Rattle.std.proofs.Common.{◌≡◌, ◌+◌, ◌<◌, ◌++◌, cond, [], List, All, length, map, take, drop, sym, ap, ◌∙◌, subst, arith}
 use Rattle.std.proofs.lemmas.List.{length-map}
 use Rattle.std.proofs.lemmas.List.Elements.{recursion_from_All}
 use Rattle.std.specs.Arc.{arc_value}
 use Rattle.std.specs.Result.{IfOk}
 use Rattle.std.specs.declared.cmp.Ordering.TheVariants.{Less}
-use Rattle.persist_map.specs.Pairs.{with_pair, without_key}
-use Rattle.persist_map.specs.Parts.{IsTree, begins_with, joined}
+use Rattle.persist_map.specs.Pairs.{with_pair}
+use Rattle.persist_map.specs.Parts.{IsTree, joined}
 use Rattle.persist_map.proofs.Halving.{read_value}
 use Rattle.persist_map.proofs.Edits.{with_pair_behind}
-use Rattle.persist_map.proofs.Placed.{place_within, all_below_last, few_in_part, few_with, few_without, changed_with, changed_without, begins_there, list_with, tree_with, length_with, list_without, tree_without, length_without, without_missing}
+use Rattle.persist_map.proofs.Placed.{all_below_last, few_in_part, few_with, changed_with, begins_there, list_with, tree_with, length_with}
 use Rattle.persist_map.proofs.maps.PMap.insert.Goals as goal
 
 pub appended-requires-then-place-parts : goal.appended-requires-then-place-parts
@@ -75,11 +75,12 @@ invariant_of-result g c =
     let all = map arc_value c.in_ok-parts.parts.items in
     let is = c.in_ok-parts.ensures ∙ ap (λ l. (take place.part parts ++ map arc_value l) ++ drop (place.part + 1) parts) c.as_slice.ensures.value in
     let is_changed = changed_with cmp key parts place part part_is value b c.has_key_at-replaces.ensures c.place_behind-next.result c.place_behind-next.ensures (arc_value c.in_ok-pair.pair) c.in_ok-pair.ensures.ok (map arc_value c.in_ok-pairs.pairs.items) c.in_ok-pairs.ensures changed c.in_ok-changed.ensures.pairs in
-    let there = begins_there cmp key parts place part part_is b c.has_key_at-replaces.ensures in
-    (tree_with g.met.K.Ord.total key parts tree place at changed all is value is_changed c.in_ok-changed.ensures.sizes,
-    c.in_ok-len.ensures ∙ ap (λ (l : List (g.row.K.Denot × g.row.V.Denot)). cond b (length l) (length l + 1)) (sym whole)
-    ∙ ap (λ b. cond b (length (joined parts)) (length (joined parts) + 1)) there
-    ∙ sym (length_with g.met.K.Ord.total key parts tree place at changed all is value is_changed))
+    let there = begins_there cmp key parts place part part_is b c.has_key_at-replaces.ensures in (
+      tree_with g.met.K.Ord.total key parts tree place at changed all is value is_changed c.in_ok-changed.ensures.sizes,
+      c.in_ok-len.ensures ∙ ap (λ (l : List (g.row.K.Denot × g.row.V.Denot)). cond b (length l) (length l + 1)) (sym whole)
+          ∙ ap (λ b. cond b (length (joined parts)) (length (joined parts) + 1)) there
+          ∙ sym (length_with g.met.K.Ord.total key parts tree place at changed all is value is_changed),
+    )
 
 pub returns : goal.returns
 returns g c =

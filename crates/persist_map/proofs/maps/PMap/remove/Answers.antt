@@ -1,14 +1,11 @@
-use Rattle.std.proofs.Common.{◌≡◌, ◌+◌, ◌<◌, ◌≤◌, ◌++◌, Bool, true, false, cond, [], ◌∷◌, List, All, length, map, take, drop, get_or, refl, sym, ap, ◌∙◌, subst, arith}
+use Rattle.std.proofs.Common.{◌≡◌, ◌+◌, ◌<◌, ◌++◌, [], length, map, take, drop, sym, ap, ◌∙◌, subst, arith}
 use Rattle.std.proofs.lemmas.List.{length-map}
-use Rattle.std.proofs.lemmas.List.Elements.{recursion_from_All}
 use Rattle.std.specs.Arc.{arc_value}
 use Rattle.std.specs.Result.{IfOk}
-use Rattle.std.specs.declared.cmp.Ordering.TheVariants.{Less}
-use Rattle.persist_map.specs.Pairs.{with_pair, without_key}
-use Rattle.persist_map.specs.Parts.{IsTree, begins_with, joined}
+use Rattle.persist_map.specs.Pairs.{without_key}
+use Rattle.persist_map.specs.Parts.{IsTree, joined}
 use Rattle.persist_map.proofs.Halving.{read_value}
-use Rattle.persist_map.proofs.Edits.{with_pair_behind}
-use Rattle.persist_map.proofs.Placed.{place_within, all_below_last, few_in_part, few_with, few_without, changed_with, changed_without, begins_there, list_with, tree_with, length_with, list_without, tree_without, length_without, without_missing}
+use Rattle.persist_map.proofs.Placed.{place_within, few_in_part, few_without, changed_without, begins_there, list_without, tree_without, length_without, without_missing}
 use Rattle.persist_map.proofs.maps.PMap.remove.Goals as goal
 
 pub returns-then-not-has_key_at : goal.returns-then-not-has_key_at

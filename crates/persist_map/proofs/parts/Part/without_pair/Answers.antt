@@ -1,4 +1,4 @@
-use Rattle.std.proofs.Common.{◌≡◌, ◌+◌, ◌-◌, ◌++◌, map, length, take, drop, ap, ◌∙◌, arith}
+use Rattle.std.proofs.Common.{◌+◌, ◌-◌, ◌++◌, map, length, take, drop, ap, ◌∙◌}
 use Rattle.std.specs.Arc.{arc_value}
 use Rattle.persist_map.proofs.ReadFacts.{seen_front, seen_back}
 use Rattle.persist_map.proofs.parts.Part.without_pair.Goals as goal
