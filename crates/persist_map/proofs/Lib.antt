@@ -1,6 +1,7 @@
 pub mod Edits
 pub mod Halves
 pub mod Halving
+pub mod Laws
 pub mod Orders
 pub mod Placed
 pub mod ReadFacts
