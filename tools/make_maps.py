@@ -35,9 +35,9 @@ with open(os.path.join(os.path.dirname(__file__), "../crates/known_answers/data/
         "\n# number of pairs and a sum: from 0, times 31 plus the key, times 31 plus the value, modulo 2 ^ 64."
         "\n#\n# made | COUNT | STEP | how many keys are then removed | STEP of their order | keys"
         "\n#     | length, whether it is empty, digest; and of each key the digest of the pairs from it on, and its value or `-`"
-        "\n# changed | COUNT | STEP | key | value | digest of the map; with the key and value; without the key; of what it shares, with the"
-        "\n#     second's and the third's length"
-        "\n# nested | COUNT | STEP | maps | how many maps of the keys by their rests there are, and the digest of all their pairs"
+        "\n# changed | COUNT | STEP | key | value | digest of the map; of the one with the pair; of the one without the key; of an equal one;"
+        "\n#     and how many pairs the second and the third have"
+        "\n# nested | COUNT | STEP | divisor | how many maps there are of keys with one rest, and the digest of all their pairs, by rising rest"
         "\n#\n# Made by tools/make_maps.py.", file=f)
     for count in COUNTS:
         for step in steps(count).values():
