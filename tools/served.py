@@ -27,7 +27,7 @@ PROGRAM = os.path.join(TOP, "crates", "kms_local", "out", "kms_local")
 HOST = "127.0.0.1"
 REGION = "us-east-1"
 CRATE = os.path.join(TOP, "crates", "kms_local")
-UNPROVED = ("no proved build stands here, so the same code is compiled without proof: that takes two to four minutes, and what it makes "
+UNPROVED = ("no proved build stands here, so the same code is compiled without proof: that takes some minutes, and what it makes "
             "checks memory as it runs and is many times slower. With --proved it is proved and built first, which takes many minutes")
 CLOSING = re.compile(r"^served (\d+) front (\d+)$", re.MULTILINE)
 START_SECONDS = 30
