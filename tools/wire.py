@@ -79,6 +79,14 @@ class Connection:
         self.send(request)
         return self.reply()
 
+    def ask_again(self, request):
+        """The same, on a new connection where the server has ended this one between two requests."""
+        try:
+            return self.ask(request)
+        except ConnectionError:
+            self.close()
+            return self.ask(request)
+
     def answer(self, caller, operation, **members):
         """The members of the reply to a request that is signed now."""
         return json.loads(self.ask(message(caller, operation, **members)) or b"{}")

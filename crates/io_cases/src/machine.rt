@@ -1,13 +1,6 @@
-// The machine's own clock, files and connections.
-ghost use Rattle.std.specs.Prelude.{◌≡◌, false, All};
-ghost use Rattle.kms_io.specs.TcpEar.{counts_of};
-
+// The machine's own clock and files.
 use crate::lines::Lines;
-use kms_io::{
-    Clock, Door, Ear, Files, Link, Next, Opened, RealFiles, SystemClock, TcpDoor, TcpEar,
-};
-use std::io::{Read, Write};
-use std::net::{Net, SocketAddr, TcpListener, TcpStream};
+use kms_io::{Clock, Files, RealFiles, SystemClock};
 use std::{env, fs, io, rt};
 
 // 2020-09-13, long past when this was written.
@@ -28,7 +21,7 @@ fn name_for<R: rt::Env + AllocGlobal>(rt: &R, process: u32) -> io::Result<String
 }
 
 // Reads a file of this size while it is there, and once it is removed.
-fn show_file<R: rt::Files>(
+fn show_file<R: rt::Files + Eprint>(
     rt: &R,
     name: &str,
     size: usize,
@@ -50,7 +43,7 @@ fn show_file<R: rt::Files>(
 }
 
 /// The machine's files.
-pub fn show_files<R: rt::Env + rt::Files + AllocGlobal>(
+pub fn show_files<R: rt::Env + rt::Files + Eprint + AllocGlobal>(
     rt: &R,
     process: u32,
     lines: &mut Lines,
@@ -61,87 +54,4 @@ pub fn show_files<R: rt::Env + rt::Files + AllocGlobal>(
         show_file(rt, &name, size, &mut room, lines)?;
     }
     Ok(())
-}
-
-// Takes the next connection: a read, a write, and a read while it stays still.
-fn say_talk(ear: &mut TcpEar, lines: &mut Lines)
-    requires { (counts_of ear.old).is_out ≡ false }
-{
-    match ear.next() {
-        Next::Conn(mut conn) => {
-            let mut room = [0; 8];
-            lines.say_took(conn.read_some(&mut room));
-            lines.say(", ");
-            lines.say_put(conn.write_some(b"pong"));
-            lines.say(", ");
-            lines.say_took(conn.read_some(&mut room));
-            ear.done(conn);
-        }
-        Next::Failed => lines.say("failed"),
-    }
-}
-
-// A connection of a client to the ear.
-fn show_connection<R: Net<Stream = TcpStream> + AllocGlobal>(
-    rt: &R,
-    at: SocketAddr,
-    ear: &mut TcpEar,
-    lines: &mut Lines,
-) -> io::Result<()>
-    requires { (counts_of ear.old).is_out ≡ false }
-{
-    let mut client = TcpStream::connect(rt, at)?;
-    client.write_all(b"ping")?;
-    lines.say("a connection over loopback: ");
-    say_talk(ear, lines);
-    let mut told = Vec::new(rt.alloc());
-    client.read_to_end(&mut told)?;
-    lines.say(", the client has ");
-    lines.say_text(&told);
-    lines.say("\n");
-    Ok(())
-}
-
-// A connection of a client to each ear.
-fn show_connections<R: Net<Stream = TcpStream> + AllocGlobal>(
-    rt: &R,
-    at: SocketAddr,
-    ears: Vec<TcpEar>,
-    lines: &mut Lines,
-) -> io::Result<()>
-    requires { All (λ ear. (counts_of ear).is_out ≡ false) ears.items }
-{
-    for mut ear in ears {
-        show_connection(rt, at, &mut ear, lines)?;
-    }
-    Ok(())
-}
-
-// An address of loopback at which nothing listens.
-fn free_address<R: Net<Listener = TcpListener, Stream = TcpStream>>(
-    rt: &R,
-) -> io::Result<SocketAddr> {
-    TcpListener::bind(rt, "127.0.0.1:0")?.local_addr()
-}
-
-/// An opening that fails, and one whose ears take a connection each.
-pub fn show_loopback<R: Net<Listener = TcpListener, Stream = TcpStream> + Eprint + AllocGlobal>(
-    rt: &R,
-    lines: &mut Lines,
-) -> io::Result<()> {
-    let alloc = rt.alloc();
-    let at = free_address(rt)?;
-    let address = format!(in alloc; "{at}")?;
-    let mut door = TcpDoor::new(rt);
-    lines.say("a door of the machine, at no address: ");
-    lines.say_opened(door.open("no address", 1, &mut Vec::new(alloc)));
-    lines.say("\na door of the machine, at a free port of loopback: ");
-    let mut ears = Vec::new(alloc);
-    let opened = door.open(&address, 2, &mut ears);
-    lines.say_opened(opened);
-    lines.say("\n");
-    match opened {
-        Opened::Open => show_connections(rt, at, ears, lines),
-        Opened::Failed | Opened::NoMemory => Ok(()),
-    }
 }

@@ -3,21 +3,22 @@
 #![tactic(auto)]
 
 mod lines;
+mod loopback;
 mod machine;
 mod memory;
 
 use lines::Lines;
-use machine::{show_clock, show_files, show_loopback};
+use loopback::show_loopback;
+use machine::{show_clock, show_files};
 use memory::show_memory;
 use std::alloc::Global;
 use std::net::{Net, TcpListener, TcpStream};
+use std::sync::Wait;
 use std::{io, process, rt};
 
-fn show_all<R: rt::Runtime<A = Global> + Net<Listener = TcpListener, Stream = TcpStream>>(
-    rt: &R,
-    process: u32,
-    lines: &mut Lines,
-) -> io::Result<()> {
+fn show_all<
+    R: rt::Runtime<A = Global> + Net<Listener = TcpListener, Stream = TcpStream> + Wait + Sync,
+>(rt: &R, process: u32, lines: &mut Lines) -> io::Result<()> {
     show_memory(rt.alloc(), lines)?;
     show_clock(rt, lines);
     show_files(rt, process, lines)?;

@@ -4,7 +4,7 @@ use Rattle.kms_io.specs.Wire.{Wire}
 use Rattle.kms_io.specs.declared.tcp_link.TcpLink.{TcpLink}
 
 -- its counts of faults, and nothing of its bytes
-abbrev pub counts_of : TcpLink → Wire
+abbrev pub counts_of : {R : Type 0} → TcpLink R → Wire
 counts_of link = record {
   taken = None;
   written = None;

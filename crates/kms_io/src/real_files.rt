@@ -1,14 +1,14 @@
 // The machine's files. They tell nothing of their content.
 use crate::{FileAnswer, Files};
 use std::alloc::Global;
-use std::fs;
 use std::io::{ErrorKind, Read};
+use std::{fs, io};
 
 // The most bytes that a file read whole has.
 const LONGEST: usize = 4_194_304;
 
 /// The machine's files, by their paths. It counts the reads that fail, a file that can't be opened
-/// among them, and tells nothing of their content.
+/// among them, says on standard error why one did, and tells nothing of their content.
 #[derive(Drop)]
 pub struct RealFiles<'a, R> {
     rt: &'a R,
@@ -31,7 +31,7 @@ impl<'a, R> RealFiles<'a, R> {
     }
 }
 
-impl<R: fs::Files> Files for RealFiles<'_, R> {
+impl<R: fs::Files + Eprint> Files for RealFiles<'_, R> {
     ghost use Rattle.kms_io.specs.RealFiles.{counts_of};
 
     ghost shows = { counts_of };
@@ -43,8 +43,9 @@ impl<R: fs::Files> Files for RealFiles<'_, R> {
                 *room = all;
                 FileAnswer::Read
             }
-            Err(ErrorKind::OutOfMemory) => FileAnswer::NoMemory,
-            Err(_) => {
+            Err(fault) if fault.kind() == ErrorKind::OutOfMemory => FileAnswer::NoMemory,
+            Err(fault) => {
+                let _ = eprintln!(self.rt; "can't read {name}: {fault}");
                 self.faults = self.faults.saturating_add(1);
                 FileAnswer::Failed
             }
@@ -53,11 +54,9 @@ impl<R: fs::Files> Files for RealFiles<'_, R> {
 }
 
 // The first bytes of the file: one more than the most, where it has more.
-fn read_front<R: fs::Files>(rt: &R, alloc: Global, name: &str) -> Result<Vec<u8>, ErrorKind> {
-    let file = fs::File::open(rt, name).map_err(|fault| fault.kind())?;
+fn read_front<R: fs::Files>(rt: &R, alloc: Global, name: &str) -> io::Result<Vec<u8>> {
+    let file = fs::File::open(rt, name)?;
     let mut all = Vec::new(alloc);
-    match file.take(LONGEST as u64 + 1).read_to_end(&mut all) {
-        Ok(_) => Ok(all),
-        Err(fault) => Err(fault.kind()),
-    }
+    file.take(LONGEST as u64 + 1).read_to_end(&mut all)?;
+    Ok(all)
 }

@@ -3,16 +3,21 @@ ghost use Rattle.std.specs.Prelude.{◌≡◌, ◌≤◌, length, All, IfOk};
 ghost use Rattle.kms_io.specs.Door.{IsNewEar};
 ghost use Rattle.kms_io.specs.TcpEar.{counts_of as ear_counts};
 
+use crate::hall::Hall;
+use crate::lobby::Lobby;
 use crate::{Door, Opened, TcpEar};
-use std::alloc::Global;
-use std::io;
+use mio::net::TcpListener;
+use std::alloc::{AllocError, Global};
 use std::io::ErrorKind;
-use std::net::{Net, TcpListener, TcpStream};
+use std::net::{Net, ToSocketAddrs};
+use std::sync::{Arc, Wait};
+use std::{io, rt};
 
-/// A door at TCP addresses: an IP address or a host's name, and a port, of which 0 is any that is
-/// free. The ears of an opening wait on one listener, and each connection goes to one of them. It
-/// says on standard error, once an opening, which address it listens on. It counts the openings that
-/// fail, and tells nothing of what was asked. The ears that it takes back listen no longer.
+/// A door at TCP addresses: an IP address, of version 6 in brackets, or a host's name, and a port, of which 0 is any
+/// that is free. Of a name with several addresses the first is taken that can be. The ears of an opening wait on one
+/// listener, and each connection goes to one of them. It says on standard error, once an opening, which address it
+/// listens on, or why it can't; and at the end what became of the connections. It counts the openings that fail, and
+/// tells nothing of what was asked. The ears that it takes back listen no longer.
 #[derive(Drop)]
 pub struct TcpDoor<'a, R> {
     rt: &'a R,
@@ -36,16 +41,16 @@ impl<'a, R> TcpDoor<'a, R> {
     }
 }
 
-impl<R: Net<Listener = TcpListener, Stream = TcpStream> + Eprint> Door for TcpDoor<'_, R> {
+impl<'a, R: Net + Wait + rt::Clock + Eprint + Sync> Door for TcpDoor<'a, R> {
     ghost use Rattle.std.specs.Prelude.{map};
     ghost use Rattle.kms_io.specs.Door.{Opens, Closes};
     ghost use Rattle.kms_io.specs.TcpDoor.{counts_of};
 
-    type Listener = TcpEar;
+    type Listener = TcpEar<'a, R>;
 
     ghost shows = { counts_of };
 
-    fn open(&mut self, address: &str, n: u16, ears: &mut Vec<TcpEar>) -> Opened
+    fn open(&mut self, address: &str, n: u16, ears: &mut Vec<TcpEar<'a, R>>) -> Opened
         ensures { Opens ear_counts (counts_of self.old) address.now n ears.old.items result (counts_of self.new) ears.new.items }
     {
         match new_ears(self.rt, *ears.allocator(), address, n) {
@@ -54,37 +59,73 @@ impl<R: Net<Listener = TcpListener, Stream = TcpStream> + Eprint> Door for TcpDo
                 Err(_) => Opened::NoMemory,
             },
             Err(fault) if fault.kind() == ErrorKind::OutOfMemory => Opened::NoMemory,
-            Err(_) => {
+            Err(fault) => {
+                let _ = eprintln!(self.rt; "can't listen on {address}: {fault}");
                 self.faults = self.faults.saturating_add(1);
                 Opened::Failed
             }
         }
     }
 
-    fn close(&mut self, ears: Vec<TcpEar>)
-        ensures { Closes (counts_of self.old) (map ear_counts ears.items) (counts_of self.new) }
+    fn close(&mut self, ears: Vec<TcpEar<'a, R>>)
+        ensures { Closes (counts_of self.old) (map ear_counts ears.entry.items) (counts_of self.new) }
     {
-        drop(ears);
+        end(self.rt, ears);
     }
 }
 
-// So many ears on one listener at the address, which standard error is told.
-fn new_ears<R: Net<Listener = TcpListener, Stream = TcpStream> + Eprint>(
-    rt: &R,
+// Ends the ears, and tells what was counted.
+fn end<R: Eprint>(rt: &R, ears: Vec<TcpEar<'_, R>>) {
+    if let Some(ear) = ears.first() {
+        ear.hall().tell(rt);
+    }
+}
+
+// A listener at the first of the addresses that can be bound.
+fn listener_at<R: Net>(rt: &R, address: &str) -> io::Result<TcpListener> {
+    let mut last = io::Error::from(ErrorKind::AddrNotAvailable);
+    for at in address.to_socket_addrs(rt)? {
+        match TcpListener::bind(rt, at) {
+            Ok(listener) => return Ok(listener),
+            Err(fault) => last = fault,
+        }
+    }
+    Err(last)
+}
+
+// So many ears of a hall.
+fn ears_of<'a, R>(
+    rt: &'a R,
     alloc: Global,
-    address: &str,
+    hall: &Arc<Hall, Global>,
     n: u16,
-) -> io::Result<Vec<TcpEar>>
+) -> Result<Vec<TcpEar<'a, R>>, AllocError>
     ensures number { IfOk result (λ ears. length ears.items ≡ n) }
     ensures each { IfOk result (λ ears. All (λ ear. IsNewEar (ear_counts ear)) ears.items) }
 {
     let count = usize::from(n);
-    let listener = TcpListener::bind(rt, address)?;
     let mut ears = Vec::with_capacity(alloc, count)?;
     for _made in 0..count {
-        ears.push(TcpEar::new(listener.try_clone()?))?;
+        ears.push(TcpEar::new(rt, hall)?)?;
     }
+    Ok(ears)
+}
+
+// So many ears on one listener at the address, which standard error is told.
+fn new_ears<'a, R: Net + rt::Clock + Eprint>(
+    rt: &'a R,
+    alloc: Global,
+    address: &str,
+    n: u16,
+) -> io::Result<Vec<TcpEar<'a, R>>>
+    ensures number { IfOk result (λ ears. length ears.items ≡ n) }
+    ensures each { IfOk result (λ ears. All (λ ear. IsNewEar (ear_counts ear)) ears.items) }
+{
+    let listener = listener_at(rt, address)?;
     let at = listener.local_addr()?;
+    let lobby = Lobby::new(rt, alloc, listener)?;
+    let hall = Arc::new(alloc, Hall::new(rt, alloc, lobby, n))?;
+    let ears = ears_of(rt, alloc, &hall, n)?;
     let _ = eprintln!(rt; "listening on {at}");
     Ok(ears)
 }

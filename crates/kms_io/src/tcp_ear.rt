@@ -1,63 +1,108 @@
 // An ear at a TCP address.
 ghost use Rattle.std.specs.Prelude.{◌≡◌, true, false};
 
+use crate::hall::Hall;
+use crate::lobby::Heard;
+use crate::timed::TimedStream;
 use crate::{Ear, Next, TcpLink};
-use std::net::TcpListener;
+use std::alloc::{AllocError, Global};
+use std::rt;
+use std::sync::{Arc, Wait};
 
-/// An ear at a TCP address. It counts the connections that it couldn't take, and tells nothing of
-/// those given back, which it ends.
+/// An ear at a TCP address. It gives a connection once that has bytes or is at its end. It counts a failure where it
+/// couldn't take one for a minute, and tells nothing of those given back, which it ends.
 #[derive(Drop)]
-pub struct TcpEar {
-    listener: TcpListener,
+pub struct TcpEar<'a, R> {
+    rt: &'a R,
+    hall: Arc<Hall, Global>,
+    was_asked: bool,
     is_out: bool,
     faults: u64,
 }
 
-impl TcpEar {
-    ghost use Rattle.std.specs.Prelude.{◌≡◌, None, false};
+impl<'a, R> TcpEar<'a, R> {
+    ghost use Rattle.std.specs.Prelude.{◌≡◌, None, false, IfOk};
     ghost use Rattle.kms_io.specs.TcpEar.{counts_of};
 
-    /// The ear over this listener.
-    pub fn new(listener: TcpListener) -> TcpEar
-        ensures { counts_of result ≡ record {
+    // An ear of this hall.
+    pub(crate) fn new(rt: &'a R, hall: &Arc<Hall, Global>) -> Result<TcpEar<'a, R>, AllocError>
+        ensures { IfOk result (λ ear. counts_of ear ≡ record {
           faults = 0;
           is_out = false;
           given_back = None;
-        } }
+        }) }
     {
-        TcpEar {
-            listener,
+        let hall = Arc::try_clone(hall)?;
+        Ok(TcpEar {
+            rt,
+            hall,
+            was_asked: false,
             is_out: false,
             faults: 0,
+        })
+    }
+
+    // What it shares with the other ears.
+    pub(crate) fn hall(&self) -> &Hall {
+        &self.hall
+    }
+
+    // Notes that it is asked for connections.
+    fn begin(&mut self)
+        ensures { counts_of self.new ≡ counts_of self.old }
+    {
+        if !self.was_asked {
+            self.was_asked = true;
+            self.hall.begin();
         }
     }
 }
 
-impl Ear for TcpEar {
+// The next connection of a hall, or none where none could be taken for a minute.
+fn next_stream<'a, R: Wait + rt::Clock + Eprint>(
+    rt: &'a R,
+    hall: &Arc<Hall, Global>,
+) -> Option<TimedStream<'a, R>> {
+    for _ in rt.forever() {
+        match hall.next(rt) {
+            Heard::Guest(guest) => match TimedStream::new(rt, hall, guest) {
+                Ok(stream) => return Some(stream),
+                Err(_) => {}
+            },
+            Heard::Nobody => {}
+            Heard::Failed => return None,
+        }
+    }
+    unreachable!()
+}
+
+impl<'a, R: Wait + rt::Clock + Eprint> Ear for TcpEar<'a, R> {
     ghost use Rattle.kms_io.specs.TcpEar.{counts_of};
 
-    type Conn = TcpLink;
+    type Conn = TcpLink<'a, R>;
 
     ghost shows = { counts_of };
 
-    fn next(&mut self) -> Next<TcpLink> {
-        let taken = match self.listener.accept() {
-            Ok((stream, _address)) => TcpLink::new(stream),
-            Err(fault) => Err(fault),
-        };
-        match taken {
-            Ok(conn) => {
+    fn next(&mut self) -> Next<TcpLink<'a, R>> {
+        self.begin();
+        match next_stream(self.rt, &self.hall) {
+            Some(stream) => {
                 self.is_out = true;
-                Next::Conn(conn)
+                Next::Conn(TcpLink::new(stream))
             }
-            Err(_) => {
+            None => {
                 self.faults = self.faults.saturating_add(1);
                 Next::Failed
             }
         }
     }
 
-    fn done(&mut self, _conn: TcpLink) {
+    fn done(&mut self, conn: TcpLink<'a, R>) {
         self.is_out = false;
+        let stream = conn.into_stream();
+        self.hall.counts.add(stream.cause());
+        if let Some(rest) = stream.leave() {
+            self.hall.see_off(self.rt, rest);
+        }
     }
 }

@@ -1,7 +1,7 @@
 use Rattle.std.proofs.Common.{◌≡◌, length, All}
 use Rattle.kms_io.specs.Door.{IsNewEar}
 use Rattle.kms_io.specs.TcpEar.{counts_of}
-use Rattle.kms_io.proofs.tcp_door.new_ears.Given as goal
+use Rattle.kms_io.proofs.tcp_door.ears_of.Given as goal
 
 abbrev pub invariant-loop-made : goal.invariant-loop-made
 invariant-loop-made g l = record {
