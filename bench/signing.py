@@ -1,1 +1,0 @@
-../tools/signing.py
