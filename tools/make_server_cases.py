@@ -11,11 +11,12 @@ import json
 import os
 import uuid
 
+import signing
 from cryptography.hazmat.primitives.ciphers.aead import AESGCM
 
 PLACE = os.path.join(os.path.dirname(__file__), "..", "crates", "server_cases", "src", "messages.rt")
 STAMP = "20231114T221320Z"
-SCOPE = f"{STAMP[:8]}/us-east-1/kms/aws4_request"
+REGION = "us-east-1"
 ACCESS_KEY = ("AKIDEXAMPLE", "wJalrXUtnFEMI/K7MDENG+bPxRfiCYEXAMPLEKEY")
 # Boot 1 of the service, whose root secret is of zeros, and the first place of its history.
 BOOT = (1).to_bytes(4, "big")
@@ -39,28 +40,10 @@ def sealed(text):
     return base64.b64encode(blob).decode()
 
 
-def signature(signed, names, body):
-    canonical = "\n".join(["POST", "/", "", signed, names, hashlib.sha256(body.encode()).hexdigest()])
-    text = "\n".join(["AWS4-HMAC-SHA256", STAMP, SCOPE, hashlib.sha256(canonical.encode()).hexdigest()])
-    key = ("AWS4" + ACCESS_KEY[1]).encode()
-    for part in SCOPE.split("/"):
-        key = mac(key, part.encode())
-    return mac(key, text.encode()).hex()
-
-
 def message(operation, body, after=None):
     """A signed message, which wants so many entries where a number is given."""
-    text = json.dumps(body, separators=(",", ":"))
-    signed = {"Content-Type": "application/x-amz-json-1.1", "Host": "localhost", "X-Amz-Date": STAMP, "X-Amz-Target": "TrentService." + operation}
-    if after is not None:
-        signed["X-Kms-After"] = str(after)
-    names = ";".join(name.lower() for name in signed)
-    digits = signature("".join(f"{name.lower()}:{value}\n" for name, value in signed.items()), names, text)
-    sent = signed | {
-        "Content-Length": str(len(text)),
-        "Authorization": f"AWS4-HMAC-SHA256 Credential={ACCESS_KEY[0]}/{SCOPE}, SignedHeaders={names}, Signature={digits}",
-    }
-    return "POST / HTTP/1.1\r\n" + "".join(f"{name}: {value}\r\n" for name, value in sent.items()) + "\r\n" + text
+    more = [] if after is None else [("X-Kms-After", str(after))]
+    return signing.message(*ACCESS_KEY, REGION, operation, json.dumps(body, separators=(",", ":")), STAMP, more)
 
 
 MESSAGES = [

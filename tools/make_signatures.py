@@ -6,8 +6,6 @@ rules of "Create a signed AWS API request" in the IAM User Guide.
 
 import calendar
 import datetime
-import hashlib
-import hmac
 import re
 import socket
 import threading
@@ -19,6 +17,7 @@ import botocore.config
 import botocore.credentials
 import botocore.session
 
+import signing
 from vectors import File
 
 ID, SECRET, ANN = "AKIDEXAMPLE", "wJalrXUtnFEMI/K7MDENG+bPxRfiCYEXAMPLEKEY", "arn:aws:iam::111122223333:user/ann"
@@ -53,35 +52,21 @@ Made by tools/make_signatures.py. The signatures are botocore's where it makes s
 )
 
 
-def mac(key, text):
-    return hmac.new(key, text.encode(), hashlib.sha256).digest()
-
-
-def key_of(secret, day, region, service):
-    return mac(mac(mac(mac(("AWS4" + secret).encode(), day), region), service), "aws4_request")
-
-
 def value_of(raw):
     return re.sub(" +", " ", raw.strip(" \t"))
 
 
 def canonical(headers, names, body):
-    lines = ["POST", "/", ""]
-    for name in names.split(";"):
-        values = [value_of(value) for other, value in headers if other.lower() == name]
-        lines.append(name + ":" + ",".join(values))
-    return "\n".join(lines + ["", names, hashlib.sha256(body.encode()).hexdigest()])
+    values = {name: ",".join(value_of(value) for other, value in headers if other.lower() == name) for name in names.split(";")}
+    return signing.canonical_request(values, names, body)
 
 
 def signature_of(headers, names, body="{}", secret=SECRET, stamp=STAMP, day=None, region=REGION, service=SERVICE):
-    day = day or stamp[:8]
-    scope = "/".join([day, region, service, "aws4_request"])
-    text = "\n".join(["AWS4-HMAC-SHA256", stamp, scope, hashlib.sha256(canonical(headers, names, body).encode()).hexdigest()])
-    return mac(key_of(secret, day, region, service), text).hex()
+    return signing.signature(secret, stamp, region, canonical(headers, names, body), service, day)[1]
 
 
 def authorization(signature, names=NAMES, id=ID, day=STAMP[:8], region=REGION, service=SERVICE):
-    return f"AWS4-HMAC-SHA256 Credential={id}/{day}/{region}/{service}/aws4_request, SignedHeaders={names}, Signature={signature}"
+    return signing.authorization(id, f"{day}/{region}/{service}/aws4_request", names, signature)
 
 
 def written(headers, body="{}"):
@@ -140,7 +125,7 @@ def at(stamp):
 def keys():
     file.note('The key of "Deriving the signing key" in the IAM User Guide.')
     published = "c4afb1cc5771d871763a393e44b703571b55cc28424d1a5e86da6ed3c154a4b9"
-    assert key_of(SECRET, "20150830", "us-east-1", "iam").hex() == published
+    assert signing.signing_key(SECRET, "20150830", "us-east-1", "iam").hex() == published
     file.case("signing_key", SECRET, "20150830", "us-east-1", "iam", published)
     for secret, day, region, service in [
         (SECRET, STAMP[:8], REGION, SERVICE),
@@ -152,9 +137,9 @@ def keys():
     ]:
         auth = botocore.auth.SigV4Auth(botocore.credentials.Credentials("id", secret), service, region)
         key = auth._sign(auth._sign(auth._sign(auth._sign(("AWS4" + secret).encode(), day), region), service), "aws4_request")
-        assert key == key_of(secret, day, region, service)
+        assert key == signing.signing_key(secret, day, region, service)
         file.case("signing_key", secret, day, region, service, key)
-    file.case("signing_key", "''", "''", "''", "''", key_of("", "", "", ""))
+    file.case("signing_key", "''", "''", "''", "''", signing.signing_key("", "", "", ""))
 
 
 def windows():

@@ -4,9 +4,9 @@ Python's `hmac` signs the messages, by the rules of "Create a signed AWS API req
 by hand; the key's id is that of first_path.txt.
 """
 
-import hashlib
-import hmac
 import os
+
+import signing
 
 REGION = "us-east-1"
 SECOND = 1700000000
@@ -26,7 +26,6 @@ KEEPER = ("AKIDEXAMPLE", "wJalrXUtnFEMI/K7MDENG+bPxRfiCYEXAMPLEKEY", ROOT)
 OTHER = ("AKIDOTHER", "another/Secret+0123456789", ANN)
 STRANGER = ("AKIDNOBODY", "wJalrXUtnFEMI/K7MDENG+bPxRfiCYEXAMPLEKEY", ROOT)
 KEY = "10284733-057c-2825-aeb4-000000000000"
-NAMES = "content-type;host;x-amz-date;x-amz-target"
 ANSWERS = {
     "none": "MissingAuthenticationTokenException 0 The request carries no Authorization header.",
     "incomplete": "IncompleteSignatureException 0 The signature is not complete.",
@@ -38,21 +37,7 @@ PLACE = os.path.join(os.path.dirname(__file__), "..", "crates", "worked_cases", 
 lines = []
 
 
-def mac(key, text):
-    return hmac.new(key, text.encode(), hashlib.sha256).digest()
-
-
-def signature(headers, names, body, secret, stamp, region):
-    values = {name.lower(): value for name, value in headers}
-    signed = "".join(f"{name}:{values[name]}\n" for name in names.split(";"))
-    canonical = "\n".join(["POST", "/", "", signed, names, hashlib.sha256(body.encode()).hexdigest()])
-    scope = "/".join([stamp[:8], region, "kms", "aws4_request"])
-    text = "\n".join(["AWS4-HMAC-SHA256", stamp, scope, hashlib.sha256(canonical.encode()).hexdigest()])
-    key = mac(mac(mac(mac(("AWS4" + secret).encode(), stamp[:8]), region), "kms"), "aws4_request")
-    return scope, mac(key, text).hex()
-
-
-def message(operation, body, caller=KEEPER, names=NAMES, region=REGION, stamp=STAMP, sent=None, change=None):
+def message(operation, body, caller=KEEPER, names=signing.NAMES, region=REGION, stamp=STAMP, sent=None, change=None):
     """A message, which the caller signs where there is one; another body may be sent in the signed one's place, and the signature changed."""
     sent = body if sent is None else sent
     headers = [
@@ -63,11 +48,11 @@ def message(operation, body, caller=KEEPER, names=NAMES, region=REGION, stamp=ST
         ("Content-Length", str(len(sent))),
     ]
     if caller is not None:
-        scope, digits = signature(headers, names, body, caller[1], stamp, region)
+        values = {name.lower(): value for name, value in headers}
+        scope, digits = signing.signature(caller[1], stamp, region, signing.canonical_request(values, names, body))
         if change is not None:
             digits = change(digits)
-        value = f"AWS4-HMAC-SHA256 Credential={caller[0]}/{scope}, SignedHeaders={names}, Signature={digits}"
-        headers.append(("Authorization", value))
+        headers.append(("Authorization", signing.authorization(caller[0], scope, names, digits)))
     return "POST / HTTP/1.1\r\n" + "".join(f"{name}: {value}\r\n" for name, value in headers) + "\r\n" + sent
 
 

@@ -56,8 +56,8 @@ pub struct GeneratingDataKey<'a> {
     pub request: &'a DataKey,
     /// What the data key is given as.
     pub form: DataKeyForm,
-    ghost some: { 1 ≤ x.now.size },
-    ghost short: { x.now.size ≤ 1024 },
+    ghost some: { 1 ≤ request.now.size },
+    ghost short: { request.now.size ≤ 1024 },
 }
 
 impl<'a> GeneratingDataKey<'a> {

@@ -16,8 +16,8 @@ pub struct Encrypting<'a> {
     pub view: &'a View<'a>,
     /// What it asks.
     pub request: &'a Encrypt,
-    ghost some: { 1 ≤ length x.now.plaintext },
-    ghost short: { length x.now.plaintext ≤ 4096 },
+    ghost some: { 1 ≤ length request.now.plaintext },
+    ghost short: { length request.now.plaintext ≤ 4096 },
 }
 
 impl<'a> Request for Encrypting<'a> {

@@ -35,6 +35,7 @@ pub struct View<'a> {
 
 impl<'a> Model for View<'a> {
     ghost use Rattle.std.specs.Prelude.{◌≡◌, ◌<◌, length};
+    ghost use Rattle.kms_names.specs.Moment.{year_10000};
     ghost use Rattle.authority.specs.Setting.{callers_policies};
     ghost use Rattle.account_rows.specs.History.{replay};
     ghost use Rattle.account_rows.specs.Sizes.{bytes_in};

@@ -1,5 +1,6 @@
 -- The answers of clocks in memory.
 use Rattle.std.specs.Prelude.{ℕ, ◌+◌, ◌-◌, ◌^◌, suc, zero, List, [], ◌∷◌, ◌++◌, length, slice_index, min, Bool, true, nat_lt, ◌&&◌, if◌then◌else◌, Option, Some, None}
+use Rattle.kms_names.specs.Moment.{year_10000}
 
 -- the k-th answer of a list: the last one again and again, and 0 where there is none
 abbrev pub listed : List ℕ → ℕ → ℕ
@@ -21,4 +22,4 @@ told_so_far answer calls = if nat_lt (calls + 1) (2 ^ 64) then Some (first_of an
 -- each is a time before the year 10000
 abbrev pub are_times : List ℕ → Bool
 are_times [] = true
-are_times (answer ∷ answers) = nat_lt answer 253402300800 && are_times answers
+are_times (answer ∷ answers) = nat_lt answer year_10000 && are_times answers

@@ -1,5 +1,6 @@
 // Clocks that answer from memory.
 ghost use Rattle.std.specs.Prelude.{IsTrue, ◌≡◌, ◌+◌, ◌<◌, ◌^◌, Some, None, nat_lt, if◌then◌else◌};
+ghost use Rattle.kms_names.specs.Moment.{year_10000};
 ghost use Rattle.kms_io.specs.Wire.{TellsMore};
 ghost use Rattle.kms_io.specs.Clock.{listed, stepped, first_of, are_times};
 
@@ -39,7 +40,7 @@ impl Clock for MemoryClock {
     ghost told = { answers_so_far };
 
     fn now(&mut self) -> u64
-        ensures bound { result < 253402300800 }
+        ensures bound { result < year_10000 }
         ensures told { TellsMore (answers_so_far self.old) (result ∷ []) (answers_so_far self.new) }
         ensures value { result ≡ answer_after self.old 0 }
         ensures next { (k : ℕ) → answer_after self.new k ≡ answer_after self.old (k + 1) }
@@ -53,7 +54,7 @@ impl Clock for MemoryClock {
 // The answer to this call.
 fn answer_at(answers: &[u64], call: u64) -> u64
     requires { IsTrue (are_times answers.now) }
-    ensures bound { result < 253402300800 }
+    ensures bound { result < year_10000 }
     ensures value { result ≡ listed answers.now call }
 {
     let Some(last) = answers.len().checked_sub(1) else {
@@ -68,7 +69,7 @@ fn answer_at(answers: &[u64], call: u64) -> u64
 pub struct StepClock {
     first: u64,
     calls: u64,
-    ghost time: { first < 253402300800 },
+    ghost time: { first < year_10000 },
 }
 
 impl StepClock {
@@ -77,7 +78,7 @@ impl StepClock {
 
     /// The clock that answers `first` at its first call.
     pub fn new(first: u64) -> StepClock
-        requires { first < 253402300800 }
+        requires { first < year_10000 }
         ensures told { steps_so_far result ≡ Some [] }
         ensures next { next_step result ≡ first }
     {
@@ -92,7 +93,7 @@ impl Clock for StepClock {
     ghost told = { steps_so_far };
 
     fn now(&mut self) -> u64
-        ensures bound { result < 253402300800 }
+        ensures bound { result < year_10000 }
         ensures told { TellsMore (steps_so_far self.old) (result ∷ []) (steps_so_far self.new) }
         ensures value { result ≡ next_step self.old }
         ensures next { next_step self.new ≡ min (next_step self.old + 1) 253402300799 }
@@ -104,7 +105,7 @@ impl Clock for StepClock {
 }
 
 fn step_at(first: u64, call: u64) -> u64
-    ensures bound { result < 253402300800 }
+    ensures bound { result < year_10000 }
     ensures value { result ≡ stepped first call }
 {
     first.saturating_add(call).min(LAST)

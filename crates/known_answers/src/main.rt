@@ -16,6 +16,7 @@ mod globs;
 mod keys;
 mod laws;
 mod macs;
+mod maps;
 mod names;
 mod parts;
 mod policies;

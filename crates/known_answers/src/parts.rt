@@ -2,7 +2,7 @@
 
 use crate::cases::Case;
 use crate::{
-    blobs, ciphers, conditions, configs, contexts, draws, globs, keys, macs, names, policies,
+    blobs, ciphers, conditions, configs, contexts, draws, globs, keys, macs, maps, names, policies,
     signatures, verdicts,
 };
 
@@ -24,11 +24,12 @@ pub enum Part {
     KeyStates,
     Signatures,
     Configs,
+    Maps,
 }
 
 impl Part {
     /// All parts.
-    pub const ALL: [Part; 15] = [
+    pub const ALL: [Part; 16] = [
         Part::Aes256,
         Part::Ghash,
         Part::Gcm,
@@ -44,6 +45,7 @@ impl Part {
         Part::KeyStates,
         Part::Signatures,
         Part::Configs,
+        Part::Maps,
     ];
 
     /// The name of the part's file.
@@ -64,6 +66,7 @@ impl Part {
             Part::KeyStates => "key_states.txt",
             Part::Signatures => "signatures.txt",
             Part::Configs => "configs.txt",
+            Part::Maps => "maps.txt",
         }
     }
 
@@ -85,6 +88,7 @@ impl Part {
             Part::KeyStates => keys::keys(case),
             Part::Signatures => signatures::signatures(case),
             Part::Configs => configs::configs(case),
+            Part::Maps => maps::maps(case),
         }
     }
 }

@@ -8,5 +8,6 @@ pub fn all() {
     policy_doc::policies_cross_threads();
     policy_eval::compiled_crosses_threads();
     key_states::key_row_crosses_threads();
+    persist_map::map_crosses_threads::<u64, u64>();
     sigv4_check::credentials_cross_threads();
 }

@@ -1,52 +1,20 @@
-"""Signed requests of the AWS KMS API on raw connections, for bench/server and bench/trials.
+"""Signed requests of the AWS KMS API on raw connections, for scripts that measure and try the server.
 
 A request is signed ahead (Signature Version 4) and goes out with one send, when the one before it is answered. It may go out again, within
 300 seconds: so what is measured has little of the client in it."""
 
-import datetime
-import hashlib
-import hmac
 import json
 import socket
 
-NAMES = "content-type;host;x-amz-date;x-amz-target"
+import signing
+
 REGION = "us-east-1"
-
-
-def mac(key, text):
-    """The HMAC with SHA-256 of a text."""
-    return hmac.new(key, text.encode(), hashlib.sha256).digest()
-
-
-def signature(secret, scope, text):
-    """The signature of the text that stands for a request, as hex digits."""
-    key = ("AWS4" + secret).encode()
-    for part in scope.split("/"):
-        key = mac(key, part)
-    return mac(key, text).hex()
 
 
 def message(caller, operation, **members):
     """The bytes of a request of a caller, signed at the present second."""
     body = json.dumps(members, separators=(",", ":"))
-    stamp = datetime.datetime.now(datetime.timezone.utc).strftime("%Y%m%dT%H%M%SZ")
-    headers = {
-        "Content-Type": "application/x-amz-json-1.1",
-        "Host": "localhost",
-        "X-Amz-Date": stamp,
-        "X-Amz-Target": "TrentService." + operation,
-    }
-    signed = "".join(f"{name.lower()}:{value}\n" for name, value in headers.items())
-    canonical = "\n".join(["POST", "/", "", signed, NAMES, hashlib.sha256(body.encode()).hexdigest()])
-    scope = f"{stamp[:8]}/{REGION}/kms/aws4_request"
-    text = "\n".join(["AWS4-HMAC-SHA256", stamp, scope, hashlib.sha256(canonical.encode()).hexdigest()])
-    headers["Authorization"] = (
-        f"AWS4-HMAC-SHA256 Credential={caller['accessKeyId']}/{scope}, SignedHeaders={NAMES}, "
-        f"Signature={signature(caller['secret'], scope, text)}"
-    )
-    headers["Content-Length"] = str(len(body))
-    lines = "".join(f"{name}: {value}\r\n" for name, value in headers.items())
-    return f"POST / HTTP/1.1\r\n{lines}\r\n{body}".encode()
+    return signing.message(caller["accessKeyId"], caller["secret"], REGION, operation, body).encode()
 
 
 class Refused(Exception):
