@@ -55,12 +55,14 @@ with open(os.path.join(os.path.dirname(__file__), "../crates/known_answers/data/
                 for e in edges(count):
                     words.append(show(digest((k, left[k]) for k in keys[bisect_left(keys, e):])) + f" {left.get(e, '-')}")
                 print(f"made | {count} | {step} | {removed} | {rstep} | {', '.join(map(str, edges(count)))} | {'; '.join(words)}", file=f)
-            for k in sorted({0, 1, count // 2 * 2, count // 2 * 2 + 1, 2 * count - 1 if count else 0, 2 * count}):
+            keys = {count // 2 * 2 + 1, 2 * count}
+            if count < 1000: keys |= {0, 1, count // 2 * 2, max(2 * count - 1, 0)}
+            for k in sorted(keys):
                 def sorted_digest(m): return show(digest((k, m[k]) for k in sorted(m)))
                 with_key = dict(made); with_key[k] = 5
                 without = dict(made); without.pop(k, None)
                 print(f"changed | {count} | {step} | {k} | 5 | {sorted_digest(made)}; {sorted_digest(with_key)}; {sorted_digest(without)}; {sorted_digest(made)} {len(with_key)} {len(without)}", file=f)
-            for groups in [1, 7] if step == mixed(count) else []:
+            for groups in [7] if step == mixed(count) else []:
                 rests = {}
                 for k in made: rests.setdefault(k % groups, {})[k] = made[k]
                 d = (0, 0)
