@@ -13,6 +13,7 @@ def digest(pairs, count=0, total=0):
     return count, total
 def show(d): return f"{d[0]} {d[1]}"
 def mixed(count):
+    if count < 2: return 1
     # a step near the golden section of the count that reaches each place
     from math import gcd
     step = max(1, int(count * 0.618))
@@ -20,10 +21,10 @@ def mixed(count):
     return step
 def steps(count): return {"ascending": 1, "descending": max(count - 1, 1), "mixed": mixed(count)}
 
-COUNTS = [0, 1, 1023, 1024, 1025, 5000]
+COUNTS = [0, 1, 63, 64, 65, 129, 1023, 1024, 1025, 5000]
 def edges(count):
     # below all, above all, and both sides of the places where a part may begin or end
-    places = {0, 1, 511, 512, 513, 1022, 1023, 1024, 1025, 2048, count // 2, count - 2, count - 1}
+    places = {0, 1, 31, 32, 33, 63, 64, 65, 128, 511, 512, 1023, 1024, count // 2, count - 2, count - 1}
     keys = {0, 2 * count, 2 * count + 1}
     for p in places:
         if 0 <= p < count: keys |= {2 * p, 2 * p + 1}
@@ -40,14 +41,12 @@ with open(os.path.join(os.path.dirname(__file__), "../crates/known_answers/data/
         "\n# nested | COUNT | STEP | divisor | how many maps there are of keys with one rest, and the digest of all their pairs, by rising rest"
         "\n#\n# Made by tools/make_maps.py.", file=f)
     for count in COUNTS:
-        for step in steps(count).values():
+        for step in dict.fromkeys(steps(count).values()):
             order = (count, step)
             made = {key(order, i): value(key(order, i)) for i in range(count)}
             removals = [(0, 1)]
             if count > 0:
-                removals += [(1, 1), (count, 1), (count // 2, mixed(count))]
-            if count > 1:
-                removals += [(count - 1, count - 1), (count, mixed(count)), (513, 1) if count > 513 else (1, count - 1)]
+                removals += [(1, 1), (count, count - 1 or 1), (count // 2, mixed(count))]
             for removed, rstep in dict.fromkeys(removals):
                 left = dict(made)
                 for i in range(removed): left.pop(key((count, rstep), i))
@@ -56,12 +55,14 @@ with open(os.path.join(os.path.dirname(__file__), "../crates/known_answers/data/
                 for e in edges(count):
                     words.append(show(digest((k, left[k]) for k in keys[bisect_left(keys, e):])) + f" {left.get(e, '-')}")
                 print(f"made | {count} | {step} | {removed} | {rstep} | {', '.join(map(str, edges(count)))} | {'; '.join(words)}", file=f)
-            for k in edges(count):
+            keys = {count // 2 * 2 + 1, 2 * count}
+            if count < 1000: keys |= {0, 1, count // 2 * 2, max(2 * count - 1, 0)}
+            for k in sorted(keys):
                 def sorted_digest(m): return show(digest((k, m[k]) for k in sorted(m)))
                 with_key = dict(made); with_key[k] = 5
                 without = dict(made); without.pop(k, None)
                 print(f"changed | {count} | {step} | {k} | 5 | {sorted_digest(made)}; {sorted_digest(with_key)}; {sorted_digest(without)}; {sorted_digest(made)} {len(with_key)} {len(without)}", file=f)
-            for groups in [1, 2, 7]:
+            for groups in [7] if step == mixed(count) else []:
                 rests = {}
                 for k in made: rests.setdefault(k % groups, {})[k] = made[k]
                 d = (0, 0)

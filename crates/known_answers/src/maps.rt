@@ -59,11 +59,7 @@ fn map_of(alloc: Global, order: Order) -> Result<PMap<u64, u64>, NoMemory> {
 }
 
 /// The map without so many keys of an order.
-fn map_without(
-    made: PMap<u64, u64>,
-    order: Order,
-    count: u64,
-) -> Result<PMap<u64, u64>, NoMemory> {
+fn map_without(made: PMap<u64, u64>, order: Order, count: u64) -> Result<PMap<u64, u64>, NoMemory> {
     let mut map = made;
     for place in 0..count {
         map = map.remove(&order.key(place))?;

@@ -9,7 +9,7 @@ ghost use Rattle.persist_map.specs.Pairs.{Ascends, value_at, with_pair, without_
 ghost use Rattle.persist_map.specs.Parts.{joined, HaveSizes};
 
 use crate::iterators::PFrom;
-use crate::parts::{PART_MAX, Part};
+use crate::parts::{PART_MAX, PART_MOST_AT_FIRST, Part};
 use crate::places::{place_in, place_of};
 use crate::sharing::{add_shared, shared};
 use kms_names::{NoMemory, Steps};
@@ -69,19 +69,31 @@ fn halves_of<K: Drop, V: Drop>(
     Ok(parts)
 }
 
-/// The parts of these pairs: none where there are no pairs, and two halves where they are too many for one part.
+/// The pairs that a part may have before it is split: about as many as there are parts, so that an insert copies about as
+/// many pointers to pairs as to parts.
+fn most_pairs(parts: usize) -> usize
+    ensures some { 0 < result }
+    ensures most { result ≤ PART_MAX }
+{
+    parts.clamp(PART_MOST_AT_FIRST, PART_MAX)
+}
+
+/// The parts of these pairs: none where there are no pairs, and two halves where they are more than one part may have.
 fn parts_of<K: Drop, V: Drop>(
     alloc: Global,
     pairs: Vec<Arc<(K, V)>>,
+    most: usize,
 ) -> Result<Vec<Arc<Part<K, V>>>, NoMemory>
-    requires { length pairs.items ≤ PART_MAX + 1 }
+    requires some { 0 < most }
+    requires most { most ≤ PART_MAX }
+    requires few { length pairs.items ≤ PART_MAX + 1 }
     ensures pairs { IfOk result (λ parts. joined (map arc_value parts.items) ≡ map arc_value pairs.items) }
     ensures sizes { IfOk result (λ parts. HaveSizes (map arc_value parts.items)) }
 {
     if pairs.is_empty() {
         return Ok(Vec::new(alloc));
     }
-    if pairs.len() > PART_MAX {
+    if pairs.len() > most {
         return halves_of(alloc, pairs);
     }
     let part = part_of(alloc, pairs)?;
@@ -215,16 +227,17 @@ impl<K: Ord + Drop, V: Drop> PMap<K, V> {
         let Some(place) = place_in(parts, &key) else {
             return self.appended(key, value);
         };
-        if place.pair == PART_MAX && place.part + 1 == parts.len() {
+        let part: &Part<K, V> = &parts[place.part];
+        let most = most_pairs(parts.len());
+        if place.part + 1 == parts.len() && part.is_full_before(place.pair, most) {
             return self.appended(key, value);
         }
-        let part: &Part<K, V> = &parts[place.part];
         let replaces = part.has_key_at(place.pair, &key);
         let len = self.len_with(replaces)?;
         let next = place_behind(place.pair, replaces);
         let pair = Arc::new(alloc, (key, value))?;
         let pairs = part.with_pair(place.pair, pair, next)?;
-        let changed = parts_of(alloc, pairs)?;
+        let changed = parts_of(alloc, pairs, most)?;
         let parts = with_parts(alloc, parts, place.part, changed.as_slice())?;
         Ok(PMap { parts, len })
     }
@@ -243,7 +256,7 @@ impl<K: Ord + Drop, V: Drop> PMap<K, V> {
             return self.share();
         }
         let pairs = part.without_pair(place.pair)?;
-        let changed = parts_of(alloc, pairs)?;
+        let changed = parts_of(alloc, pairs, PART_MAX)?;
         let parts = with_parts(alloc, parts, place.part, changed.as_slice())?;
         let len = self.len - 1;
         Ok(PMap { parts, len })

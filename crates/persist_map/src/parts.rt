@@ -1,6 +1,7 @@
 //! The parts of a map.
 
 ghost use Rattle.std.specs.Prelude.{◌≡◌, ◌+◌, ◌<◌, ◌≤◌, ◌++◌, ◌∷◌, map, length, take, drop, IfOk};
+ghost use Rattle.std.specs.Bool.{OnTrue};
 ghost use Rattle.std.specs.Option.{option_map};
 ghost use Rattle.std.specs.Arc.{arc_value};
 ghost use Rattle.persist_map.specs.Digits.{binary_digits};
@@ -15,6 +16,9 @@ use std::sync::ledger::Ledger;
 
 /// The most pairs of a part.
 pub(crate) const PART_MAX: usize = 1024;
+
+/// The most pairs of a part while there are few parts.
+pub(crate) const PART_MOST_AT_FIRST: usize = 64;
 
 /// A part of a map. Contracts see it as its pairs.
 #[derive(Drop)]
@@ -96,6 +100,14 @@ impl<K: Ord, V> Part<K, V> {
 }
 
 impl<K: Drop, V: Drop> Part<K, V> {
+    /// Whether there are so many pairs, none of them at the place or behind it.
+    pub(crate) fn is_full_before(&self, place: usize, most: usize) -> bool
+        ensures { OnTrue result (length self.now ≤ place) }
+    {
+        let len = self.pairs.len();
+        len >= most && place >= len
+    }
+
     /// The pairs from a place on.
     pub(crate) fn pairs_from(&self, place: usize) -> &[Arc<(K, V)>]
         requires { place ≤ length self.now }

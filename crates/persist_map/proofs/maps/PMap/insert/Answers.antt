@@ -11,8 +11,8 @@ use Rattle.persist_map.proofs.Edits.{with_pair_behind}
 use Rattle.persist_map.proofs.Placed.{all_below_last, few_in_part, few_with, changed_with, begins_there, list_with, tree_with, length_with}
 use Rattle.persist_map.proofs.maps.PMap.insert.Goals as goal
 
-pub appended-requires-then-place-parts : goal.appended-requires-then-place-parts
-appended-requires-then-place-parts g c =
+pub appended-requires-then-is_full_before : goal.appended-requires-then-is_full_before
+appended-requires-then-is_full_before g c =
     let cmp = g.K.Ord.cmp in
     let key = c.args.key in
     let read = c.as_slice-parts.result.now in
@@ -22,12 +22,14 @@ appended-requires-then-place-parts g c =
     let tree = subst (λ l. IsTree cmp (map arc_value l)) (sym c.as_slice-parts.ensures.value) c.self.invariant.0 in
     let whole = ap (λ l. joined (map arc_value l)) c.as_slice-parts.ensures.value ∙ c.self.view_is in
     let in_range : place.part < length read = omega (arith, at.part_in_range, length-map read arc_value) in
-    let below = all_below_last g.met.K.Ord.total key parts tree place at (c.if-place-parts.true ∙ sym (length-map read arc_value)) (omega (arith, (tree.sizes place.part [] at.part_in_range).1, c.if-place-eq-PART_MAX.true)) in
+    let part = c.deref-part.result.now in
+    let part_is = read_value arc_value read place.part c.index-parts-place.result part [] in_range c.index-parts-place.is c.deref-part.ensures in
+    let below = all_below_last g.met.K.Ord.total key parts tree place at (c.if-place-parts.true ∙ sym (length-map read arc_value)) (omega (arith, ap length part_is, c.if-is_full_before.ensures)) in
     let Below : List (g.row.K.Denot × g.row.V.Denot) → Type 0 = λ l. All (λ (pair : g.row.K.Denot × g.row.V.Denot). cmp pair.0 key ≡ Less) l in
     subst Below whole below
 
-pub returns-then-place-parts : goal.returns-then-place-parts
-returns-then-place-parts g c =
+pub returns-then-is_full_before : goal.returns-then-is_full_before
+returns-then-is_full_before g c =
     let cmp = g.K.Ord.cmp in
     let key = c.args.key in
     let read = c.as_slice-parts.result.now in
@@ -37,12 +39,14 @@ returns-then-place-parts g c =
     let tree = subst (λ l. IsTree cmp (map arc_value l)) (sym c.as_slice-parts.ensures.value) c.self.invariant.0 in
     let whole = ap (λ l. joined (map arc_value l)) c.as_slice-parts.ensures.value ∙ c.self.view_is in
     let in_range : place.part < length read = omega (arith, at.part_in_range, length-map read arc_value) in
-    let below = all_below_last g.met.K.Ord.total key parts tree place at (c.if-place-parts.true ∙ sym (length-map read arc_value)) (omega (arith, (tree.sizes place.part [] at.part_in_range).1, c.if-place-eq-PART_MAX.true)) in
+    let part = c.deref-part.result.now in
+    let part_is = read_value arc_value read place.part c.index-parts-place.result part [] in_range c.index-parts-place.is c.deref-part.ensures in
+    let below = all_below_last g.met.K.Ord.total key parts tree place at (c.if-place-parts.true ∙ sym (length-map read arc_value)) (omega (arith, ap length part_is, c.if-is_full_before.ensures)) in
     let Below : List (g.row.K.Denot × g.row.V.Denot) → Type 0 = λ l. All (λ (pair : g.row.K.Denot × g.row.V.Denot). cmp pair.0 key ≡ Less) l in
-    subst (λ l. IfOk c.appended-then-place-parts.result (λ m. m ≡ l)) (sym (with_pair_behind cmp c.args.self.now key c.args.value (recursion_from_All (λ (pair : g.row.K.Denot × g.row.V.Denot). cmp pair.0 key ≡ Less) c.args.self.now (subst Below whole below)))) c.appended-then-place-parts.ensures
+    subst (λ l. IfOk c.appended-then-is_full_before.result (λ m. m ≡ l)) (sym (with_pair_behind cmp c.args.self.now key c.args.value (recursion_from_All (λ (pair : g.row.K.Denot × g.row.V.Denot). cmp pair.0 key ≡ Less) c.args.self.now (subst Below whole below)))) c.appended-then-is_full_before.ensures
 
-pub parts_of-requires : goal.parts_of-requires
-parts_of-requires g c =
+pub parts_of-requires-clause-few : goal.parts_of-requires-clause-few
+parts_of-requires-clause-few g c =
     let cmp = g.K.Ord.cmp in
     let key = c.args.key in
     let read = c.as_slice-parts.result.now in

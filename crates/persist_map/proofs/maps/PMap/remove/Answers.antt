@@ -25,8 +25,8 @@ returns-then-not-has_key_at g c =
     let same = sym whole ∙ sym (without_missing g.met.K.Ord.total key parts tree place at missing) ∙ ap (λ l. without_key cmp l key) whole in
     subst (λ l. IfOk c.share-then-not-has_key_at.result (λ m. m ≡ l)) same c.share-then-not-has_key_at.ensures
 
-pub parts_of-requires : goal.parts_of-requires
-parts_of-requires g c =
+pub parts_of-requires-clause-few : goal.parts_of-requires-clause-few
+parts_of-requires-clause-few g c =
     let cmp = g.K.Ord.cmp in
     let key = c.args.key.now in
     let read = c.as_slice-parts.result.now in
