@@ -4,8 +4,8 @@ ghost use Rattle.kms_names.specs.Moment.{year_10000};
 
 use crate::Decision;
 use crate::decide::{decision_from, lacking_entries};
-use crate::operations::{change_body, read_body};
 use crate::held_facts::HeldFacts;
+use crate::operations::{change_body, read_body};
 use account_rows::{Entry, Rows};
 use account_steps::{Places, RealmFacts, Stop, View};
 use draw_lines::DrawLine;

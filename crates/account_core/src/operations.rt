@@ -17,8 +17,7 @@ use account_crypto::{
 };
 use account_keys::{
     AliasChange, ChangingAlias, ChangingKey, CreatingKey, DescribingKey, GettingPolicy,
-    GettingRotationStatus, KeyChange, PuttingPolicy, RetiringGrant, RevokingGrant,
-    creating_grant,
+    GettingRotationStatus, KeyChange, PuttingPolicy, RetiringGrant, RevokingGrant, creating_grant,
 };
 use account_lists::{AccountList, KeyList, ListingAccount, ListingKey};
 use account_steps::{LentText, Made, Stop, View, change as apply, lent_if_given, read};

@@ -6,7 +6,7 @@ ghost use Rattle.account_crypto.specs.Crypto.{generates_data_key};
 use crate::crypto::{draw, seal};
 use account_rows::Lent;
 use account_steps::{
-    Named, Request, Reads, Stop, Uses, View, key_of, of_context, refuse, unsupported,
+    Named, Reads, Request, Stop, Uses, View, key_of, of_context, refuse, unsupported,
 };
 use draw_lines::DrawLine;
 use kms_json::{DataKey, Reply, Unsupported};
@@ -131,10 +131,7 @@ impl<'a> Request for GeneratingDataKey<'a> {
     }
 
     fn own(&self, _alloc: Global, _found: &Named<'a>) -> Result<(), Stop> {
-        refuse(unsupported(
-            self.form.has_recipient(),
-            Unsupported::Recipient,
-        ))
+        refuse(unsupported(self.form.has_recipient(), Unsupported::Recipient))
     }
 
     fn dry_run(&self) -> bool {

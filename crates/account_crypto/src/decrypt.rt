@@ -2,7 +2,7 @@
 ghost use Rattle.account_crypto.specs.Crypto.{decrypts};
 
 use account_steps::{
-    Request, Reads, Sealed, Stop, Uses, View, find_source, of_context, refuse, unfit, unsupported,
+    Reads, Request, Sealed, Stop, Uses, View, find_source, of_context, refuse, unfit, unsupported,
 };
 use draw_lines::DrawLine;
 use kms_json::{Decrypt, Reply, Unsupported};

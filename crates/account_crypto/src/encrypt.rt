@@ -3,7 +3,7 @@ ghost use Rattle.std.specs.Prelude.{◌≤◌, length};
 ghost use Rattle.account_crypto.specs.Crypto.{encrypts};
 
 use crate::crypto::{ONE_IV, seal};
-use account_steps::{Named, Request, Reads, Stop, Uses, View, key_of, of_context, refuse, unfit};
+use account_steps::{Named, Reads, Request, Stop, Uses, View, key_of, of_context, refuse, unfit};
 use draw_lines::DrawLine;
 use kms_json::{Encrypt, Reply};
 use kms_names::{Action, NoMemory, Text};

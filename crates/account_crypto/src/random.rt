@@ -3,7 +3,7 @@ ghost use Rattle.std.specs.Prelude.{◌≤◌};
 ghost use Rattle.account_crypto.specs.Crypto.{generates_random};
 
 use crate::crypto::draw;
-use account_steps::{Request, Reads, Stop, Uses, View, of_none, refuse, unsupported};
+use account_steps::{Reads, Request, Stop, Uses, View, of_none, refuse, unsupported};
 use draw_lines::DrawLine;
 use kms_json::{Reply, Unsupported};
 use kms_names::{Action, Bytes, NoMemory, Text};

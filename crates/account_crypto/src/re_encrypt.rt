@@ -4,8 +4,7 @@ ghost use Rattle.account_crypto.specs.Crypto.{re_encrypts};
 use crate::crypto::{ONE_IV, Sealable, seal};
 use account_rows::same_key;
 use account_steps::{
-    Named, Request, Reads, Sealed, Stop, Uses, View, find_source, key_of, of_context, refuse,
-    unfit,
+    Named, Reads, Request, Sealed, Stop, Uses, View, find_source, key_of, of_context, refuse, unfit,
 };
 use authority::Particulars;
 use draw_lines::DrawLine;
@@ -121,7 +120,9 @@ impl<'a> Request for ReEncrypting<'a> {
     fn own(&self, alloc: Global, found: &Turning<'a>) -> Result<Sealable, Stop> {
         refuse(unfit(&self.request.source_algorithm))?;
         refuse(unfit(&self.request.algorithm))?;
-        let text = found.source.open(alloc, self.view, &self.request.source_context)?;
+        let text = found
+            .source
+            .open(alloc, self.view, &self.request.source_context)?;
         Ok(Sealable::new(text))
     }
 

@@ -7,7 +7,7 @@ ghost use Rattle.account_keys.specs.Keys.{description_of, creates_key, describes
 use crate::policies::accept;
 use account_rows::What;
 use account_steps::{
-    Changes, Made, Named, Request, Reads, Stop, Uses, View, key_id, key_of, of_named, of_new_key,
+    Changes, Made, Named, Reads, Request, Stop, Uses, View, key_id, key_of, of_named, of_new_key,
     refuse, told_state, unsupported,
 };
 use authority::{Particulars, default_policy_text};
@@ -161,7 +161,13 @@ impl<'a> Changes for CreatingKey<'a> {
         let time = self.view.moment();
         let facts = self.view.facts();
         let key = key_id(facts, self.view.place());
-        let metadata = metadata(self.view, key, time, &self.request.description, KeyState::Enabled)?;
+        let metadata = metadata(
+            self.view,
+            key,
+            time,
+            &self.request.description,
+            KeyState::Enabled,
+        )?;
         let description = self.request.description.copy()?;
         let policy = policy_or_default(alloc, &facts.account, &self.request.policy)?;
         Ok(Made {

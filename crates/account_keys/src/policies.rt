@@ -8,7 +8,7 @@ ghost use Rattle.account_steps.specs.Steps.{Passes};
 ghost use Rattle.account_keys.specs.Policies.{StopsAt, IsStopAt, may_put_again, locked_out, policy_refused, puts_policy, gets_policy};
 
 use account_rows::{Lent, What};
-use account_steps::{Changes, Made, Request, Reads, Stop, Uses, View, of_key, only_key_of};
+use account_steps::{Changes, Made, Reads, Request, Stop, Uses, View, of_key, only_key_of};
 use authority::{KeyPolicy, Particulars};
 use draw_lines::DrawLine;
 use kms_json::{PolicyFlaw, Refusal, Reply};

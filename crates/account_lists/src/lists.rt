@@ -8,7 +8,7 @@ use crate::listings::{AliasesListed, GrantsOfKey, KeysListed, RetirableGrants, R
 use crate::pages::{behind_marker, part_behind};
 use account_rows::Lent;
 use account_steps::{
-    LentText, Request, Reads, Stop, Uses, View, grant_id_in, of_key, of_none, only_key_of,
+    LentText, Reads, Request, Stop, Uses, View, grant_id_in, of_key, of_none, only_key_of,
     principal_in,
 };
 use draw_lines::DrawLine;

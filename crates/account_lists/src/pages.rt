@@ -5,9 +5,8 @@ ghost use Rattle.account_steps.specs.Steps.{Gives};
 ghost use Rattle.account_lists.specs.Pages.{behind_marker, part_of};
 
 use account_steps::Stop;
-use kms_names::decimal;
 use kms_json::{Page, Refusal};
-use kms_names::{NoMemory, Text};
+use kms_names::{NoMemory, Text, decimal};
 use std::alloc::Global;
 
 // The longest number of a marker, in digits.

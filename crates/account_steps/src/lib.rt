@@ -21,9 +21,7 @@ pub use facts::RealmFacts;
 pub use given::{grant_id_in, principal_if_given, principal_in};
 pub use ids::{draw_line, grant_id, key_id, key_id_of};
 pub use particulars::{of_context, of_key, of_named, of_new_key, of_none};
-pub use parts::{
-    Changes, Made, Request, Reads, change, grant_id_of, grant_of_token, read, refuse,
-};
+pub use parts::{Changes, Made, Reads, Request, change, grant_id_of, grant_of_token, read, refuse};
 pub use places::{Places, Uses};
 pub use sources::{Sealed, find_source};
 pub use stops::Stop;

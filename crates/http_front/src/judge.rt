@@ -7,10 +7,10 @@ ghost use Rattle.http_front.specs.Heading.{heading_of, values_in};
 ghost use Rattle.http_front.specs.Judge.{size_in, size_within, judged};
 ghost use Rattle.http_front.specs.Parsed.{Shows};
 
-use kms_names::decimal;
 use crate::fields::value_at;
 use crate::parsed::Parsed;
 use httparse::spans::HeaderSpan;
+use kms_names::decimal;
 
 /// Why bytes are no message that is served.
 #[derive(Clone, Copy, Debug, PartialEq, Eq)]

@@ -7,9 +7,9 @@ ghost use Rattle.kms_names.specs.Reading.{some_if, is_account_number, is_region_
 ghost use Rattle.kms_config.specs.Forms.{account_in, region_in, root_in, is_boot, boot_in, has_length, is_key_id, is_visible, is_secret, if_of, principal_in, principal_at, no_root, text_where};
 
 use crate::members::text_in;
-use policy_doc::member;
 use hex::FromHex;
 use kms_names::{AccountNumber, NameFault, NoMemory, Principal, Text, is_region, read_principal};
+use policy_doc::member;
 use serde_json::Value;
 use std::alloc::Global;
 

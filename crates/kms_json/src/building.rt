@@ -41,11 +41,7 @@ fn page(values: &mut VecDeque<Given>, default: u64) -> Page
 }
 
 /// The operation with its fields.
-pub fn asked_from(
-    alloc: Global,
-    operation: Operation,
-    mut values: VecDeque<Given>,
-) -> AskBody
+pub fn asked_from(alloc: Global, operation: Operation, mut values: VecDeque<Given>) -> AskBody
     ensures { result ≡ built operation (held (fields_of operation) values.items) }
 {
     let values = &mut values;

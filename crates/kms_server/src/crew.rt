@@ -8,7 +8,7 @@ ghost use Rattle.publish_pass.specs.Pass.{Learns};
 ghost use Rattle.kms_server.specs.Crew.{Pairwise, Settles, FirstIsLongest, taken_by};
 ghost use Rattle.kms_server.specs.States.{state_of, states_of};
 
-use crate::worker::{Workshop, Worker, work};
+use crate::worker::{Worker, Workshop, work};
 use kms_io::{Clock, Ear, Gate};
 use publish_pass::{Pass, Realm, Service};
 use std::sync::Wait;

@@ -8,7 +8,7 @@ ghost use Rattle.kms_server.specs.States.{states_of};
 ghost use Rattle.kms_server.specs.Server.{wanted_by, surroundings, Fulfils};
 
 use crate::crew::{disband, gather, learn_all, settle_all, taken_by, took_all, work_all};
-use crate::worker::{Workshop, Worker};
+use crate::worker::{Worker, Workshop};
 use account_steps::RealmFacts;
 use kms_io::{Clock, Door, Ear, Gate, Opened};
 use kms_session::Trust;

@@ -6,8 +6,8 @@ ghost use Rattle.http_front.specs.Message.{Message, CutsOff};
 ghost use Rattle.kms_session.specs.Asked.{asked_in, after_in, after_number};
 
 use http_front::Cut;
-use kms_names::decimal;
 use kms_json::{AskBody, JsonFault, read_ask};
+use kms_names::decimal;
 use std::alloc::Global;
 
 /// What the header x-kms-after asks: how many entries the answer must stand on.

@@ -14,6 +14,6 @@ pub use kms_io::{Clock, Gate, Link};
 pub use outbox::send;
 pub use publish_pass::{Pass, Realm, Service};
 pub use session::{SessionEnd, serve_session};
-pub use threads::trust_crosses_threads;
 pub use sigv4_check::{Credential, CredentialList};
+pub use threads::trust_crosses_threads;
 pub use trust::Trust;

@@ -3,9 +3,9 @@
 use crate::cases::Case;
 use kms_names::{
     AccountNumber, Action, ActionSet, Bytes, GrantId, GrantOp, GrantOps, KeyId, KeyRef, NameFault,
-    Principal, Text, alias_arn, grant_text, grant_text_into, is_alias_name, is_behind, is_region, key_arn,
-    key_text, key_text_into, principal_len, read_alias, read_grant_id, read_key_id, read_key_ref,
-    read_principal, write_principal,
+    Principal, Text, alias_arn, grant_text, grant_text_into, is_alias_name, is_behind, is_region,
+    key_arn, key_text, key_text_into, principal_len, read_alias, read_grant_id, read_key_id,
+    read_key_ref, read_principal, write_principal,
 };
 use std::cmp::Ordering;
 

@@ -1,7 +1,7 @@
 // A read beside a change that is held at the desk.
 ghost use Rattle.std.specs.Prelude.{◌≡◌};
 
-use crate::requests::{Failure, Stage, LOOK, MAKE, front};
+use crate::requests::{Failure, LOOK, MAKE, Stage, front};
 use kms_io::{Gate, NoGate, Point};
 use publish_pass::{Pass, Realm};
 use std::rt;

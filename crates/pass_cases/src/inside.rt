@@ -2,7 +2,7 @@
 ghost use Rattle.std.specs.Prelude.{◌≡◌};
 
 use crate::beside::await_change;
-use crate::requests::{Caller, Failure, Stage, MAKE, Request, front};
+use crate::requests::{Caller, Failure, MAKE, Request, Stage, front};
 use kms_io::NoGate;
 use kms_names::NoMemory;
 use publish_pass::{Pass, Realm};

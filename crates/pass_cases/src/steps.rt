@@ -3,7 +3,7 @@ ghost use Rattle.std.specs.Prelude.{◌≡◌};
 
 use crate::beside::beside;
 use crate::inside::inside;
-use crate::requests::{Caller, Failure, Stage, Request, answer};
+use crate::requests::{Caller, Failure, Request, Stage, answer};
 use kms_io::NoGate;
 use publish_pass::{Answered, Pass, Realm};
 use std::rt;

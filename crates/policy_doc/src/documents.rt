@@ -70,7 +70,11 @@ fn read_document(
         return Err(fault(alloc, Departure::BadShape, &root));
     };
     check_unknown(alloc, &root, first_unknown(&NAMES, map))?;
-    check_version(alloc, &Path::Member(&root, "Version"), member(value, "Version"))?;
+    check_version(
+        alloc,
+        &Path::Member(&root, "Version"),
+        member(value, "Version"),
+    )?;
     check_optional(alloc, &Path::Member(&root, "Id"), member(value, "Id"))?;
     let statement = member(value, "Statement");
     read_statements(alloc, kind, &Path::Member(&root, "Statement"), statement)

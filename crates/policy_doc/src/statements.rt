@@ -140,7 +140,11 @@ pub fn read_statement(
 {
     check_names(alloc, path, value)?;
     check_optional(alloc, &Path::Member(path, "Sid"), member(value, "Sid"))?;
-    let allow = read_effect(alloc, &Path::Member(path, "Effect"), member(value, "Effect"))?;
+    let allow = read_effect(
+        alloc,
+        &Path::Member(path, "Effect"),
+        member(value, "Effect"),
+    )?;
     let place = Path::Member(path, "Principal");
     let principals = read_principals(alloc, kind, &place, member(value, "Principal"))?;
     let (actions, not_actions) = read_actions(alloc, path, value)?;

@@ -16,7 +16,9 @@ use account_rows::Entry;
 use kms_io::{Gate, Point};
 use kms_json::{Ask, Reply};
 use kms_names::NoMemory;
-use published_account::{Answered, Copies, Tip, Prefix, Published, Realm, Whole, answer_with, show};
+use published_account::{
+    Answered, Copies, Prefix, Published, Realm, Tip, Whole, answer_with, show,
+};
 use std::alloc::Global;
 use std::marker::{Model, PhantomData};
 use std::sync::ledger::Book;

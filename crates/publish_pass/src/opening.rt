@@ -11,7 +11,7 @@ use crate::told::Told;
 use account_steps::{RealmFacts, draw_line};
 use kms_names::{NoMemory, Text};
 use published_account::{
-    Copies, Entrance, Prefix, Notes, Published, Realm, Unnamed, Whole, Window, warm,
+    Copies, Entrance, Notes, Prefix, Published, Realm, Unnamed, Whole, Window, warm,
 };
 use std::alloc::Global;
 use std::marker::Model;

@@ -101,7 +101,10 @@ impl<R: Realm> Pass<R> {
         ensures answer { IfOk result (λ a. AnswersRead self.old ask.now a self.new) }
         ensures lacks { IfErr result (λ why. LacksRead self.old ask.now why self.new) }
     {
-        let Some(found) = self.entrance.enter(alloc, &self.prefix, ask, &mut self.draws) else {
+        let Some(found) = self
+            .entrance
+            .enter(alloc, &self.prefix, ask, &mut self.draws)
+        else {
             return Err(Unread::NotEntered);
         };
         let Found { answered, prefix } = found;

@@ -17,7 +17,7 @@ mod whole;
 
 pub use answered::{Answered, Unread, answer_with};
 pub use entrance::{Entrance, Found};
-pub use prefix::{Glimpse, Tip, Prefix, Unnamed};
+pub use prefix::{Glimpse, Prefix, Tip, Unnamed};
 pub use published::Published;
 pub use realm::Realm;
 pub use rule::{Copies, Notes, Window};

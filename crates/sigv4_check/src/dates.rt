@@ -2,8 +2,8 @@
 ghost use Rattle.std.specs.Prelude.{◌≡◌, ◌≤◌, ◌+◌, length, IfSome};
 ghost use Rattle.sigv4_check.specs.Dates.{could_be_day, digits_from, has_marks, is_time, days_to, written_in, second_at, second_of};
 
-use kms_names::decimal;
 use jiff_core::civil::Date;
+use kms_names::decimal;
 
 const FIRST_YEAR: u64 = 1970;
 

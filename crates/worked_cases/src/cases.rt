@@ -1,5 +1,5 @@
 // A case: the session that it stands for, and what is wanted of it.
-use crate::lines::{Line, Given, Span, Wanted};
+use crate::lines::{Given, Line, Span, Wanted};
 use crate::texts::is_escaped;
 use std::alloc::{AllocError, Global};
 

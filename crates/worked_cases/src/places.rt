@@ -8,7 +8,7 @@ ghost use Rattle.kms_names.specs.Principal.{account_of};
 use crate::callers::caller_of;
 use crate::cases::{Case, Request};
 use crate::failures::Failure;
-use crate::lines::{Line, Given, Wanted};
+use crate::lines::{Given, Line, Wanted};
 use crate::replies::body_text;
 use crate::sessions::{account_number, facts_of};
 use account_core::{Account, Decision};

@@ -97,10 +97,7 @@ pub fn generate_data_key(alloc: Global, values: &mut VecDeque<Given>) -> Reading
 }
 
 /// GenerateDataKeyWithoutPlaintext: the spec stands before the number of bytes.
-pub fn generate_data_key_without_plaintext(
-    alloc: Global,
-    values: &mut VecDeque<Given>,
-) -> Reading
+pub fn generate_data_key_without_plaintext(alloc: Global, values: &mut VecDeque<Given>) -> Reading
     ensures { result ≡ asked.generate_data_key_without_plaintext (held asked.generate_data_key_without_plaintext_fields values.old.items) }
 {
     Reading::GenerateDataKeyWithoutPlaintext(DataKey {

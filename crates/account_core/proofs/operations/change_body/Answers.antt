@@ -18,7 +18,7 @@ pub returns-in-UpdateKeyDescription : goal.returns-in-UpdateKeyDescription
 returns-in-UpdateKeyDescription c =
     let made = c.change_key.result in
     subst (OfBody c.args.view.now made) (sym c.in-UpdateKeyDescription.is)
-    (subst (λ (text : List ℕ). OfBody c.args.view.now made (changing.UpdateKeyDescription c.in-UpdateKeyDescription.key_id.now text)) c.new-text.ensures c.change_key.ensures)
+    (subst (λ (text : List ℕ). OfBody c.args.view.now made (changing.UpdateKeyDescription c.in-UpdateKeyDescription.key_id text)) c.new-text.ensures c.change_key.ensures)
 
 pub returns-in-ScheduleKeyDeletion : goal.returns-in-ScheduleKeyDeletion
 returns-in-ScheduleKeyDeletion c = subst (OfBody c.args.view.now c.change_key-in-ScheduleKeyDeletion.result) (sym c.in-ScheduleKeyDeletion.is) c.change_key-in-ScheduleKeyDeletion.ensures
