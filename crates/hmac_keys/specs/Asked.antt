@@ -1,5 +1,5 @@
 -- Which kind of key a CreateKey asks for, and the order of its refusals (AWS KMS API Reference,
--- CreateKey, "KeyUsage", "CustomerMasterKeySpec" and "KeySpec"). Each of the three is absent or a text.
+-- CreateKey, "KeyUsage", "CustomerMasterKeySpec" and "KeySpec"). Each is absent or a text.
 use Rattle.std.specs.Prelude.{ℕ, List, [], ◌∷◌, Bool, false, not, find, Option, Some, unwrap_or, is_none, option_map, Result, Ok, Err}
 use Rattle.std.specs.Option.{option_map_or}
 use Rattle.std.specs.Str.{bytes_eq}

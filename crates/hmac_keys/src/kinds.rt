@@ -1,7 +1,7 @@
 //! The kinds of keys, and the texts that name them.
 
-ghost use Rattle.std.specs.Prelude.{◌≡◌, IfOk};
-ghost use Rattle.hmac_keys.specs.Kind.{all_kinds, usage_text, spec_text, text_in};
+ghost use Rattle.std.specs.Prelude.{◌≡◌, IfOk, IsOk};
+ghost use Rattle.hmac_keys.specs.Kind.{usage_text, spec_text, text_in};
 
 use kms_names::NoMemory;
 
@@ -18,9 +18,10 @@ impl KeyKind {
     /// All kinds.
     pub(crate) const ALL: [KeyKind; 2] = [KeyKind::Symmetric, KeyKind::Hmac256];
 
-    /// A copy that equals its source; no memory is taken.
+    /// A copy that equals its source. It never fails, and no memory is taken.
     pub fn copy(&self) -> Result<KeyKind, NoMemory>
-        ensures { IfOk result (λ kind. kind ≡ self.now) }
+        ensures same { IfOk result (λ kind. kind ≡ self.now) }
+        ensures succeeds { IsOk result }
     {
         Ok(*self)
     }
@@ -59,9 +60,10 @@ pub enum KindField {
 }
 
 impl KindField {
-    /// A copy that equals its source; no memory is taken.
+    /// A copy that equals its source. It never fails, and no memory is taken.
     pub fn copy(&self) -> Result<KindField, NoMemory>
-        ensures { IfOk result (λ field. field ≡ self.now) }
+        ensures same { IfOk result (λ field. field ≡ self.now) }
+        ensures succeeds { IsOk result }
     {
         Ok(*self)
     }
@@ -87,9 +89,10 @@ pub enum KindRead {
 }
 
 impl KindRead {
-    /// A copy that equals its source; no memory is taken.
+    /// A copy that equals its source. It never fails, and no memory is taken.
     pub fn copy(&self) -> Result<KindRead, NoMemory>
-        ensures { IfOk result (λ read. read ≡ self.now) }
+        ensures same { IfOk result (λ read. read ≡ self.now) }
+        ensures succeeds { IsOk result }
     {
         Ok(*self)
     }
