@@ -15,7 +15,7 @@ fn of_names() {
     kms_names::refers_to_one();
 }
 
-/// The laws of the ciphers and of lines of draws.
+/// The laws of the ciphers, of lines of draws and of the kinds of keys.
 fn of_ciphers() {
     aes_block::inverse_is_pinned();
     gcm_seal::blocks_make_the_text();
@@ -23,6 +23,7 @@ fn of_ciphers() {
     draw_lines::draws_keep_to_their_words();
     draw_lines::lines_share_no_iv();
     draw_lines::one_line_repeats_no_iv();
+    hmac_keys::kind_of_fits();
 }
 
 /// The laws of blobs, of contexts and of sealing.

@@ -13,6 +13,7 @@ pub enum Part {
     Ghash,
     Gcm,
     Hmac,
+    Macs,
     Draws,
     Contexts,
     Blobs,
@@ -29,11 +30,12 @@ pub enum Part {
 
 impl Part {
     /// All parts.
-    pub const ALL: [Part; 16] = [
+    pub const ALL: [Part; 17] = [
         Part::Aes256,
         Part::Ghash,
         Part::Gcm,
         Part::Hmac,
+        Part::Macs,
         Part::Draws,
         Part::Contexts,
         Part::Blobs,
@@ -55,6 +57,7 @@ impl Part {
             Part::Ghash => "ghash.txt",
             Part::Gcm => "gcm.txt",
             Part::Hmac => "hmac.txt",
+            Part::Macs => "macs.txt",
             Part::Draws => "draws.txt",
             Part::Contexts => "contexts.txt",
             Part::Blobs => "blobs.txt",
@@ -77,6 +80,7 @@ impl Part {
             Part::Ghash => ciphers::ghash(case),
             Part::Gcm => ciphers::gcm(case),
             Part::Hmac => macs::hmac(case),
+            Part::Macs => macs::macs(case),
             Part::Draws => draws::draws(case),
             Part::Contexts => contexts::contexts(case),
             Part::Blobs => blobs::blobs(case),

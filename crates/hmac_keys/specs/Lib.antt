@@ -1,0 +1,4 @@
+pub mod Asked
+pub mod Kind
+pub mod Laws
+pub mod Mac
