@@ -35,7 +35,7 @@ taken_by crew = sum (map (λ worker. worker.taken) crew)
 abbrev pub TookAll : ℕ → List WorkerState → Type 0
 TookAll connections crew = All (λ worker. worker.taken ≡ connections) crew
 
--- a history of so many entries, which is a lawful one of so many passes, and with which that of each of these workers begins
+-- a history of so many entries, which is a lawful one of so many passes, and which begins with that of each of these workers
 pub record BeginsAll (facts : RealmFacts) (passes front : ℕ) (history : List (Entry × ℕ)) (crew : List WorkerState) : Type 0 where
   pub is_history : IsHistory facts passes history
   pub size : front ≡ length history
