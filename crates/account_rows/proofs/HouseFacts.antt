@@ -1,19 +1,18 @@
 -- After housekeeping none is due at the same moment.
-use Rattle.std.proofs.Common.{◌≡◌, ℕ, ◌+◌, ◌<◌, ◌≤◌, Bool, true, false, not, ◌&&◌, ◌||◌, List, [], ◌∷◌, ◌++◌, length, get_or, map, filter, max, Option, Some, None, refl, sym, ◌∙◌, ap, subst, arith, if◌then◌else◌, cond}
-use Rattle.std.specs.Prelude.{All, nat_le, nat_lt, is_some}
-use Rattle.std.specs.List.{list_any}
+use Rattle.std.proofs.Common.{◌≡◌, ℕ, ◌≤◌, Bool, true, false, not, ◌&&◌, ◌||◌, List, [], ◌∷◌, ◌++◌, length, get_or, filter, Option, Some, None, refl, sym, ◌∙◌, ap, arith, if◌then◌else◌}
+use Rattle.std.specs.Prelude.{All, nat_le, is_some}
 use Rattle.std.proofs.lemmas.Bool.Decides.{nat_tests}
-use Rattle.std.proofs.lemmas.List.Elements.{All-map, All-push, All-filter, filter_passes}
+use Rattle.std.proofs.lemmas.List.Elements.{All-map, All-filter, filter_passes}
 use Rattle.std.proofs.lemmas.List.Folds.{list_any_none}
 use Rattle.key_states.specs.declared.rows.KeyRow.{KeyRow}
-use Rattle.key_states.specs.States.{state_of, is_due, is_enabled}
+use Rattle.key_states.specs.States.{is_due, is_enabled}
 use Rattle.account_rows.specs.declared.entries.Entry.{Entry}
 use Rattle.account_rows.specs.declared.entries.What.{What}
 use Rattle.account_rows.specs.declared.entries.What.TheVariants as what
-use Rattle.account_rows.specs.Changes.{with_version, rotated, rotated_if_due, next_date, days_after, is_gone, house_kept, key_change, keys_after, wants_house}
+use Rattle.account_rows.specs.Changes.{rotated, rotated_if_due, next_date, is_gone, house_kept, key_change, keys_after, wants_house}
 use Rattle.account_rows.specs.History.{replay, latest_of, moment_of, has_room, housekeeping_of}
 use Rattle.account_rows.specs.Sizes.{size_of}
-use Rattle.account_rows.proofs.RowFacts.{replay-push, latest-push, found_all, KeepsBy, all_by}
+use Rattle.account_rows.proofs.RowFacts.{replay-push, latest-push, KeepsBy, all_by}
 
 -- a period of automatic rotation has at least one day
 abbrev pub HasDays : Option ℕ → Type 0

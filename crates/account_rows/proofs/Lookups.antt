@@ -2,7 +2,6 @@
 use Rattle.std.proofs.Common.{◌≡◌, ◌≢◌, ◌⊎◌, inl, inr, ℕ, zero, suc, ◌+◌, ◌<◌, ◌≤◌, Bool, true, false, cond, List, [], ◌∷◌, length, get_or, None, Some, refl, sym, ◌∙◌, ap, subst, arith}
 use Rattle.std.specs.Prelude.{nat_lt, ◌==◌}
 use Rattle.std.specs.Str.{bytes_eq}
-use Rattle.std.specs.List.{HoldsAt}
 use Rattle.std.specs.List.Sorted.{IsPartitionPoint, IsNonDecreasingBy, IsSortedByKey}
 use Rattle.std.specs.Ordering.{nat_cmp, is_lt, ordering_index}
 use Rattle.std.specs.declared.cmp.Ordering.{Ordering}

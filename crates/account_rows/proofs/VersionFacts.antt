@@ -1,12 +1,11 @@
 -- The versions of a key only grow, as long as it is there.
-use Rattle.std.proofs.Common.{◌≡◌, ℕ, ◌+◌, ◌<◌, ◌≤◌, List, [], ◌∷◌, ◌++◌, length, length-append, get_or, fold, Some, refl, sym, ◌∙◌, ap, subst, arith}
+use Rattle.std.proofs.Common.{◌≡◌, ℕ, ◌+◌, ◌<◌, ◌≤◌, List, [], ◌∷◌, ◌++◌, length, get_or, fold, Some, refl, sym, ◌∙◌, ap, subst, arith}
 use Rattle.std.specs.Prelude.{All}
 use Rattle.std.proofs.lemmas.List.Sums.{fold-append}
 use Rattle.key_states.specs.declared.rows.KeyRow.{KeyRow}
 use Rattle.account_rows.specs.declared.entries.Entry.{Entry}
 use Rattle.account_rows.specs.declared.entries.What.{What}
 use Rattle.account_rows.specs.declared.entries.What.TheVariants as what
-use Rattle.account_rows.specs.Changes.{keys_after}
 use Rattle.account_rows.specs.History.{State, step, nothing_yet, replay, key_with, place_in, IsMadeHere, AreRows}
 use Rattle.account_rows.proofs.RowFacts.{Follows, IsNew, all_after, found_all, found_key, replay-entries, rows_after, no_rows}
 use Rattle.account_rows.proofs.Lookups.{unique}

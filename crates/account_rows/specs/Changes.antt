@@ -8,7 +8,6 @@ use Rattle.key_states.specs.declared.states.State.{State}
 use Rattle.key_states.specs.declared.states.State.TheVariants as state
 use Rattle.key_states.specs.declared.states.Stored.{Stored}
 use Rattle.key_states.specs.declared.states.Stored.TheVariants.{Enabled, Disabled, Pending}
-use Rattle.key_states.specs.declared.versions.Version.{Version}
 use Rattle.key_states.specs.States.{state_of, is_due}
 use Rattle.account_rows.specs.declared.entries.What.{What}
 use Rattle.account_rows.specs.declared.entries.What.TheVariants.{CreateKey, Enable, Disable, Schedule, Cancel, RotationOn, RotationOff, RotateNow, Policy, Description, House}

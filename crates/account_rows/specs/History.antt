@@ -1,5 +1,5 @@
 -- The history of an account, and the rows that its replay makes.
-use Rattle.std.specs.Prelude.{◌≡◌, ℕ, ◌+◌, ◌≤◌, ◌<◌, List, [], ◌∷◌, ◌++◌, length, drop, max, fold, find, Bool, ◌&&◌, nat_lt, nat_le, Option, Some, None, if◌then◌else◌, All, AllPairs}
+use Rattle.std.specs.Prelude.{◌≡◌, ℕ, ◌+◌, ◌≤◌, ◌<◌, List, [], ◌∷◌, length, drop, max, fold, find, Bool, ◌&&◌, nat_lt, nat_le, Option, Some, None, if◌then◌else◌, All, AllPairs}
 use Rattle.kms_names.specs.Moment.{year_10000}
 use Rattle.std.specs.Int.{from_be_bytes, w64}
 use Rattle.std.specs.Str.{bytes_eq}

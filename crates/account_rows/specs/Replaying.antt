@@ -1,5 +1,5 @@
 -- How the code's changes of rows are seen.
-use Rattle.std.specs.Prelude.{ℕ, ◌<◌, ◌≤◌, length, Some, None, true}
+use Rattle.std.specs.Prelude.{◌<◌, length, Some, None, true}
 use Rattle.key_states.specs.declared.rows.KeyRow.{KeyRow}
 use Rattle.account_rows.specs.declared.replay.Change.{Change}
 use Rattle.account_rows.specs.declared.replay.Change.TheVariants as change

@@ -5,7 +5,7 @@ use Rattle.alias_map.specs.declared.rows.AliasRow.{AliasRow}
 use Rattle.alias_map.specs.Aliases.{AreBefore}
 use Rattle.grant_table.specs.declared.rows.GrantRow.{GrantRow}
 use Rattle.account_rows.specs.declared.entries.Entry.{Entry}
-use Rattle.account_rows.specs.History.{replay, latest_of, most_entries, most_bytes, AreRows, IsGrantOf, IsMadeHere, IsFitting}
+use Rattle.account_rows.specs.History.{replay, latest_of, most_bytes, AreRows, IsGrantOf, IsMadeHere, IsFitting}
 use Rattle.account_rows.specs.Changes.{keys_after}
 use Rattle.account_rows.specs.AliasChanges.{aliases_after}
 use Rattle.account_rows.specs.GrantChanges.{grants_after}

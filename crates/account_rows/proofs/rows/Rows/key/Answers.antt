@@ -7,8 +7,8 @@ use Rattle.std.specs.declared.cmp.Ordering.TheVariants.{Less, Equal, Greater}
 use Rattle.std.proofs.lemmas.Fn.{always_returns_same}
 use Rattle.key_states.specs.declared.rows.KeyRow.{KeyRow}
 use Rattle.account_rows.specs.declared.entries.Entry.{Entry}
-use Rattle.account_rows.specs.History.{replay, key_with, place_in}
-use Rattle.account_rows.proofs.Lookups.{by_place, equal_places, one_at, found_there, another_there, nowhere}
+use Rattle.account_rows.specs.History.{replay, key_with}
+use Rattle.account_rows.proofs.Lookups.{equal_places, one_at, found_there, another_there, nowhere}
 use Rattle.account_rows.proofs.rows.Rows.key.Goals as goal
 use Rattle.account_rows.proofs.rows.Rows.key.Goals.{in_default-via-in-Ok+else-same_key, in_default-via-in_default}
 
