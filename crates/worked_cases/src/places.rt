@@ -1,7 +1,7 @@
 // Cases that are asked of an account by a pass that has given so much already.
 ghost use Rattle.std.specs.Prelude.{◌≡◌, ◌≤◌, ◌^◌, IfOk, true};
 ghost use Rattle.kms_json.specs.Asks.{changes_account};
-ghost use Rattle.account_steps.specs.Given.{IsLineOf};
+ghost use Rattle.account_steps.specs.Places.{IsLineOf};
 ghost use Rattle.account_core.specs.Decide.{IsProper};
 ghost use Rattle.kms_names.specs.Principal.{account_of};
 
