@@ -208,7 +208,8 @@ impl Rows {
         self.keys.len()
     }
 
-    /// The key of an id, with its policy. It is found by halves, by the place that its id ends with; no memory is taken.
+    /// The key of an id, with its policy. It is found by binary search, by the place that its id ends with; no
+    /// memory is taken.
     pub fn key(&self, key: &KeyId) -> Option<&HeldKey>
         ensures { option_map (λ row. row.now) result ≡ key_with (replay self.now).keys key.now }
     {
@@ -246,8 +247,8 @@ impl Rows {
         &self.keys[start..]
     }
 
-    /// The first key, in order of making, that was made behind a place, or the first of all. It is found by halves; no
-    /// memory is taken.
+    /// The first key, in order of making, that was made behind a place, or the first of all. It is found by
+    /// binary search; no memory is taken.
     pub fn key_after(&self, after: Option<u64>) -> Option<&HeldKey>
         ensures { option_map (λ row. row.now) result ≡ key_behind (replay self.now).keys after }
     {

@@ -1,4 +1,4 @@
--- Aliases in order of their names, so that a name is found by halves.
+-- Aliases in order of their names, so that a name is found by binary search.
 use Rattle.std.specs.Prelude.{List, IsPermutation}
 use Rattle.std.specs.Cmp.Lexicographic.{slice_cmp}
 use Rattle.std.specs.List.Sorted.{IsSortedByKey}

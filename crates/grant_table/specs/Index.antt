@@ -1,4 +1,5 @@
--- The places of grants by a part of theirs, in order of that part, so that the grants of one part are found by halves.
+-- The places of grants by a part of theirs, in order of that part, so that the grants of one part are found by
+-- binary search.
 use Rattle.std.specs.Prelude.{◌≡◌, ℕ, suc, List, [], ◌∷◌, filter, slice_get}
 use Rattle.std.specs.Cmp.Lexicographic.{slice_cmp}
 use Rattle.std.specs.List.{filter_map}
