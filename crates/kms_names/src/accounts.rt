@@ -6,7 +6,7 @@ use crate::faults::NoMemory;
 use std::marker::Model;
 
 /// An account number: 12 decimal digits. Contracts see it as the list of their 12 bytes.
-#[derive(Clone, Copy, PartialEq, Eq)]
+#[derive(Clone, Copy, PartialEq, Eq, PartialOrd, Ord)]
 pub struct AccountNumber {
     digits: [u8; 12],
 }

@@ -9,7 +9,7 @@ use std::marker::Model;
 
 /// An alias name: `alias/` and one or more letters, digits, `/`, `_` and `-`, of at most 256 characters
 /// in all, that doesn't begin `alias/aws/`. Contracts see it as the list of its bytes.
-#[derive(PartialEq, Eq, Drop)]
+#[derive(PartialEq, Eq, PartialOrd, Ord, Drop)]
 pub struct AliasName {
     text: Text,
 }

@@ -10,7 +10,7 @@ use crate::texts::Text;
 use std::alloc::Global;
 
 /// Who calls, or is named by a policy or a grant. The text is the path and name.
-#[derive(PartialEq, Eq, Drop)]
+#[derive(PartialEq, Eq, PartialOrd, Ord, Drop)]
 pub enum Principal {
     Root(AccountNumber),
     User(AccountNumber, Text),
