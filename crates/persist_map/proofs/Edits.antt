@@ -7,7 +7,7 @@ use Rattle.std.specs.Option.{option_map}
 use Rattle.std.specs.declared.cmp.Ordering.{Ordering}
 use Rattle.std.specs.declared.cmp.Ordering.TheVariants.{Less, Equal, Greater}
 use Rattle.std.specs.Ordering.{is_lt, is_eq, is_gt}
-use Rattle.persist_map.specs.Pairs.{is_below, is_above, has_key, value_at, with_pair, without_key, pairs_from}
+use Rattle.persist_map.specs.Pairs.{is_below, is_above, has_key, value_at, with_pair, without_key, pairs_from, pairs_above}
 use Rattle.persist_map.specs.Parts.{begins_with, first_value}
 use Rattle.persist_map.proofs.Orders.{equal, greater_otherwise, greater_later, rises_with, Precedes, Rises, every_front, every_back, every_both, every_weaker, rises_back}
 
@@ -18,11 +18,11 @@ rest_behind true (pair ∷ pairs) = pairs
 rest_behind false (pair ∷ pairs) = pair ∷ pairs
 
 module _ {X : Type 0} (passes : X → Bool) where
-  filter_all : (xs : List X) → AllByRecursion (λ x. passes x ≡ true) xs → filter passes xs ≡ xs
+  pub filter_all : (xs : List X) → AllByRecursion (λ x. passes x ≡ true) xs → filter passes xs ≡ xs
   filter_all [] h = refl
   filter_all (x ∷ xs) h = ap (λ b. cond b (x ∷ filter passes xs) (filter passes xs)) h.0 ∙ ap (λ l. x ∷ l) (filter_all xs h.1)
 
-  filter_none : (xs : List X) → AllByRecursion (λ x. passes x ≡ false) xs → filter passes xs ≡ []
+  pub filter_none : (xs : List X) → AllByRecursion (λ x. passes x ≡ false) xs → filter passes xs ≡ []
   filter_none [] h = refl
   filter_none (x ∷ xs) h = ap (λ b. cond b (x ∷ filter passes xs) (filter passes xs)) h.0 ∙ filter_none xs h.1
 
@@ -39,7 +39,7 @@ module _ {X : Type 0} (passes : X → Bool) where
   find_back [] back h = refl
   find_back (x ∷ xs) back h = ap (λ b. cond b (Some x) (find passes (xs ++ back))) h.0 ∙ find_back xs back h.1
 
-  find_none : (xs : List X) → AllByRecursion (λ x. passes x ≡ false) xs → find passes xs ≡ None
+  pub find_none : (xs : List X) → AllByRecursion (λ x. passes x ≡ false) xs → find passes xs ≡ None
   find_none [] h = refl
   find_none (x ∷ xs) h = ap (λ b. cond b (Some x) (find passes xs)) h.0 ∙ find_none xs h.1
 
@@ -53,7 +53,7 @@ module _ {K V : Type 0} (cmp : K → K → Ordering) (key : K) where
     pub rises : Rises cmp pairs
 
   -- what a test of the answer says where the answer is known
-  tested : (test : Ordering → Bool) (b : Bool) (o : Ordering) → test o ≡ b → (pairs : List (K × V)) → AllByRecursion (λ pair. cmp pair.0 key ≡ o) pairs → AllByRecursion (λ pair. test (cmp pair.0 key) ≡ b) pairs
+  pub tested : (test : Ordering → Bool) (b : Bool) (o : Ordering) → test o ≡ b → (pairs : List (K × V)) → AllByRecursion (λ pair. cmp pair.0 key ≡ o) pairs → AllByRecursion (λ pair. test (cmp pair.0 key) ≡ b) pairs
   tested test b o e = every_weaker cmp (λ pair. cmp pair.0 key ≡ o) (λ pair. test (cmp pair.0 key) ≡ b) (λ pair f. ap test f ∙ e)
 
   every_rest : (P : K × V → Type 0) (b : Bool) (here later : List (K × V)) → AllByRecursion P (here ++ later) → AllByRecursion P (rest_behind b here ++ later)
@@ -115,6 +115,15 @@ module _ {K V : Type 0} {cmp : K → K → Ordering} (order : IsTotalOrder cmp) 
         ∙ filter_back (λ pair. not (is_below cmp key pair)) front (here ++ later) (tested cmp key (λ o. not (is_lt o)) false Less refl front split.before)
         (every_weaker cmp (λ pair. is_below cmp key pair ≡ false) (λ pair. not (is_below cmp key pair) ≡ true) (λ pair e. ap not e) (here ++ later) back_not_below)
 
+    above_split : filter (is_above cmp key) (front ++ (here ++ later)) ≡ rest_behind (begins_with cmp key here) here ++ later
+    above_split =
+        filter-append (is_above cmp key) front (here ++ later)
+        ∙ ap (λ l. l ++ filter (is_above cmp key) (here ++ later)) (filter_none (is_above cmp key) front (tested cmp key is_gt false Less refl front split.before))
+        ∙ filter_here is_gt refl refl here later split.at back_above
+
+    pub pairs_above_split : pairs_above cmp pairs key ≡ rest_behind (begins_with cmp key here) here ++ later
+    pairs_above_split = ap (λ l. pairs_above cmp l key) split.is ∙ above_split
+
     pub without_key_split : without_key cmp pairs key ≡ front ++ (rest_behind (begins_with cmp key here) here ++ later)
     without_key_split =
         ap (λ l. without_key cmp l key) split.is
@@ -126,7 +135,7 @@ module _ {K V : Type 0} {cmp : K → K → Ordering} (order : IsTotalOrder cmp) 
     with_pair_split value =
         ap (λ l. with_pair cmp l key value) split.is
         ∙ ap (λ l. l ++ ((key, value) ∷ filter (is_above cmp key) (front ++ (here ++ later)))) (filter_front (is_below cmp key) front (here ++ later) (tested cmp key is_lt true Less refl front split.before) back_not_below)
-        ∙ ap (λ l. front ++ ((key, value) ∷ l)) (filter-append (is_above cmp key) front (here ++ later) ∙ ap (λ l. l ++ filter (is_above cmp key) (here ++ later)) (filter_none (is_above cmp key) front (tested cmp key is_gt false Less refl front split.before)) ∙ filter_here is_gt refl refl here later split.at back_above)
+        ∙ ap (λ l. front ++ ((key, value) ∷ l)) above_split
 
     pub value_at_split : value_at cmp pairs key ≡ first_value cmp key here
     value_at_split =

@@ -1,6 +1,9 @@
 pub mod Edits
+pub mod Filters
+pub mod GroupFacts
 pub mod Halves
 pub mod Halving
+pub mod Indexes
 pub mod Laws
 pub mod Orders
 pub mod Placed

@@ -9,12 +9,12 @@ use Rattle.std.specs.Cmp.{IsTotalOrder}
 use Rattle.std.specs.List.{AllByRecursion, AllWithin}
 use Rattle.std.specs.declared.cmp.Ordering.{Ordering}
 use Rattle.std.specs.declared.cmp.Ordering.TheVariants.{Less, Greater}
-use Rattle.persist_map.specs.Pairs.{Ascends, is_below, with_pair, without_key, pairs_from, value_at}
+use Rattle.persist_map.specs.Pairs.{Ascends, is_below, with_pair, without_key, pairs_from, pairs_above, value_at}
 use Rattle.persist_map.specs.Parts.{IsTree, IsPlace, HaveSizes, begins_with, first_value, joined}
 use Rattle.persist_map.specs.declared.parts.TheConstants.{PART_MAX}
 use Rattle.persist_map.specs.declared.places.Place.{Place}
-use Rattle.persist_map.proofs.Orders.{less, Rises, every_both, every_weaker, rises_with, Rises-from_ascends, Ascends-from_rises}
-use Rattle.persist_map.proofs.Edits.{IsSplit, rest_behind, pairs_from_split, without_key_split, with_pair_split, value_at_split, without_rises, with_rises, back_rises}
+use Rattle.persist_map.proofs.Orders.{less, Rises, every_both, every_weaker, rises_with, rises_back, Rises-from_ascends, Ascends-from_rises}
+use Rattle.persist_map.proofs.Edits.{IsSplit, rest_behind, pairs_from_split, pairs_above_split, without_key_split, with_pair_split, value_at_split, without_rises, with_rises, back_rises}
 use Rattle.persist_map.proofs.Tree.{around}
 
 every_take : {A : Type 0} (P : A → Type 0) (n : ℕ) (items : List A) → n ≤ length items → AllWithin P items 0 n → AllByRecursion P (take n items)
@@ -120,6 +120,16 @@ module _ {K V : Type 0} {cmp : K → K → Ordering} (order : IsTotalOrder cmp) 
   pub pairs_found : pairs_from cmp (joined parts) key ≡ drop place.pair (get_or parts place.part []) ++ joined (drop (place.part + 1) parts)
   unfolding front_of here_of later_of
   pairs_found = pairs_from_split order key (joined parts) front_of here_of later_of split_of
+
+  pub above_found : pairs_above cmp (joined parts) key ≡ rest_behind (begins_with cmp key (drop place.pair (get_or parts place.part []))) (drop place.pair (get_or parts place.part [])) ++ joined (drop (place.part + 1) parts)
+  unfolding front_of here_of later_of
+  above_found = pairs_above_split order key (joined parts) front_of here_of later_of split_of
+
+  pub ascends_above : Ascends cmp (rest_behind (begins_with cmp key (drop place.pair (get_or parts place.part []))) (drop place.pair (get_or parts place.part [])) ++ joined (drop (place.part + 1) parts))
+  unfolding front_of here_of later_of
+  ascends_above =
+      let here = drop place.pair (get_or parts place.part []) in
+      Ascends-from_rises cmp _ (rises_back cmp front_of (rest_behind (begins_with cmp key here) here ++ later_of) (without_rises order key (joined parts) front_of here_of later_of split_of (begins_with cmp key here)))
 
   pub ascends_found : Ascends cmp (drop place.pair (get_or parts place.part []) ++ joined (drop (place.part + 1) parts))
   unfolding front_of here_of later_of

@@ -1,3 +1,4 @@
 pub mod Digits
+pub mod Groups
 pub mod Pairs
 pub mod Parts

@@ -34,3 +34,7 @@ module _ {K V : Type 0} (cmp : K → K → Ordering) where
   -- the pairs of the keys that aren't below the key
   abbrev pub pairs_from : List (K × V) → K → List (K × V)
   pairs_from pairs key = filter (λ pair. not (is_below key pair)) pairs
+
+  -- the pairs of the keys that are above the key
+  abbrev pub pairs_above : List (K × V) → K → List (K × V)
+  pairs_above pairs key = filter (is_above key) pairs

@@ -1,5 +1,6 @@
 //! The pairs of a map, one after another.
 
+ghost use Rattle.std.specs.Prelude.{◌≡◌, []};
 ghost use Rattle.std.specs.Iterator.{YieldsFirstBy, item_count};
 
 use crate::parts::Part;
@@ -22,6 +23,18 @@ impl<'a, K, V> Model for PFrom<'a, K, V> {
     ghost Value = { List (K × V) };
 
     ghost view = { λ rest. map arc_value rest.pairs.now ++ joined (map arc_value rest.parts.now) };
+}
+
+impl<'a, K, V> PFrom<'a, K, V> {
+    // No pairs.
+    pub(crate) fn none() -> PFrom<'a, K, V>
+        ensures { result ≡ [] }
+    {
+        PFrom {
+            pairs: &[],
+            parts: &[],
+        }
+    }
 }
 
 impl<'a, K, V> Iterator for PFrom<'a, K, V> {

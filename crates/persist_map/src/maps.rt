@@ -4,8 +4,10 @@ ghost use Rattle.std.specs.Prelude.{◌≡◌, ◌+◌, ◌*◌, ◌<◌, ◌≤
 ghost use Rattle.std.specs.declared.cmp.Ordering.TheVariants.{Less};
 ghost use Rattle.std.specs.Option.{option_map};
 ghost use Rattle.std.specs.Arc.{arc_value};
+ghost use Rattle.std.specs.Ordering.{nat_cmp};
 ghost use Rattle.persist_map.specs.Digits.{binary_digits};
-ghost use Rattle.persist_map.specs.Pairs.{Ascends, value_at, with_pair, without_key, pairs_from};
+ghost use Rattle.persist_map.specs.Pairs.{Ascends, value_at, with_pair, without_key, pairs_from, pairs_above};
+ghost use Rattle.persist_map.specs.Groups.{pairs_behind};
 ghost use Rattle.persist_map.specs.Parts.{joined, HaveSizes};
 
 use crate::iterators::PFrom;
@@ -116,12 +118,12 @@ fn part_of_one<K: Drop, V: Drop>(
     part_of(alloc, pairs)
 }
 
-/// The place behind one whose pair is replaced, or the place itself.
-fn place_behind(place: usize, replaces: bool) -> usize
+/// The place behind one whose pair is left out, or the place itself.
+fn place_behind(place: usize, left_out: bool) -> usize
     requires { place ≤ PART_MAX }
-    ensures { result ≡ (if replaces then place + 1 else place) }
+    ensures { result ≡ (if left_out then place + 1 else place) }
 {
-    if replaces { place + 1 } else { place }
+    if left_out { place + 1 } else { place }
 }
 
 /// The parts with others in place of one.
@@ -153,6 +155,11 @@ impl<K: Ord + Drop, V: Drop> PMap<K, V> {
             parts: Vec::new(alloc),
             len: 0,
         }
+    }
+
+    // The allocator of the map and of those that are made of it.
+    pub(crate) fn allocator(&self) -> Global {
+        *self.parts.allocator()
     }
 
     /// How many pairs there are. They are in ascending order of their keys. No memory is taken.
@@ -289,6 +296,23 @@ impl<K: Ord + Drop, V: Drop> PMap<K, V> {
         }
     }
 
+    /// The pairs whose keys are above a key, in ascending order of their keys. No memory is taken.
+    pub fn above(&self, key: &K) -> PFrom<'_, K, V>
+        ensures pairs { result ≡ pairs_above K.cmp self.now key.now }
+        ensures ascends { Ascends K.cmp result }
+    {
+        let parts = self.parts.as_slice();
+        let Some(place) = place_in(parts, key) else {
+            return PFrom::none();
+        };
+        let part: &Part<K, V> = &parts[place.part];
+        let next = place_behind(place.pair, part.has_key_at(place.pair, key));
+        PFrom {
+            pairs: part.pairs_from(next),
+            parts: &parts[place.part + 1..],
+        }
+    }
+
     /// All pairs, in ascending order of their keys. No memory is taken.
     pub fn iter(&self) -> PFrom<'_, K, V>
         ensures pairs { result ≡ self.now }
@@ -298,5 +322,18 @@ impl<K: Ord + Drop, V: Drop> PMap<K, V> {
             pairs: &[],
             parts: self.parts.as_slice(),
         }
+    }
+}
+
+impl<V: Drop> PMap<u64, V> {
+    /// The pairs that were placed behind a place, or all, where the keys are places. No memory is taken.
+    pub fn behind(&self, after: Option<u64>) -> PFrom<'_, u64, V>
+        ensures pairs { result ≡ pairs_behind self.now after }
+        ensures ascends { Ascends nat_cmp result }
+    {
+        let Some(place) = after else {
+            return self.iter();
+        };
+        self.above(&place)
     }
 }
