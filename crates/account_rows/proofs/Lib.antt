@@ -4,3 +4,6 @@ pub mod GrantFacts
 pub mod Lookups
 pub mod VersionFacts
 pub mod HouseFacts
+pub mod Places
+pub mod KeyFacts
+pub mod KeptFacts

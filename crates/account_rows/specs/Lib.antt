@@ -3,4 +3,5 @@ pub mod Changes
 pub mod AliasChanges
 pub mod GrantChanges
 pub mod History
+pub mod Keys
 pub mod Replaying

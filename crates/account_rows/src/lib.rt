@@ -7,6 +7,7 @@ mod aliases;
 mod entries;
 mod grants;
 mod held;
+mod keys;
 mod replay;
 mod rows;
 mod threads;
