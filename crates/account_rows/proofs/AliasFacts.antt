@@ -11,6 +11,7 @@ use Rattle.alias_map.specs.Aliases.{has_name, names_any, row_named, with_row, wi
 use Rattle.account_rows.specs.declared.entries.Entry.{Entry}
 use Rattle.account_rows.specs.declared.entries.What.{What}
 use Rattle.account_rows.specs.Changes.{gone_keys}
+use Rattle.account_rows.specs.Keys.{is_id}
 use Rattle.account_rows.specs.AliasChanges.{AliasChange, puts, drops, houses, alias_change, aliases_by, put_row, aliases_after}
 use Rattle.account_rows.specs.History.{step, nothing_yet, replay}
 use Rattle.account_rows.proofs.RowFacts.{replay-entries}
@@ -39,6 +40,13 @@ none_of aliases (key ∷ keys) none = absurd (omega (arith, no_length (length (k
   where
     no_length : (n : ℕ) → (n == 0) ≡ true → n ≡ 0
     no_length n none = grind (arith, nat_tests, none)
+
+-- keys that have the same ids leave the same aliases
+pub without_same : (aliases : List AliasRow) (keys others : List (List ℕ)) → ((id : List ℕ) → is_id keys id ≡ is_id others id) → without_keys aliases keys ≡ without_keys aliases others
+without_same [] keys others same = refl
+without_same (row ∷ rows) keys others same =
+    ap (λ b. cond (not b) (row ∷ without_keys rows keys) (without_keys rows keys)) (same row.key)
+    ∙ ap (λ l. cond (not (is_id others row.key)) (row ∷ l) l) (without_same rows keys others same)
 
 -- ---- each was made before the entries to come
 

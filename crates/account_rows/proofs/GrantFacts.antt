@@ -12,6 +12,7 @@ use Rattle.account_rows.specs.declared.entries.Entry.{Entry}
 use Rattle.account_rows.specs.declared.entries.What.{What}
 use Rattle.account_rows.specs.declared.entries.What.TheVariants as what
 use Rattle.account_rows.specs.Changes.{gone_keys}
+use Rattle.account_rows.specs.Keys.{is_id}
 use Rattle.account_rows.specs.GrantChanges.{GrantChange, adds, drops, houses, grant_change, grants_by, grants_after}
 use Rattle.account_rows.specs.History.{step, nothing_yet, replay, place_in_grant, IsMadeHere, IsGrantOf}
 use Rattle.account_rows.proofs.RowFacts.{replay-entries}
@@ -32,6 +33,13 @@ none_of grants (key ∷ keys) none = absurd (omega (arith, no_length (length (ke
   where
     no_length : (n : ℕ) → (n == 0) ≡ true → n ≡ 0
     no_length n none = grind (arith, nat_tests, none)
+
+-- keys that have the same ids leave the same grants
+pub without_same : (grants : List GrantRow) (keys others : List (List ℕ)) → ((id : List ℕ) → is_id keys id ≡ is_id others id) → without_keys grants keys ≡ without_keys grants others
+without_same [] keys others same = refl
+without_same (row ∷ rows) keys others same =
+    ap (λ b. cond (not b) (row ∷ without_keys rows keys) (without_keys rows keys)) (same row.key)
+    ∙ ap (λ l. cond (not (is_id others row.key)) (row ∷ l) l) (without_same rows keys others same)
 
 -- ---- each was made before the entries to come, at the place that its id ends with
 

@@ -1,6 +1,6 @@
 -- Housekeeping, place by place.
-use Rattle.std.proofs.Common.{◌≡◌, ◌≢◌, ℕ, ◌+◌, ◌<◌, ◌≤◌, Bool, true, false, not, ◌||◌, cond, List, [], ◌∷◌, ◌++◌, append-assoc, length, map, filter, find, Option, Some, None, refl, sym, ap, ◌∙◌, subst, arith, if◌then◌else◌}
-use Rattle.std.specs.Prelude.{◌==◌, nat_le, All}
+use Rattle.std.proofs.Common.{◌≡◌, ◌≢◌, ℕ, ◌+◌, ◌<◌, ◌≤◌, Bool, true, false, not, ◌||◌, cond, List, [], ◌∷◌, ◌++◌, length, map, filter, find, Option, Some, None, refl, sym, ap, ◌∙◌, subst, arith, if◌then◌else◌}
+use Rattle.std.specs.Prelude.{◌==◌, nat_le, is_some, ◌&&◌, All}
 use Rattle.std.specs.List.{AllByRecursion, flat_map, list_any}
 use Rattle.std.specs.Str.{bytes_eq}
 use Rattle.std.specs.Ordering.{nat_cmp, is_lt, is_gt, is_eq}
@@ -11,8 +11,9 @@ use Rattle.std.proofs.lemmas.List.Elements.{recursion_from_All}
 use Rattle.key_states.specs.declared.rows.KeyRow.{KeyRow}
 use Rattle.key_states.specs.declared.states.Stored.{Stored}
 use Rattle.key_states.specs.declared.states.Stored.TheVariants.{Enabled, Disabled, Pending}
-use Rattle.key_states.specs.States.{is_due}
-use Rattle.account_rows.specs.Changes.{is_gone, rotated, rotated_if_due, house_kept, gone_keys, wants_house}
+use Rattle.key_states.specs.declared.states.State.TheVariants.{Gone, PendingDeletion}
+use Rattle.key_states.specs.States.{is_due, is_enabled, state_of}
+use Rattle.account_rows.specs.Changes.{is_state_gone, is_gone, rotated, rotated_if_due, house_kept, gone_keys, wants_house}
 use Rattle.account_rows.specs.Keys.{row_at, placed, unplaced, date_by, date_of, has_come, is_place, AreCovered, kept, kept_at, kept_more, gone_at, gone_among, is_id}
 use Rattle.account_rows.proofs.KeyFacts.{Rises, found_every, placed_between}
 use Rattle.account_rows.proofs.Places.{equal_places, below_is_less, above_is_greater, itself}
@@ -20,19 +21,19 @@ use Rattle.account_rows.proofs.RowFacts.{due_follows}
 
 -- ---- what housekeeping has to do for a row
 
-date_comes : (time : ℕ) (stored : Stored) (period : Option ℕ) (next : ℕ) (row : KeyRow) → row.stored ≡ stored → row.period ≡ period → row.next ≡ next → (is_gone time row || is_due row time) ≡ has_come time (date_by stored period next)
-date_comes time Enabled None next row s p n = rw (s, p, n) refl
-date_comes time Enabled (Some days) next row s p n = rw (s, p, n) refl
-date_comes time Disabled period next row s p n = rw (s, p, n) refl
-date_comes time (Pending date days) period next row s p n = rw (s, p, n) by_date (nat_le date time)
+date_comes : (time : ℕ) (stored : Stored) (period : Option ℕ) (next : ℕ) → (is_state_gone (state_of stored time) || (is_enabled stored && (is_some period && nat_le next time))) ≡ has_come time (date_by stored period next)
+date_comes time Enabled None next = refl
+date_comes time Enabled (Some days) next = refl
+date_comes time Disabled period next = refl
+date_comes time (Pending date days) period next = by_date (nat_le date time)
   where
-    by_date : (b : Bool) → _
+    by_date : (b : Bool) → (is_state_gone (if b then Gone else PendingDeletion) || false) ≡ b
     by_date true = refl
     by_date false = refl
 
 -- its date has come
 pub comes : (time : ℕ) (row : KeyRow) → (is_gone time row || is_due row time) ≡ has_come time (date_of row)
-comes time row = date_comes time row.stored row.period row.next row refl refl refl
+comes time row = date_comes time row.stored row.period row.next
 
 -- ---- lists of rows
 
@@ -59,12 +60,12 @@ each_at (row ∷ rows) up = (
 -- what is found at a place was made there
 pub made_there : (rows : List KeyRow) (place : ℕ) (row : KeyRow) → row_at rows place ≡ Some row → row.born ≡ place
 made_there [] place row found = cc
-made_there (first ∷ rows) place row found = by_place (nat_cmp first.born place) refl found
+made_there (first ∷ rows) place row found = by_place (made_there rows place row) (nat_cmp first.born place) refl found
   where
-    by_place : (o : Ordering) → nat_cmp first.born place ≡ o → cond (is_eq o) (Some first) (row_at rows place) ≡ Some row → row.born ≡ place
-    by_place Less e f = made_there rows place row f
-    by_place Equal e f = let is : first ≡ row = cc in ap (λ (r : KeyRow). r.born) (sym is) ∙ equal_places first.born place e
-    by_place Greater e f = made_there rows place row f
+    by_place : (row_at rows place ≡ Some row → row.born ≡ place) → (o : Ordering) → nat_cmp first.born place ≡ o → cond (is_eq o) (Some first) (row_at rows place) ≡ Some row → row.born ≡ place
+    by_place later Less e f = later f
+    by_place later Equal e f = let is : first ≡ row = cc in ap (λ (r : KeyRow). r.born) (sym is) ∙ equal_places first.born place e
+    by_place later Greater e f = later f
 
 -- rows in front of those that are changed
 unplaced_front : (front back : List KeyRow) (place : ℕ) → AllByRecursion (λ (row : KeyRow). row.born < place) front → unplaced (front ++ back) place ≡ front ++ unplaced back place
@@ -181,7 +182,7 @@ module _ (time : ℕ) (places : List ℕ) (place : ℕ) where
   -- one place more
   pub kept_one_more : (rows : List KeyRow) → Rises rows → kept_more time place (row_at rows place) (kept_at time places rows) ≡ kept_at time (places ++ place ∷ []) rows
   kept_one_more [] up = refl
-  kept_one_more (row ∷ rows) up = by_place (nat_cmp row.born place) refl
+  kept_one_more (row ∷ rows) up = by_place (kept_one_more rows up.1) (nat_cmp row.born place) refl
     where
       front : List KeyRow
       front = if is_place places row.born then kept time row else row ∷ []
@@ -193,21 +194,21 @@ module _ (time : ℕ) (places : List ℕ) (place : ℕ) where
           ∙ ap (λ l. (if is_place (places ++ place ∷ []) row.born then kept time row else row ∷ []) ++ l)
           (sym (same_elsewhere rows (every_weaker (λ (r : KeyRow). row.born < r.born) (λ (r : KeyRow). place < r.born) (λ r lt. omega (arith, lt, same)) rows up.0)))
 
-      elsewhere : row.born ≢ place → kept_more time place (row_at rows place) (front ++ kept_at time places rows) ≡ (if is_place (places ++ place ∷ []) row.born then kept time row else row ∷ []) ++ kept_at time (places ++ place ∷ []) rows
-      elsewhere apart =
+      elsewhere : kept_more time place (row_at rows place) (kept_at time places rows) ≡ kept_at time (places ++ place ∷ []) rows → row.born ≢ place → kept_more time place (row_at rows place) (front ++ kept_at time places rows) ≡ (if is_place (places ++ place ∷ []) row.born then kept time row else row ∷ []) ++ kept_at time (places ++ place ∷ []) rows
+      elsewhere later apart =
           before front (kept_at time places rows) (kept_at time (places ++ place ∷ []) rows) row.born (part_has time (λ b. b ≡ row.born) row (is_place places row.born) refl) (row_at rows place)
           (λ r found. (made_there rows place r found, found_every (λ (later : KeyRow). row.born < later.born) (λ (later : KeyRow). is_eq (nat_cmp later.born place)) rows r found up.0))
-          (kept_one_more rows up.1)
+          later
           ∙ ap (λ b. (if b then kept time row else row ∷ []) ++ kept_at time (places ++ place ∷ []) rows) (sym (place_elsewhere places place row.born apart))
 
-      by_place : (o : Ordering) → nat_cmp row.born place ≡ o
+      by_place : kept_more time place (row_at rows place) (kept_at time places rows) ≡ kept_at time (places ++ place ∷ []) rows → (o : Ordering) → nat_cmp row.born place ≡ o
           → kept_more time place (cond (is_eq o) (Some row) (row_at rows place)) (front ++ kept_at time places rows) ≡ (if is_place (places ++ place ∷ []) row.born then kept time row else row ∷ []) ++ kept_at time (places ++ place ∷ []) rows
-      by_place Less e = elsewhere (λ same. less_equal (sym e ∙ itself row.born place same))
+      by_place later Less e = elsewhere later (λ same. less_equal (sym e ∙ itself row.born place same))
         where
           less_equal : Less ≡ Equal → ⊥
           less_equal e = cc
-      by_place Equal e = at (equal_places row.born place e)
-      by_place Greater e = elsewhere (λ same. greater_equal (sym e ∙ itself row.born place same))
+      by_place later Equal e = at (equal_places row.born place e)
+      by_place later Greater e = elsewhere later (λ same. greater_equal (sym e ∙ itself row.born place same))
         where
           greater_equal : Greater ≡ Equal → ⊥
           greater_equal e = cc
@@ -252,6 +253,20 @@ module _ (time : ℕ) (places : List ℕ) where
       ∙ kept_part row covers.0 (filter (λ r. not (is_gone time r)) rows) (is_place places row.born) refl
 
 -- ---- the ids of those that are gone
+
+pub gone_more : (time : ℕ) (rows : List KeyRow) (places : List ℕ) (place : ℕ) → gone_among time rows (places ++ place ∷ []) ≡ gone_among time rows places ++ gone_at time (row_at rows place)
+gone_more time rows [] place = no_more (gone_at time (row_at rows place))
+  where
+    no_more : (ids : List (List ℕ)) → ids ++ [] ≡ ids
+    no_more [] = refl
+    no_more (id ∷ ids) = ap (λ l. id ∷ l) (no_more ids)
+gone_more time rows (first ∷ places) place =
+    ap (λ l. gone_at time (row_at rows first) ++ l) (gone_more time rows places place)
+    ∙ joined (gone_at time (row_at rows first)) (gone_among time rows places) (gone_at time (row_at rows place))
+  where
+    joined : (a b c : List (List ℕ)) → a ++ (b ++ c) ≡ (a ++ b) ++ c
+    joined [] b c = refl
+    joined (x ∷ a) b c = ap (λ l. x ∷ l) (joined a b c)
 
 same_answer : (a b : Bool) → (a ≡ true → b ≡ true) → (b ≡ true → a ≡ true) → a ≡ b
 same_answer true b f g = sym (f refl)
@@ -304,11 +319,11 @@ module _ (time : ℕ) (id : List ℕ) where
   -- what follows from each of them follows from the id's being among theirs
   gone_means : (X : Type 0) (rows : List KeyRow) → AllByRecursion (λ row. IsGoneWith row → X) rows → is_id (gone_keys time rows) id ≡ true → X
   gone_means X [] all e = absurd (cc)
-  gone_means X (row ∷ rows) all e = by_gone (is_gone time row) refl e
+  gone_means X (row ∷ rows) all e = by_gone (gone_means X rows all.1) (is_gone time row) refl e
     where
-      by_gone : (b : Bool) → is_gone time row ≡ b → is_id (map (λ (r : KeyRow). r.key) (cond b (row ∷ filter (is_gone time) rows) (filter (is_gone time) rows))) id ≡ true → X
-      by_gone true gone f = one_of (bytes_eq id row.key) (is_id (gone_keys time rows) id) f X (λ same. all.0 (gone, same)) (λ later. gone_means X rows all.1 later)
-      by_gone false gone f = gone_means X rows all.1 f
+      by_gone : (is_id (gone_keys time rows) id ≡ true → X) → (b : Bool) → is_gone time row ≡ b → is_id (map (λ (r : KeyRow). r.key) (cond b (row ∷ filter (is_gone time) rows) (filter (is_gone time) rows))) id ≡ true → X
+      by_gone rest true gone f = one_of (bytes_eq id row.key) (is_id (gone_keys time rows) id) f X (λ same. all.0 (gone, same)) rest
+      by_gone rest false gone f = rest f
 
   module _ (rows : List KeyRow) where
     found_gone : (found : Option KeyRow) → is_id (gone_at time found) id ≡ true → (row : KeyRow) × (found ≡ Some row) × IsGoneWith row
@@ -316,7 +331,7 @@ module _ (time : ℕ) (id : List ℕ) where
     found_gone (Some row) e = by_gone (is_gone time row) refl e
       where
         by_gone : (b : Bool) → is_gone time row ≡ b → is_id (if b then row.key ∷ [] else []) id ≡ true → (r : KeyRow) × (Some row ≡ Some r) × IsGoneWith r
-        by_gone true gone f = (row, refl, gone, one_of (bytes_eq id row.key) false f (bytes_eq id row.key ≡ true) (λ same. same) (λ none. absurd (cc)))
+        by_gone true gone f = (row, refl, (gone, one_of (bytes_eq id row.key) false f (bytes_eq id row.key ≡ true) (λ same. same) (λ none. absurd (cc))))
         by_gone false gone f = absurd (cc)
 
     among_are_gone : (places : List ℕ) → is_id (gone_among time rows places) id ≡ true → is_id (gone_keys time rows) id ≡ true

@@ -1,18 +1,22 @@
 -- Rows of keys by the places at which they were made.
-use Rattle.std.proofs.Common.{◌≡◌, ◌≢◌, ℕ, suc, ◌+◌, ◌<◌, Bool, true, false, not, cond, List, [], ◌∷◌, ◌++◌, length, get_or, map, map-append, filter, find, Option, Some, None, refl, sym, ap, ◌∙◌, subst, arith}
-use Rattle.std.specs.Prelude.{All, AllPairs}
+use Rattle.std.proofs.Common.{◌≡◌, ◌≢◌, ℕ, suc, ◌+◌, ◌<◌, Bool, true, false, not, cond, List, [], ◌∷◌, ◌++◌, length, get_or, map, filter, find, Option, Some, None, refl, sym, ap, ◌∙◌, subst, arith}
+use Rattle.std.specs.Prelude.{All, AllPairs, slice_get}
 use Rattle.std.specs.List.{AllByRecursion}
 use Rattle.std.specs.Option.{option_map}
 use Rattle.std.specs.Str.{bytes_eq}
 use Rattle.std.specs.Ordering.{nat_cmp, is_lt, is_gt, is_eq}
 use Rattle.std.specs.declared.cmp.Ordering.{Ordering}
 use Rattle.std.specs.declared.cmp.Ordering.TheVariants.{Less, Equal, Greater}
+use Rattle.std.proofs.lemmas.List.{map-append}
 use Rattle.std.proofs.lemmas.Slice.Eq.{bytes_eq-Decides}
-use Rattle.std.proofs.lemmas.List.Elements.{recursion_from_All}
+use Rattle.std.proofs.lemmas.List.Elements.{recursion_from_All, All-from_recursion}
+use Rattle.kms_names.specs.Place.{is_behind}
+use Rattle.kms_names.proofs.Behind.{first_in_filter}
+use Rattle.persist_map.specs.Groups.{pairs_behind}
 use Rattle.persist_map.specs.Pairs.{is_below, is_above, has_key, value_at, with_pair, without_key}
 use Rattle.key_states.specs.declared.rows.KeyRow.{KeyRow}
 use Rattle.account_rows.specs.Changes.{changed}
-use Rattle.account_rows.specs.History.{key_with, place_in, AreRows}
+use Rattle.account_rows.specs.History.{key_with, key_behind, place_in, AreRows}
 use Rattle.account_rows.specs.Keys.{rows_in, row_at, placed, unplaced, AreInOrder}
 use Rattle.account_rows.proofs.Places.{equal_places, lower_place, below_is_less, above_is_greater, itself}
 
@@ -63,6 +67,33 @@ module _ (pairs : List (ℕ × KeyRow)) (keyed : AreKeyed pairs) where
 
   pub unplaced_pair : (place : ℕ) → rows_in (without_key nat_cmp pairs place) ≡ unplaced (rows_in pairs) place
   unplaced_pair place = rows_filter (λ at. not (is_eq (nat_cmp at place))) pairs each
+
+  -- the first row behind a place
+  pub behind_first : (after : Option ℕ) (behind : List (ℕ × KeyRow)) → pairs_behind pairs after ≡ behind → key_behind (rows_in pairs) after ≡ option_map (λ (pair : ℕ × KeyRow). pair.1) (slice_get behind 0)
+  behind_first after behind is =
+      sym (rows_find (is_behind after) pairs each)
+      ∙ ap (option_map (λ (pair : ℕ × KeyRow). pair.1)) (sym (first_in_filter (λ (pair : ℕ × KeyRow). is_behind after pair.0) pairs) ∙ ap (λ l. slice_get l 0) is)
+
+  -- pairs stay keyed
+  every_filter : (test : ℕ × KeyRow → Bool) (l : List (ℕ × KeyRow)) → AllByRecursion (λ (pair : ℕ × KeyRow). pair.0 ≡ pair.1.born) l → AllByRecursion (λ (pair : ℕ × KeyRow). pair.0 ≡ pair.1.born) (filter test l)
+  every_filter test [] keys = tt
+  every_filter test (pair ∷ l) keys = by_test (test pair) (every_filter test l keys.1)
+    where
+      by_test : (b : Bool) → AllByRecursion (λ (p : ℕ × KeyRow). p.0 ≡ p.1.born) (filter test l) → AllByRecursion (λ (p : ℕ × KeyRow). p.0 ≡ p.1.born) (cond b (pair ∷ filter test l) (filter test l))
+      by_test true later = (keys.0, later)
+      by_test false later = later
+
+  every_append : (front back : List (ℕ × KeyRow)) → AllByRecursion (λ (pair : ℕ × KeyRow). pair.0 ≡ pair.1.born) front → AllByRecursion (λ (pair : ℕ × KeyRow). pair.0 ≡ pair.1.born) back → AllByRecursion (λ (pair : ℕ × KeyRow). pair.0 ≡ pair.1.born) (front ++ back)
+  every_append [] back h k = k
+  every_append (pair ∷ front) back h k = (h.0, every_append front back h.1 k)
+
+  pub keyed_with : (row : KeyRow) → AreKeyed (with_pair nat_cmp pairs row.born row)
+  keyed_with row =
+      All-from_recursion (λ (pair : ℕ × KeyRow). pair.0 ≡ pair.1.born) (with_pair nat_cmp pairs row.born row)
+      (every_append (filter (is_below nat_cmp row.born) pairs) ((row.born, row) ∷ filter (is_above nat_cmp row.born) pairs) (every_filter (is_below nat_cmp row.born) pairs each) (refl, every_filter (is_above nat_cmp row.born) pairs each))
+
+  pub keyed_without : (place : ℕ) → AreKeyed (without_key nat_cmp pairs place)
+  keyed_without place = All-from_recursion (λ (pair : ℕ × KeyRow). pair.0 ≡ pair.1.born) (without_key nat_cmp pairs place) (every_filter (λ (pair : ℕ × KeyRow). not (has_key nat_cmp place pair)) pairs each)
 
 -- ---- rows in order of making
 
@@ -152,24 +183,24 @@ module _ (id : List ℕ) where
   -- the row of an id is the one of its place, where that has the id
   pub key_at : (rows : List KeyRow) → Rises rows → AreNamed rows → key_with rows id ≡ looked (row_at rows (place_in id))
   key_at [] up named = refl
-  key_at (row ∷ rows) up named = by_place (nat_cmp row.born (place_in id)) refl
+  key_at (row ∷ rows) up named = by_place (key_at rows up.1 named.1) (nat_cmp row.born (place_in id)) refl
     where
       at : row.born ≡ place_in id → cond (bytes_eq row.key id) (Some row) (key_with rows id) ≡ looked (Some row)
       at same =
           ap (λ o. cond (bytes_eq row.key id) (Some row) o)
           (none_behind rows named.1 (every_weaker (λ (later : KeyRow). row.born < later.born) (λ (later : KeyRow). place_in id < later.born) (λ later lt. omega (arith, lt, same)) rows up.0))
 
-      elsewhere : row.born ≢ place_in id → (b : Bool) → (b ≡ true → row.key ≡ id) → cond b (Some row) (key_with rows id) ≡ looked (row_at rows (place_in id))
-      elsewhere other true same = absurd (other (sym named.0 ∙ ap place_in (same refl)))
-      elsewhere other false same = key_at rows up.1 named.1
+      elsewhere : key_with rows id ≡ looked (row_at rows (place_in id)) → row.born ≢ place_in id → (b : Bool) → (b ≡ true → row.key ≡ id) → cond b (Some row) (key_with rows id) ≡ looked (row_at rows (place_in id))
+      elsewhere later other true same = absurd (other (sym named.0 ∙ ap place_in (same refl)))
+      elsewhere later other false same = later
 
-      by_place : (o : Ordering) → nat_cmp row.born (place_in id) ≡ o → cond (bytes_eq row.key id) (Some row) (key_with rows id) ≡ looked (cond (is_eq o) (Some row) (row_at rows (place_in id)))
-      by_place Less e = elsewhere (λ same. absurd (less_equal (sym e ∙ itself row.born (place_in id) same))) (bytes_eq row.key id) (bytes_eq-Decides row.key id).0
+      by_place : key_with rows id ≡ looked (row_at rows (place_in id)) → (o : Ordering) → nat_cmp row.born (place_in id) ≡ o → cond (bytes_eq row.key id) (Some row) (key_with rows id) ≡ looked (cond (is_eq o) (Some row) (row_at rows (place_in id)))
+      by_place later Less e = elsewhere later (λ same. absurd (less_equal (sym e ∙ itself row.born (place_in id) same))) (bytes_eq row.key id) (bytes_eq-Decides row.key id).0
         where
           less_equal : Less ≡ Equal → ⊥
           less_equal e = cc
-      by_place Equal e = at (equal_places row.born (place_in id) e)
-      by_place Greater e = elsewhere (λ same. absurd (greater_equal (sym e ∙ itself row.born (place_in id) same))) (bytes_eq row.key id) (bytes_eq-Decides row.key id).0
+      by_place later Equal e = at (equal_places row.born (place_in id) e)
+      by_place later Greater e = elsewhere later (λ same. absurd (greater_equal (sym e ∙ itself row.born (place_in id) same))) (bytes_eq row.key id) (bytes_eq-Decides row.key id).0
         where
           greater_equal : Greater ≡ Equal → ⊥
           greater_equal e = cc

@@ -7,3 +7,5 @@ pub mod HouseFacts
 pub mod Places
 pub mod KeyFacts
 pub mod KeptFacts
+pub mod DateFacts
+pub mod EntryFacts

@@ -4,6 +4,7 @@ use Rattle.std.specs.Prelude.{◌≡◌, ℕ, ◌<◌, ◌==◌, nat_le, Bool, t
 use Rattle.std.specs.List.{flat_map, list_any}
 use Rattle.std.specs.Str.{bytes_eq}
 use Rattle.std.specs.Option.{option_map}
+use Rattle.std.specs.declared.cmp.Ordering.{Ordering}
 use Rattle.std.specs.Ordering.{nat_cmp, is_lt, is_gt, is_eq}
 use Rattle.persist_map.specs.Pairs.{value_at}
 use Rattle.key_states.specs.declared.rows.KeyRow.{KeyRow}
@@ -49,21 +50,25 @@ date_by (Pending date days) period next = Some date
 abbrev pub date_of : KeyRow → Option ℕ
 date_of row = date_by row.stored row.period row.next
 
+abbrev pub date_found : Option KeyRow → Option ℕ
+date_found None = None
+date_found (Some row) = date_of row
+
 abbrev pub is_date : ℕ → Option ℕ → Bool
 is_date date None = false
 is_date date (Some other) = other == date
 
 -- what stands at a date: one item, where this is the date
-abbrev pub due_on : ℕ → Option ℕ → Option Unit
+abbrev pub due_on : ℕ → Option ℕ → Option (Unit {0})
 due_on date of = if is_date date of then Some tt else None
 
 -- what stands at a date and a place: one item, where the row that was made there has this date
-abbrev pub due_by : ℕ → Option KeyRow → Option Unit
-due_by date None = None
-due_by date (Some row) = due_on date (date_of row)
+abbrev pub due_at : List (ℕ × KeyRow) → Due → Option (Unit {0})
+due_at pairs due = due_on due.date (date_found (value_at nat_cmp pairs due.place))
 
-abbrev pub due_at : List (ℕ × KeyRow) → Due → Option Unit
-due_at pairs due = due_by due.date (value_at nat_cmp pairs due.place)
+-- the dates are those of the rows
+abbrev pub AreDatesOf : (Due → Due → Ordering) → List (ℕ × KeyRow) → List (Due × Unit {0}) → Type 0
+AreDatesOf cmp pairs dates = (due : Due) → value_at cmp dates due ≡ due_at pairs due
 
 -- whether the date has come
 abbrev pub has_come : ℕ → Option ℕ → Bool
@@ -71,8 +76,8 @@ has_come time None = false
 has_come time (Some date) = nat_le date time
 
 -- the places of the dates that have come
-abbrev pub places_come : ℕ → List (Due × Unit) → List ℕ
-places_come time dates = map (λ (pair : Due × Unit). pair.0.place) (filter (λ (pair : Due × Unit). nat_le pair.0.date time) dates)
+abbrev pub places_come : ℕ → List (Due × Unit {0}) → List ℕ
+places_come time dates = map (λ (pair : Due × Unit {0}). pair.0.place) (filter (λ (pair : Due × Unit {0}). nat_le pair.0.date time) dates)
 
 abbrev pub is_place : List ℕ → ℕ → Bool
 is_place places place = list_any (λ (other : ℕ). other == place) places
@@ -100,6 +105,10 @@ kept_more time place (Some row) rows = if is_gone time row then unplaced rows pl
 abbrev pub gone_at : ℕ → Option KeyRow → List (List ℕ)
 gone_at time None = []
 gone_at time (Some row) = if is_gone time row then row.key ∷ [] else []
+
+abbrev pub items_of : Option (List ℕ) → List (List ℕ)
+items_of None = []
+items_of (Some id) = id ∷ []
 
 abbrev pub gone_among : ℕ → List KeyRow → List ℕ → List (List ℕ)
 gone_among time rows places = flat_map (λ (place : ℕ). gone_at time (row_at rows place)) places

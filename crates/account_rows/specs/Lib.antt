@@ -4,4 +4,5 @@ pub mod AliasChanges
 pub mod GrantChanges
 pub mod History
 pub mod Keys
+pub mod Numbered
 pub mod Replaying

@@ -3,10 +3,10 @@
 ghost use Rattle.std.specs.Prelude.{◌≡◌, [], IfOk};
 ghost use Rattle.alias_map.specs.Aliases.{row_named, without, without_keys, AreBefore};
 ghost use Rattle.account_rows.specs.AliasChanges.{put_row, with_alias, aliases_after};
+ghost use Rattle.account_rows.specs.Keys.{AreInOrder};
 
 use crate::entries::{Entry, What};
-use crate::held::HeldKey;
-use crate::replay::gone_keys;
+use crate::keys::HeldKeys;
 use alias_map::{AliasMap, AliasRow};
 use kms_names::{AliasName, KeyId, NoMemory};
 use std::alloc::Global;
@@ -130,18 +130,19 @@ impl HeldAliases {
 pub fn aliases_after(
     alloc: Global,
     aliases: &HeldAliases,
-    keys: &[HeldKey],
+    keys: &HeldKeys,
     place: u64,
     entry: &Entry,
 ) -> Result<HeldAliases, NoMemory>
-    requires { AreBefore aliases.now place }
+    requires before { AreBefore aliases.now place }
+    requires order { AreInOrder keys.now }
     ensures { IfOk result (λ held. held ≡ aliases_after place entry.now.time entry.now.what keys.now aliases.now) }
 {
     match &entry.what {
         What::AliasPut { name, key } => aliases.with_alias(alloc, place, entry.time, name, key),
         What::AliasDrop { name } => aliases.without_alias(alloc, name),
         What::House => {
-            let gone = gone_keys(alloc, keys, entry.time)?;
+            let gone = keys.gone(alloc, entry.time)?;
             aliases.without_keys(alloc, &gone)
         }
         _ => aliases.share(),

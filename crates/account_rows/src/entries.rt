@@ -5,9 +5,6 @@ ghost use Rattle.account_rows.specs.Sizes.{size_of, name_size, retiring_size, co
 
 use grant_table::{Constraint, copy_of_name, copy_of_principal};
 use kms_names::{AliasName, GrantId, GrantOps, KeyId, NoMemory, Principal, Text, principal_len};
-use std::alloc::Global;
-use std::marker::Model;
-use std::sync::Arc;
 
 /// What an entry did.
 pub enum What {
@@ -287,49 +284,5 @@ impl Entry {
             time: self.time,
             what: self.what.copy()?,
         })
-    }
-}
-
-/// An entry that versions of the rows share. Contracts see the entry.
-#[derive(Drop)]
-pub struct SharedEntry {
-    entry: Arc<Entry>,
-}
-
-impl Model for SharedEntry {
-    ghost use Rattle.std.specs.Arc.{arc_value};
-    ghost use Rattle.account_rows.specs.declared.entries.Entry.{Entry as EntryValue};
-
-    ghost Value = { EntryValue };
-
-    ghost view = { λ s. arc_value s.entry };
-}
-
-impl SharedEntry {
-    /// The entry, to be shared.
-    pub fn new(alloc: Global, entry: Entry) -> Result<SharedEntry, NoMemory>
-        ensures { IfOk result (λ s. s ≡ entry) }
-    {
-        match Arc::new(alloc, entry) {
-            Ok(entry) => Ok(SharedEntry { entry }),
-            Err(_) => Err(NoMemory),
-        }
-    }
-
-    /// The same entry once more.
-    pub fn share(&self) -> Result<SharedEntry, NoMemory>
-        ensures { IfOk result (λ s. s ≡ self.now) }
-    {
-        match Arc::try_clone(&self.entry) {
-            Ok(entry) => Ok(SharedEntry { entry }),
-            Err(_) => Err(NoMemory),
-        }
-    }
-
-    /// The entry.
-    pub fn entry(&self) -> &Entry
-        ensures { result.now ≡ self.now }
-    {
-        &self.entry
     }
 }

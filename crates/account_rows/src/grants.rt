@@ -4,10 +4,10 @@ ghost use Rattle.std.specs.Prelude.{◌≡◌, ◌++◌, ◌∷◌, [], IfOk, Al
 ghost use Rattle.grant_table.specs.Grants.{without, without_keys, MayAdd};
 ghost use Rattle.account_rows.specs.GrantChanges.{new_grant, grants_after};
 ghost use Rattle.account_rows.specs.History.{IsGrantOf, IsMadeHere};
+ghost use Rattle.account_rows.specs.Keys.{AreInOrder};
 
 use crate::entries::{Entry, What};
-use crate::held::HeldKey;
-use crate::replay::gone_keys;
+use crate::keys::HeldKeys;
 use grant_table::{Constraint, GrantRow, GrantTable, copy_of_name, copy_of_principal};
 use kms_names::{GrantId, GrantOps, KeyId, NoMemory, Principal, Text};
 use std::alloc::Global;
@@ -126,12 +126,13 @@ impl HeldGrants {
 pub fn grants_after(
     alloc: Global,
     grants: &HeldGrants,
-    keys: &[HeldKey],
+    keys: &HeldKeys,
     place: u64,
     entry: &Entry,
 ) -> Result<HeldGrants, NoMemory>
     requires grants { All (IsGrantOf place) grants.now }
     requires made { IsMadeHere place entry.now.what }
+    requires order { AreInOrder keys.now }
     ensures { IfOk result (λ held. held ≡ grants_after place entry.now.time entry.now.what keys.now grants.now) }
 {
     match &entry.what {
@@ -152,7 +153,7 @@ pub fn grants_after(
         }
         What::GrantDrop { grant } => grants.without_grant(alloc, grant),
         What::House => {
-            let gone = gone_keys(alloc, keys, entry.time)?;
+            let gone = keys.gone(alloc, entry.time)?;
             grants.without_keys(alloc, &gone)
         }
         _ => grants.share(),

@@ -9,13 +9,14 @@ ghost use Rattle.std.specs.Prelude.{filter};
 ghost use Rattle.key_states.specs.declared.rows.KeyRow.{KeyRow};
 
 use crate::aliases::{HeldAliases, aliases_after};
-use crate::entries::{Entry, SharedEntry, What};
+use crate::entries::{Entry, What};
 use crate::grants::{HeldGrants, grants_after};
 use crate::held::{DefaultPolicy, HeldKey};
-use crate::replay::{keys_after, same_key, wants_house};
+use crate::keys::HeldKeys;
 use alias_map::AliasMap;
 use grant_table::GrantTable;
-use kms_names::{AccountNumber, KeyId, NoMemory, is_behind};
+use kms_names::{AccountNumber, KeyId, NoMemory};
+use persist_map::PMap;
 use std::alloc::Global;
 use std::marker::Model;
 
@@ -28,9 +29,10 @@ pub const BYTES: u64 = 268_435_456;
 /// The entries of an account's history, and the rows that they make. Contracts see the list of the entries. A changed
 /// history is a new one: the old one stays as it was.
 pub struct Rows {
+    alloc: Global,
     default: DefaultPolicy,
-    entries: Vec<SharedEntry>,
-    keys: Vec<HeldKey>,
+    entries: PMap<u64, Entry>,
+    keys: HeldKeys,
     aliases: HeldAliases,
     grants: HeldGrants,
     latest: u64,
@@ -41,6 +43,7 @@ pub struct Rows {
 impl Drop for Rows {
     fn drop(self) {
         let Rows {
+            alloc: _,
             default: _,
             entries: _,
             keys: _,
@@ -57,49 +60,26 @@ impl Model for Rows {
     ghost use Rattle.alias_map.specs.Aliases.{AreBefore};
     ghost use Rattle.account_rows.specs.declared.entries.Entry.{Entry};
     ghost use Rattle.account_rows.specs.History.{replay, latest_of, most_entries, most_bytes, AreRows, IsGrantOf};
+    ghost use Rattle.account_rows.specs.Numbered.{entries_in, AreCounted};
     ghost use Rattle.account_rows.specs.Sizes.{bytes_in};
 
     ghost Value = { List Entry };
 
-    ghost view = { λ rows. rows.entries.items };
+    ghost view = { λ rows. entries_in rows.entries };
 
     ghost invariant = { λ rows. record {
-      keys : rows.keys.items ≡ (replay rows.entries.items).keys;
-      are : AreRows (length rows.entries.items) rows.keys.items;
-      aliases : rows.aliases ≡ (replay rows.entries.items).aliases;
-      before : AreBefore rows.aliases (length rows.entries.items);
-      grants : rows.grants ≡ (replay rows.entries.items).grants;
-      granted : All (IsGrantOf (length rows.entries.items)) rows.grants;
-      latest : rows.latest ≡ latest_of rows.entries.items;
-      bytes : rows.bytes ≡ bytes_in rows.entries.items;
-      few : length rows.entries.items ≤ most_entries;
-      fits : bytes_in rows.entries.items ≤ most_bytes;
+      counted : AreCounted 0 rows.entries;
+      keys : rows.keys ≡ (replay (entries_in rows.entries)).keys;
+      are : AreRows (length rows.entries) rows.keys;
+      aliases : rows.aliases ≡ (replay (entries_in rows.entries)).aliases;
+      before : AreBefore rows.aliases (length rows.entries);
+      grants : rows.grants ≡ (replay (entries_in rows.entries)).grants;
+      granted : All (IsGrantOf (length rows.entries)) rows.grants;
+      latest : rows.latest ≡ latest_of (entries_in rows.entries);
+      bytes : rows.bytes ≡ bytes_in (entries_in rows.entries);
+      few : length rows.entries ≤ most_entries;
+      fits : bytes_in (entries_in rows.entries) ≤ most_bytes;
     } };
-}
-
-// The entries with one more.
-fn with_entry(
-    alloc: Global,
-    entries: &[SharedEntry],
-    entry: &Entry,
-) -> Result<Vec<SharedEntry>, NoMemory>
-    ensures { IfOk result (λ all. all.items ≡ entries.now ++ entry.now ∷ []) }
-{
-    let mut all = Vec::with_capacity(alloc, entries.len() + 1)?;
-    for shared in entries {
-        all.push(shared.share()?)?;
-    }
-    all.push(SharedEntry::new(alloc, entry.copy()?)?)?;
-    Ok(all)
-}
-
-// The place that a key's id ends with.
-fn place_in(key: &KeyId) -> u64
-    ensures { result ≡ place_in key.now }
-{
-    let mut bytes = [0; 8];
-    bytes[2..].copy_from_slice(&key.as_bytes()[10..]);
-    u64::from_be_bytes(bytes)
 }
 
 impl Rows {
@@ -113,9 +93,10 @@ impl Rows {
         ensures { IfOk result (λ rows. rows ≡ []) }
     {
         Ok(Rows {
+            alloc,
             default: DefaultPolicy::new(alloc, account)?,
-            entries: Vec::new(alloc),
-            keys: Vec::new(alloc),
+            entries: PMap::new(alloc),
+            keys: HeldKeys::new(alloc),
             aliases: HeldAliases::new(alloc)?,
             grants: HeldGrants::new(alloc)?,
             latest: 0,
@@ -128,12 +109,13 @@ impl Rows {
         requires { IsFitting self.now entry.now }
         ensures { IfOk result (λ rows. rows ≡ self.now ++ entry.now ∷ []) }
     {
-        let alloc = *self.entries.allocator();
+        let alloc = self.alloc;
         let place = self.entries();
         Ok(Rows {
+            alloc,
             default: self.default.share()?,
-            entries: with_entry(alloc, &self.entries, entry)?,
-            keys: keys_after(alloc, &self.keys, place, entry, &self.default)?,
+            entries: self.entries.insert(place, entry.copy()?)?,
+            keys: self.keys.after(alloc, place, entry, &self.default)?,
             aliases: aliases_after(alloc, &self.aliases, &self.keys, place, entry)?,
             grants: grants_after(alloc, &self.grants, &self.keys, place, entry)?,
             latest: entry.time,
@@ -142,14 +124,14 @@ impl Rows {
     }
 
     /// The entry of housekeeping at the clock's answer, if any: where the date of deletion of some key has come or an
-    /// automatic rotation is due, and there is room for one more entry of 64 bytes. It takes no memory, and its time
-    /// grows with the number of keys.
+    /// automatic rotation is due, and there is room for one more entry of 64 bytes. It takes no memory; the first of
+    /// the dates tells.
     #[tactic(auto, unfolding(crate::specs::History::housekeeping_of))]
     pub fn housekeeping(&self, moment: u64) -> Option<Entry>
         ensures { result ≡ housekeeping_of self.now moment }
     {
         let time = moment.max(self.latest);
-        if wants_house(&self.keys, time) && self.has_room(What::House.size()) {
+        if self.keys.wants_house(time) && self.has_room(What::House.size()) {
             Some(Entry {
                 time,
                 what: What::House,
@@ -194,10 +176,7 @@ impl Rows {
     pub fn entry(&self, place: u64) -> Option<&Entry>
         ensures { option_map (λ entry. entry.now) result ≡ slice_get self.now place }
     {
-        match self.entries.get(place as usize) {
-            Some(shared) => Some(shared.entry()),
-            None => None,
-        }
+        self.entries.look_up(&place)
     }
 
     /// The number of keys. Each was made before those behind it.
@@ -213,14 +192,7 @@ impl Rows {
     pub fn key(&self, key: &KeyId) -> Option<&HeldKey>
         ensures { option_map (λ row. row.now) result ≡ key_with (replay self.now).keys key.now }
     {
-        let place = place_in(key);
-        match self
-            .keys
-            .binary_search_by(|held| held.row().born.cmp(&place))
-        {
-            Ok(at) if same_key(&self.keys[at].row().key, key) => Some(&self.keys[at]),
-            _ => None,
-        }
+        self.keys.get(key)
     }
 
     /// The aliases. No memory is taken.
@@ -237,21 +209,11 @@ impl Rows {
         self.grants.table()
     }
 
-    // The keys that were made behind a place, or all.
-    fn behind(&self, after: Option<u64>) -> &[HeldKey]
-        ensures { result.now ≡ filter (λ (row : KeyRow). is_behind after row.born) (replay self.now).keys }
-    {
-        let start = self
-            .keys
-            .partition_point(|held| !is_behind(after, held.row().born));
-        &self.keys[start..]
-    }
-
     /// The first key, in order of making, that was made behind a place, or the first of all. It is found by
     /// binary search; no memory is taken.
     pub fn key_after(&self, after: Option<u64>) -> Option<&HeldKey>
         ensures { option_map (λ row. row.now) result ≡ key_behind (replay self.now).keys after }
     {
-        self.behind(after).first()
+        self.keys.behind(after)
     }
 }
