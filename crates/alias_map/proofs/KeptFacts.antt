@@ -158,14 +158,8 @@ behind_all (first ∷ rest) row none = by_test (has_name row.name first) (behind
 
 -- ---- what is found by a name
 
-cmp_is : (a b : List ℕ) → is_eq (slice_cmp nat_cmp a b) ≡ bytes_eq a b
-cmp_is a b = sym (texts_ties a b)
-
 same_bytes : (a b : List ℕ) → slice_cmp nat_cmp a b ≡ Equal → a ≡ b
 same_bytes a b e = (bytes_eq-Decides a b).0 (texts_ties a b ∙ ap is_eq e)
-
-has_own : (row : AliasRow) → has_name row.name row ≡ true
-has_own row = (bytes_eq-Decides row.name row.name).1 refl
 
 named_with : (rows : List AliasRow) (row : AliasRow) (name : List ℕ) → row_named (with_row rows row) name ≡ cond (has_name name row) (Some row) (row_named rows name)
 named_with [] row name = refl
