@@ -1,6 +1,6 @@
 -- Groups by key and grantee, after one key's groups are changed.
 use Rattle.std.proofs.Common.{◌≡◌, ℕ, Bool, true, false, cond, List, [], Option, None, Some, refl, ap, ◌∙◌, sym, subst}
-use Rattle.std.specs.Prelude.{Result, Ok, Err, IfOk}
+use Rattle.std.specs.Prelude.{Result, IfOk}
 use Rattle.std.specs.Cmp.Lexicographic.{slice_cmp}
 use Rattle.std.specs.Option.{unwrap_or}
 use Rattle.std.specs.Ordering.{nat_cmp, is_eq}
@@ -17,6 +17,7 @@ use Rattle.persist_map.proofs.Orders.{equal}
 use Rattle.persist_map.specs.Groups.{group_of, group_with, group_without}
 use Rattle.grant_table.specs.Tables.{Keys, groups_at, grantee_group, grantee_group_with, grantee_group_without}
 use Rattle.grant_table.specs.declared.rows.GrantRow.{GrantRow}
+use Rattle.grant_table.proofs.Lists.{bytes_apart}
 
 abbrev Groups : Type 0
 Groups = List (Principal × List (ℕ × GrantRow))
@@ -25,11 +26,7 @@ abbrev no_groups : Groups
 no_groups = []
 
 pub bytes_turned : (a b : List ℕ) → bytes_eq a b ≡ false → bytes_eq b a ≡ false
-bytes_turned a b apart = by_test (bytes_eq b a) refl
-  where
-    by_test : (t : Bool) → bytes_eq b a ≡ t → bytes_eq b a ≡ false
-    by_test true e = absurd (false≢true (sym apart ∙ (bytes_eq-Decides a b).1 (sym ((bytes_eq-Decides b a).0 e))))
-    by_test false e = e
+bytes_turned a b apart = bytes_apart b a (λ e. false≢true (sym apart ∙ (bytes_eq-Decides a b).1 (sym e)))
 
 module _ (keys : Keys) (key : List ℕ) (changed : Keys) where
   groups_put : (groups : Groups) → changed ≡ with_pair (slice_cmp nat_cmp) keys key groups → (other : List ℕ) → groups_at changed other ≡ cond (bytes_eq key other) groups (groups_at keys other)
@@ -90,7 +87,3 @@ same_insert cmp row r {groups} {others} {grantee} {born} same who place h =
     subst (λ (gs : Groups). IfOk r (λ changed. (other : Principal) → group_of cmp changed other ≡ group_with cmp gs row.grantee row.born row other)) same
     (subst (λ (p : Principal). IfOk r (λ changed. (other : Principal) → group_of cmp changed other ≡ group_with cmp groups p row.born row other)) who
     (subst (λ (n : ℕ). IfOk r (λ changed. (other : Principal) → group_of cmp changed other ≡ group_with cmp groups grantee n row other)) place h))
-
-pub if_ok : {A E : Type 0} {P Q : A → Type 0} (r : Result A E) → ((x : A) → P x → Q x) → IfOk r P → IfOk r Q
-if_ok (Ok x) f h = f x h
-if_ok (Err e) f h = h

@@ -8,19 +8,16 @@ use Rattle.std.proofs.lemmas.Bool.{false≢true}
 use Rattle.std.proofs.lemmas.List.Folds.{list_any-append}
 use Rattle.std.proofs.lemmas.Option.{none-some, same_Some}
 use Rattle.std.proofs.lemmas.Slice.Eq.{bytes_eq-Decides}
+use Rattle.persist_map.proofs.Edits.{filter_all}
 use Rattle.grant_table.specs.Grants.{has_id, is_of_key, is_of_any, grant_with, without, without_keys, AreGrants}
 use Rattle.grant_table.specs.declared.rows.GrantRow.{GrantRow}
-use Rattle.grant_table.proofs.Lists.{first_before, pairs_behind, every_weaker, filter_all, filter_both, filter_alike, agree_everywhere, found_has, none_passes}
+use Rattle.grant_table.proofs.Lists.{first_before, pairs_behind, every_weaker, bytes_apart, filter_both, filter_alike, agree_everywhere, found_has, none_passes}
 
 abbrev Differ : GrantRow → GrantRow → Type 0
 Differ p q = p.grant ≢ q.grant
 
 other_id : (row other : GrantRow) → other.grant ≢ row.grant → has_id row.grant other ≡ false
-other_id row other apart = by_test (has_id row.grant other) refl
-  where
-    by_test : (b : Bool) → has_id row.grant other ≡ b → has_id row.grant other ≡ false
-    by_test true e = absurd (apart ((bytes_eq-Decides other.grant row.grant).0 e))
-    by_test false e = e
+other_id row other apart = bytes_apart other.grant row.grant apart
 
 own_id : (row : GrantRow) → has_id row.grant row ≡ true
 own_id row = (bytes_eq-Decides row.grant row.grant).1 refl

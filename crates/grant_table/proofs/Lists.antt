@@ -1,11 +1,20 @@
 -- Lists that are filtered and searched.
-use Rattle.std.proofs.Common.{◌≡◌, ℕ, zero, suc, ◌+◌, ◌<◌, ◌≤◌, Bool, true, false, not, ◌&&◌, cond, List, [], ◌∷◌, ◌++◌, length, get_or, map, filter, find, Option, None, Some, refl, ap, ◌∙◌, sym, subst, arith}
+use Rattle.std.proofs.Common.{◌≡◌, ◌≢◌, ℕ, zero, suc, ◌+◌, ◌<◌, ◌≤◌, Bool, true, false, not, ◌&&◌, cond, List, [], ◌∷◌, ◌++◌, length, get_or, map, filter, find, Option, None, Some, refl, ap, ◌∙◌, sym, subst, arith}
 use Rattle.std.specs.Prelude.{AllPairs}
 use Rattle.std.specs.List.{AllByRecursion}
 use Rattle.std.specs.Option.{option_map}
+use Rattle.std.specs.Str.{bytes_eq}
+use Rattle.std.proofs.lemmas.Slice.Eq.{bytes_eq-Decides}
 use Rattle.std.proofs.lemmas.Option.{none-some, same_Some}
 use Rattle.std.proofs.lemmas.List.Elements.{recursion_from_All}
 use Rattle.std.proofs.lemmas.Bool.{false≢true}
+
+pub bytes_apart : (a b : List ℕ) → a ≢ b → bytes_eq a b ≡ false
+bytes_apart a b apart = by_test (bytes_eq a b) refl
+  where
+    by_test : (t : Bool) → bytes_eq a b ≡ t → bytes_eq a b ≡ false
+    by_test true e = absurd (apart ((bytes_eq-Decides a b).0 e))
+    by_test false e = e
 
 -- ---- each item of a list
 
@@ -38,10 +47,6 @@ agree_everywhere test other h (x ∷ xs) = (h x, agree_everywhere test other h x
 -- ---- what a test lets through
 
 module _ {X : Type 0} (test : X → Bool) where
-  pub filter_all : (xs : List X) → AllByRecursion (λ x. test x ≡ true) xs → filter test xs ≡ xs
-  filter_all [] h = refl
-  filter_all (x ∷ xs) h = ap (λ b. cond b (x ∷ filter test xs) (filter test xs)) h.0 ∙ ap (λ l. x ∷ l) (filter_all xs h.1)
-
   pub find_none : (xs : List X) → AllByRecursion (λ x. test x ≡ false) xs → find test xs ≡ None
   find_none [] h = refl
   find_none (x ∷ xs) h = ap (λ b. cond b (Some x) (find test xs)) h.0 ∙ find_none xs h.1

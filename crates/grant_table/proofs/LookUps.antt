@@ -15,9 +15,6 @@ use Rattle.grant_table.proofs.Lists.{agree_everywhere, find_alike, every_weaker,
 abbrev Pairs : Type 0
 Pairs = List (ℕ × GrantRow)
 
-
-
-
 and_turned : (a b : Bool) → (a && b) ≡ (b && a)
 and_turned true true = refl
 and_turned true false = refl
@@ -55,7 +52,7 @@ pub number_of : (part : GrantRow → Bool) (pairs : Pairs) → length (filter (�
 number_of part pairs =
     sym (length-map (filter (λ (pair : ℕ × GrantRow). part pair.1) pairs) (λ (pair : ℕ × GrantRow). pair.1)) ∙ ap length (map_filter (λ (pair : ℕ × GrantRow). pair.1) part pairs)
 
--- what is in front of a list
+-- what is in front of what was found
 pub first_of : (found rest : Pairs) (pair : ℕ × GrantRow) → found ≡ pair ∷ rest → Some pair.1 ≡ option_map (λ (pair : ℕ × GrantRow). pair.1) (slice_get found 0)
 first_of found rest pair is = sym (ap (λ (l : Pairs). option_map (λ (pair : ℕ × GrantRow). pair.1) (slice_get l 0)) is)
 
@@ -65,14 +62,6 @@ first_of_none found is = sym (ap (λ (l : Pairs). option_map (λ (pair : ℕ × 
 pub and_first : (a b : Bool) → (a && b) ≡ true → a ≡ true
 and_first true b e = refl
 and_first false b e = e
-
-pub and_second : (a b : Bool) → (a && b) ≡ true → b ≡ true
-and_second true b e = e
-and_second false b e = absurd (cc)
-
-pub and_both : (a b : Bool) → a ≡ true → b ≡ true → (a && b) ≡ true
-and_both true b e f = f
-and_both false b e f = e
 
 -- what an iterator's item shows
 abbrev pub seen : Bor ℕ × Bor GrantRow → ℕ × GrantRow

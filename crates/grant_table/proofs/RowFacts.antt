@@ -18,7 +18,7 @@ use Rattle.persist_map.proofs.Indexes.{none_behind, with_row_behind}
 use Rattle.grant_table.specs.declared.rows.GrantRow.{GrantRow}
 use Rattle.grant_table.specs.Grants.{has_id, grant_with, without, MayAdd, AreGrants}
 use Rattle.grant_table.specs.Tables.{rows_of, AreAtBirth}
-use Rattle.grant_table.proofs.Lists.{first_before, pairs_behind, every_weaker, filter_alike, find_alike, found_has, found_passes, map_filter, map_find}
+use Rattle.grant_table.proofs.Lists.{bytes_apart, first_before, pairs_behind, every_weaker, filter_alike, find_alike, found_has, found_passes, map_filter, map_find}
 
 -- ---- numbers in order
 
@@ -83,16 +83,9 @@ module _ (row : GrantRow) where
   later_agree : (pairs : List (ℕ × GrantRow)) → AllByRecursion IsAtBirth pairs → AllByRecursion (λ (other : GrantRow). row.grant ≢ other.grant) (rows_of pairs) → AllByRecursion (λ (other : GrantRow). row.born < other.born) (rows_of pairs) → AllByRecursion Agree pairs
   later_agree [] places ids births = tt
   later_agree (pair ∷ pairs) places ids births = (
-    ap is_eq (greater_is pair.0 row.born (let e = places.0 in let lt = births.0 in omega arith)) ∙ sym (other_id pair.1 ids.0),
+    ap is_eq (greater_is pair.0 row.born (let e = places.0 in let lt = births.0 in omega arith)) ∙ sym (bytes_apart pair.1.grant row.grant (λ e. ids.0 (sym e))),
     later_agree pairs places.1 ids.1 births.1,
   )
-    where
-      other_id : (other : GrantRow) → row.grant ≢ other.grant → has_id row.grant other ≡ false
-      other_id other apart = by_test (has_id row.grant other) refl
-        where
-          by_test : (b : Bool) → has_id row.grant other ≡ b → has_id row.grant other ≡ false
-          by_test true e = absurd (apart (sym ((bytes_eq-Decides other.grant row.grant).0 e)))
-          by_test false e = e
 
   -- its place and its id are its own
   agree : (pairs : List (ℕ × GrantRow)) → AllByRecursion IsAtBirth pairs → AreGrants (rows_of pairs) → grant_with (rows_of pairs) row.grant ≡ Some row → AllByRecursion Agree pairs
@@ -113,9 +106,10 @@ module _ (row : GrantRow) where
 
       by_test : (b : Bool) → has_id row.grant pair.1 ≡ b → (AreGrants (rows_of pairs) → grant_with (rows_of pairs) row.grant ≡ Some row → AllByRecursion Agree pairs) → AllByRecursion Agree (pair ∷ pairs)
       by_test true e later_too =
-          let same : pair.1 ≡ row = same_Some pair.1 row (tested true e) in
-          (ap is_eq (equal_is pair.0 row.born (places.0 ∙ ap (λ (r : GrantRow). r.born) same)) ∙ sym e,
-          later_agree pairs places.1 (subst (λ (r : GrantRow). AllByRecursion (λ (other : GrantRow). r.grant ≢ other.grant) (rows_of pairs)) same ids) (subst (λ (r : GrantRow). AllByRecursion (λ (other : GrantRow). r.born < other.born) (rows_of pairs)) same births))
+          let same : pair.1 ≡ row = same_Some pair.1 row (tested true e) in (
+            ap is_eq (equal_is pair.0 row.born (places.0 ∙ ap (λ (r : GrantRow). r.born) same)) ∙ sym e,
+            later_agree pairs places.1 (subst (λ (r : GrantRow). AllByRecursion (λ (other : GrantRow). r.grant ≢ other.grant) (rows_of pairs)) same ids) (subst (λ (r : GrantRow). AllByRecursion (λ (other : GrantRow). r.born < other.born) (rows_of pairs)) same births),
+          )
       by_test false e later_too =
           let rest : grant_with (rows_of pairs) row.grant ≡ Some row = tested false e in
           let lt : pair.1.born < row.born = found_has (has_id row.grant) (λ (other : GrantRow). pair.1.born < other.born) (rows_of pairs) row births rest in

@@ -25,7 +25,7 @@ use Rattle.grant_table.specs.declared.rows.GrantRow.{GrantRow}
 use Rattle.grant_table.proofs.GrantFacts.{without_keeps, none_yet}
 use Rattle.grant_table.proofs.GranteeFacts.{bytes_turned}
 use Rattle.persist_map.proofs.Indexes.{IsOf, IsOfNone, index_with, index_with_apart, index_without, index_without_apart}
-use Rattle.grant_table.proofs.Lists.{agree_everywhere, find_alike, find_none, find_push, every_weaker, filter_both, filter_alike}
+use Rattle.grant_table.proofs.Lists.{bytes_apart, agree_everywhere, find_alike, find_none, find_push, every_weaker, filter_both, filter_alike}
 use Rattle.grant_table.proofs.PrincipalFacts.{principal_cmp, principal_ties}
 use Rattle.grant_table.proofs.RowFacts.{births_ascend, place_free, rows_with, places_with, grants_with, at_place, rows_without, places_without}
 
@@ -36,14 +36,8 @@ Pairs = List (ℕ × GrantRow)
 
 module _ (by_id : List (List ℕ × GrantRow)) (rows : List GrantRow) (row : GrantRow) (ids : (grant : List ℕ) → value_at (slice_cmp nat_cmp) by_id grant ≡ grant_with rows grant) where
   not_there : AllByRecursion (λ (old : GrantRow). old.grant ≢ row.grant) rows → (grant : List ℕ) → row.grant ≡ grant → grant_with rows grant ≡ None
-  not_there new grant same = find_none (has_id grant) rows (every_weaker (λ (old : GrantRow). old.grant ≢ row.grant) (λ (old : GrantRow). has_id grant old ≡ false) other rows new)
-    where
-      other : (old : GrantRow) → old.grant ≢ row.grant → has_id grant old ≡ false
-      other old apart = by_test (has_id grant old) refl
-        where
-          by_test : (b : Bool) → has_id grant old ≡ b → has_id grant old ≡ false
-          by_test true e = absurd (apart ((bytes_eq-Decides old.grant grant).0 e ∙ sym same))
-          by_test false e = e
+  not_there new grant same =
+      find_none (has_id grant) rows (every_weaker (λ (old : GrantRow). old.grant ≢ row.grant) (λ (old : GrantRow). has_id grant old ≡ false) (λ old apart. bytes_apart old.grant grant (λ e. apart (e ∙ sym same))) rows new)
 
   last_found : (o : Option GrantRow) → o ≡ None → (b : Bool) → b ≡ true → Some row ≡ elim o as (λ o. Option GrantRow) [ None ↦ cond b (Some row) None | Some first ↦ Some first ]
   last_found None none true e = refl

@@ -13,7 +13,7 @@ use persist_map::{PFrom, PGroups, PMap, Shared};
 use std::alloc::Global;
 use std::marker::Model;
 
-/// The grants of each key, by grantee and place: a map of maps, so that nothing need be copied to be sought.
+// The grants of each key, by grantee and place: a map of maps, so that nothing need be copied to be sought.
 #[derive(Drop)]
 pub(crate) struct Grantees {
     keys: PMap<KeyId, PGroups<Principal, Shared<GrantRow>>>,
@@ -28,7 +28,7 @@ impl Model for Grantees {
 }
 
 impl Grantees {
-    /// No grants; no memory is taken.
+    // No grants; no memory is taken.
     pub(crate) fn new(alloc: Global) -> Grantees
         ensures { result ≡ [] }
     {
@@ -37,7 +37,7 @@ impl Grantees {
         }
     }
 
-    /// The grants of a key that have a grantee, by place; None where the key has no grants. No memory is taken.
+    // The grants of a key that have a grantee, by place; None where the key has no grants. No memory is taken.
     pub(crate) fn group(
         &self,
         key: &KeyId,
@@ -48,7 +48,7 @@ impl Grantees {
         Some(self.keys.look_up(key)?.group(grantee))
     }
 
-    /// The groups of a row's key with the row.
+    // The groups of a row's key with the row.
     fn groups_with(
         &self,
         alloc: Global,
@@ -65,12 +65,8 @@ impl Grantees {
         }
     }
 
-    /// The grants with one more.
-    pub(crate) fn insert(
-        &self,
-        alloc: Global,
-        row: Shared<GrantRow>,
-    ) -> Result<Grantees, NoMemory>
+    // The grants with one more.
+    pub(crate) fn insert(&self, alloc: Global, row: Shared<GrantRow>) -> Result<Grantees, NoMemory>
         ensures { IfOk result (λ grantees. (key : List ℕ) (grantee : PrincipalValue) → grantee_group ⟦<Principal as Ord>⟧.cmp grantees key grantee ≡ grantee_group_with ⟦<Principal as Ord>⟧.cmp self.now row key grantee) }
     {
         let key = row.value().key;
@@ -80,7 +76,7 @@ impl Grantees {
         })
     }
 
-    /// The grants without one of them, where its key keeps others.
+    // The grants without one of them, where its key keeps others.
     fn without_row(&self, row: &GrantRow) -> Result<Grantees, NoMemory>
         ensures { IfOk result (λ grantees. (key : List ℕ) (grantee : PrincipalValue) → grantee_group ⟦<Principal as Ord>⟧.cmp grantees key grantee ≡ grantee_group_without ⟦<Principal as Ord>⟧.cmp self.now row.now key grantee) }
     {
@@ -93,7 +89,7 @@ impl Grantees {
         })
     }
 
-    /// The grants of all other keys.
+    // The grants of all other keys.
     fn without_key(&self, key: &KeyId) -> Result<Grantees, NoMemory>
         ensures { IfOk result (λ grantees. (other : List ℕ) → groups_at grantees other ≡ (if bytes_eq key.now other then [] else groups_at self.now other)) }
     {
@@ -102,7 +98,7 @@ impl Grantees {
         })
     }
 
-    /// The grants without one of them. Where it is the last of its key, nothing is kept of that key.
+    // The grants without one of them. Where it is the last of its key, nothing is kept of that key.
     pub(crate) fn remove(&self, row: &GrantRow, is_last: bool) -> Result<Grantees, NoMemory>
         ensures one { is_last ≡ false → IfOk result (λ grantees. (key : List ℕ) (grantee : PrincipalValue) → grantee_group ⟦<Principal as Ord>⟧.cmp grantees key grantee ≡ grantee_group_without ⟦<Principal as Ord>⟧.cmp self.now row.now key grantee) }
         ensures last { is_last ≡ true → IfOk result (λ grantees. (other : List ℕ) → groups_at grantees other ≡ (if bytes_eq row.now.key other then [] else groups_at self.now other)) }
@@ -114,7 +110,7 @@ impl Grantees {
         }
     }
 
-    /// An equal value, which shares all with this one.
+    // An equal value, which shares all with this one.
     pub(crate) fn share(&self) -> Result<Grantees, NoMemory>
         ensures { IfOk result (λ grantees. grantees ≡ self.now) }
     {

@@ -7,8 +7,8 @@ ghost use Rattle.persist_map.specs.Groups.{group_of, group_with, group_without};
 ghost use Rattle.grant_table.specs.Tables.{is_of_grantee, rows_of};
 
 use crate::constraints::Constraint;
-use crate::principals::copy_of_principal;
 use crate::grantees::Grantees;
+use crate::principals::copy_of_principal;
 use crate::rows::GrantRow;
 use enc_context::Context;
 use kms_names::{GrantId, GrantOp, GrantOps, KeyId, NoMemory, Principal, Text};
@@ -18,14 +18,29 @@ use std::marker::Model;
 
 /// The grants of an account. Contracts see it as the list of its rows in order of making. A changed table is a new one,
 /// which shares what stays with the old one; the old one stays as it was.
-#[derive(Drop)]
 pub struct GrantTable {
     alloc: Global,
+    // By the places of their making.
     rows: PMap<u64, Shared<GrantRow>>,
     by_id: PMap<GrantId, Shared<GrantRow>>,
     by_key: PGroups<KeyId, Shared<GrantRow>>,
     by_grantee: Grantees,
+    // Those that have a retiring principal.
     by_retiring: PGroups<Principal, Shared<GrantRow>>,
+}
+
+// Each crate that lets a table go calls this one drop, and doesn't take it apart itself.
+impl Drop for GrantTable {
+    fn drop(self) {
+        let GrantTable {
+            alloc: _,
+            rows: _,
+            by_id: _,
+            by_key: _,
+            by_grantee: _,
+            by_retiring: _,
+        } = self;
+    }
 }
 
 impl Model for GrantTable {
@@ -41,7 +56,7 @@ impl Model for GrantTable {
     ghost invariant = { λ table. AreTable ⟦<Principal as Ord>⟧.cmp table.rows table.by_id table.by_key table.by_grantee table.by_retiring };
 }
 
-/// The groups of retiring principals with a row, where it has one.
+// The groups of retiring principals with a row, where it has one.
 fn retiring_with(
     groups: &PGroups<Principal, Shared<GrantRow>>,
     row: Shared<GrantRow>,
@@ -56,7 +71,7 @@ fn retiring_with(
     groups.insert(retiring, born, row)
 }
 
-/// The groups of retiring principals without a row.
+// The groups of retiring principals without a row.
 fn retiring_without(
     groups: &PGroups<Principal, Shared<GrantRow>>,
     row: &GrantRow,
@@ -104,7 +119,7 @@ impl GrantTable {
         Some(self.by_id.look_up(grant)?.value())
     }
 
-    /// The grants of a key that have a grantee, by place; None where the key has no grants.
+    // The grants of a key that have a grantee, by place; None where the key has no grants.
     fn of_grantee(
         &self,
         key: &KeyId,
@@ -146,8 +161,9 @@ impl GrantTable {
         ensures { option_map (λ row. row.now) result ≡ parent_of self.now key.now caller.now operations.now constraint.now }
     {
         let mut grants = self.of_grantee(key, caller)?;
-        let (_, row) =
-            grants.find(|(_, row)| row.value().is_parent(key, caller, operations, constraint))?;
+        let (_, row) = grants.find(|(_, row)| row
+            .value()
+            .is_parent(key, caller, operations, constraint))?;
         Some(row.value())
     }
 
@@ -197,14 +213,14 @@ impl GrantTable {
         Some(row.value())
     }
 
-    /// The first grant of a key.
+    // The first grant of a key.
     fn first_of_key(&self, key: &KeyId) -> Option<&GrantRow>
         ensures first { option_map (λ row. row.now) result ≡ grant_of_key self.now key.now None }
         ensures own { IfSome result (λ row. grant_with self.now row.now.grant ≡ Some row.now) }
         ensures grants { AreGrants self.now }
     {
-        let _rows = &self.rows;
-        self.of_key(key, None)
+        let (_, row) = self.by_key.group(key).next()?;
+        Some(row.value())
     }
 
     /// The table with one more grant behind the others. Its id isn't there, and the others were made before it.
@@ -226,7 +242,7 @@ impl GrantTable {
         })
     }
 
-    /// The table without one of its rows.
+    // The table without one of its rows.
     fn without_row(&self, row: &GrantRow) -> Result<GrantTable, NoMemory>
         requires { grant_with self.now row.now.grant ≡ Some row.now }
         ensures { IfOk result (λ table. table ≡ without self.now row.now.grant) }
@@ -251,7 +267,7 @@ impl GrantTable {
         self.without_row(self.get(grant).unwrap())
     }
 
-    /// The table without the grants of a key.
+    // The table without the grants of a key.
     fn without_key(&self, key: &KeyId) -> Result<GrantTable, NoMemory>
         ensures { IfOk result (λ table. table ≡ without_keys self.now (key.now ∷ [])) }
     {

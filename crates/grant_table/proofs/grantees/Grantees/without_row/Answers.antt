@@ -2,11 +2,12 @@ use Rattle.std.proofs.Common.{◌≡◌, ◌∙◌, ap, subst, sym}
 use Rattle.std.specs.Cmp.Lexicographic.{slice_cmp}
 use Rattle.std.specs.Ordering.{nat_cmp}
 use Rattle.persist_map.specs.Pairs.{with_pair, value_at}
+use Rattle.std.proofs.lemmas.Result.{IfOk-weaker}
 use Rattle.kms_names.specs.declared.principals.Principal.{Principal}
 use Rattle.persist_map.specs.Groups.{group_of, group_without}
 use Rattle.grant_table.specs.Tables.{Keys, groups_at}
 use Rattle.grant_table.proofs.PrincipalFacts.{principal_cmp}
-use Rattle.grant_table.proofs.GranteeFacts.{removed, removed_nothing, groups_found, if_ok}
+use Rattle.grant_table.proofs.GranteeFacts.{removed, removed_nothing, groups_found}
 use Rattle.grant_table.proofs.grantees.Grantees.without_row.Goals as goal
 
 pub returns : goal.returns
@@ -19,5 +20,5 @@ returns c =
 
 pub returns-in_default : goal.returns-in_default
 returns-in_default c =
-    if_ok c.share.result
+    IfOk-weaker c.share.result (λ changed. changed ≡ c.args.self.now) _
     (λ changed same. removed_nothing principal_cmp c.args.self.now c.args.row.now changed (c.in_default.ensures ∙ ap (λ (l : Keys). value_at (slice_cmp nat_cmp) l c.args.row.now.key) c.self.view_is) same) c.share.ensures
