@@ -1,24 +1,21 @@
 -- Rows by their places, after one is added or taken out.
-use Rattle.std.proofs.Common.{◌≡◌, ◌≢◌, ℕ, zero, suc, ◌<◌, Bool, true, false, not, cond, List, [], ◌∷◌, ◌++◌, length, get_or, map, filter, find, Option, None, Some, All, refl, ap, ◌∙◌, sym, subst, arith}
+use Rattle.std.proofs.Common.{◌≡◌, ◌≢◌, ℕ, ◌<◌, Bool, true, false, not, cond, List, [], ◌∷◌, ◌++◌, get_or, None, Some, refl, ap, ◌∙◌, sym, subst, arith}
 use Rattle.std.specs.Prelude.{AllPairs}
 use Rattle.std.specs.Cmp.{nat_cmp_is}
 use Rattle.std.specs.List.{AllByRecursion}
 use Rattle.std.specs.Option.{option_map}
 use Rattle.std.specs.Ordering.{nat_cmp, is_eq}
-use Rattle.std.specs.Str.{bytes_eq}
 use Rattle.std.specs.declared.cmp.Ordering.TheVariants.{Less, Equal, Greater}
-use Rattle.std.proofs.lemmas.Bool.{false≢true}
 use Rattle.std.proofs.lemmas.List.{map-append, get_or-map, length-map}
 use Rattle.std.proofs.lemmas.List.Elements.{recursion_from_All, All-push, All-filter}
 use Rattle.std.proofs.lemmas.List.Quantifiers.{all_pairs_push}
-use Rattle.std.proofs.lemmas.Option.{none-some, same_Some}
-use Rattle.std.proofs.lemmas.Slice.Eq.{bytes_eq-Decides}
+use Rattle.std.proofs.lemmas.Option.{same_Some}
 use Rattle.persist_map.specs.Pairs.{Ascends, value_at, with_pair, without_key}
 use Rattle.persist_map.proofs.Indexes.{none_behind, with_row_behind}
 use Rattle.grant_table.specs.declared.rows.GrantRow.{GrantRow}
 use Rattle.grant_table.specs.Grants.{has_id, grant_with, without, MayAdd, AreGrants}
 use Rattle.grant_table.specs.Tables.{rows_of, AreAtBirth}
-use Rattle.grant_table.proofs.Lists.{bytes_apart, first_before, pairs_behind, every_weaker, filter_alike, find_alike, found_has, found_passes, map_filter, map_find}
+use Rattle.grant_table.proofs.Lists.{bytes_apart, first_before, pairs_behind, every_weaker, filter_alike, find_alike, found_has, map_filter, map_find}
 
 -- ---- numbers in order
 

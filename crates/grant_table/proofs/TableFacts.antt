@@ -1,9 +1,8 @@
 -- What a table keeps, after a row is added or taken out.
-use Rattle.std.proofs.Common.{◌≡◌, ◌≢◌, ℕ, zero, suc, ◌<◌, Bool, true, false, not, ◌&&◌, ◌==◌, cond, List, [], ◌∷◌, ◌++◌, length, filter, find, Option, None, Some, refl, ap, ◌∙◌, sym, subst, arith}
+use Rattle.std.proofs.Common.{◌≡◌, ◌≢◌, ℕ, Bool, true, false, not, ◌&&◌, ◌==◌, cond, List, [], ◌∷◌, ◌++◌, length, filter, find, Option, None, Some, refl, ap, ◌∙◌, sym, subst, arith}
 use Rattle.std.specs.Cmp.Lexicographic.{slice_cmp}
 use Rattle.std.specs.List.{AllByRecursion}
-use Rattle.std.specs.Option.{option_map}
-use Rattle.std.specs.Ordering.{nat_cmp, is_eq}
+use Rattle.std.specs.Ordering.{nat_cmp}
 use Rattle.std.specs.Str.{bytes_eq}
 use Rattle.std.specs.declared.cmp.Ordering.{Ordering}
 use Rattle.std.proofs.lemmas.Bool.{false≢true}
@@ -20,12 +19,12 @@ use Rattle.persist_map.proofs.Orders.{equal}
 use Rattle.persist_map.specs.Groups.{group_of, group_with, group_without, IsIndexOf}
 use Rattle.grant_table.specs.Grants.{has_id, is_of_key, has_retiring, is_principal, grant_with, without, MayAdd, AreGrants}
 use Rattle.grant_table.specs.Principals.{same_principal}
-use Rattle.grant_table.specs.Tables.{rows_of, AreAtBirth, Keys, groups_at, grantee_group, grantee_group_with, grantee_group_without, is_of_grantee, AreTable}
+use Rattle.grant_table.specs.Tables.{rows_of, Keys, groups_at, grantee_group, grantee_group_with, grantee_group_without, is_of_grantee, AreTable}
 use Rattle.grant_table.specs.declared.rows.GrantRow.{GrantRow}
 use Rattle.grant_table.proofs.GrantFacts.{without_keeps, none_yet}
 use Rattle.grant_table.proofs.GranteeFacts.{bytes_turned}
 use Rattle.persist_map.proofs.Indexes.{IsOf, IsOfNone, index_with, index_with_apart, index_without, index_without_apart}
-use Rattle.grant_table.proofs.Lists.{bytes_apart, agree_everywhere, find_alike, find_none, find_push, every_weaker, filter_both, filter_alike}
+use Rattle.grant_table.proofs.Lists.{bytes_apart, agree_everywhere, find_alike, find_none, find_push, every_weaker, filter_both}
 use Rattle.grant_table.proofs.PrincipalFacts.{principal_cmp, principal_ties}
 use Rattle.grant_table.proofs.RowFacts.{births_ascend, place_free, rows_with, places_with, grants_with, at_place, rows_without, places_without}
 

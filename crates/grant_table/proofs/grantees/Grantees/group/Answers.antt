@@ -2,7 +2,7 @@ use Rattle.std.proofs.Common.{List, ℕ, Option, [], ◌∙◌, ap}
 use Rattle.std.specs.Option.{unwrap_or}
 use Rattle.persist_map.specs.Groups.{group_of}
 use Rattle.grant_table.specs.declared.rows.GrantRow.{GrantRow}
-use Rattle.grant_table.proofs.PrincipalFacts.{principal_cmp, principal_ties}
+use Rattle.grant_table.proofs.PrincipalFacts.{principal_cmp}
 use Rattle.grant_table.proofs.GranteeFacts.{groups_found, no_groups_found}
 use Rattle.grant_table.proofs.grantees.Grantees.group.Goals as goal
 

@@ -1,8 +1,7 @@
-use Rattle.std.proofs.Common.{ℕ, ◌∙◌, ap, sym}
+use Rattle.std.proofs.Common.{◌∙◌, ap}
 use Rattle.std.specs.Cmp.Lexicographic.{slice_cmp}
 use Rattle.std.specs.Ordering.{nat_cmp}
 use Rattle.persist_map.specs.Pairs.{value_at}
-use Rattle.grant_table.specs.Tables.{Keys}
 use Rattle.grant_table.specs.declared.rows.GrantRow.{GrantRow}
 use Rattle.grant_table.proofs.GranteeFacts.{groups_found, no_groups_found, same_insert}
 use Rattle.grant_table.proofs.grantees.Grantees.groups_with.Goals as goal

@@ -1,11 +1,11 @@
-use Rattle.std.proofs.Common.{◌≡◌, ◌∙◌, ap, subst, sym}
+use Rattle.std.proofs.Common.{◌≡◌, ◌∙◌, ap}
 use Rattle.std.specs.Cmp.Lexicographic.{slice_cmp}
 use Rattle.std.specs.Ordering.{nat_cmp}
 use Rattle.persist_map.specs.Pairs.{with_pair, value_at}
 use Rattle.std.proofs.lemmas.Result.{IfOk-weaker}
 use Rattle.kms_names.specs.declared.principals.Principal.{Principal}
-use Rattle.persist_map.specs.Groups.{group_of, group_without}
-use Rattle.grant_table.specs.Tables.{Keys, groups_at}
+use Rattle.persist_map.specs.Groups.{group_without}
+use Rattle.grant_table.specs.Tables.{Keys}
 use Rattle.grant_table.proofs.PrincipalFacts.{principal_cmp}
 use Rattle.grant_table.proofs.GranteeFacts.{removed, removed_nothing, groups_found}
 use Rattle.grant_table.proofs.grantees.Grantees.without_row.Goals as goal

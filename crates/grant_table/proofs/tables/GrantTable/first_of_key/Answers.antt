@@ -1,4 +1,4 @@
-use Rattle.std.proofs.Common.{Bor, ◌&&◌, true, Some, None, ◌∙◌, ap, sym, subst}
+use Rattle.std.proofs.Common.{Bor, ◌&&◌, true, Some, None, ◌∙◌, ap, subst}
 use Rattle.std.specs.Option.{option_map}
 use Rattle.persist_map.proofs.GroupFacts.{all_behind}
 use Rattle.grant_table.specs.Grants.{is_of_key, grant_of_key, AreGrants}

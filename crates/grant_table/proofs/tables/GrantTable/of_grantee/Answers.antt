@@ -1,6 +1,5 @@
 use Rattle.std.proofs.Common.{filter, ap, ◌∙◌}
 use Rattle.grant_table.specs.Tables.{rows_of, is_of_grantee}
-use Rattle.grant_table.specs.declared.rows.GrantRow.{GrantRow}
 use Rattle.grant_table.proofs.Lists.{map_filter}
 use Rattle.grant_table.proofs.tables.GrantTable.of_grantee.Goals as goal
 

@@ -1,4 +1,4 @@
-use Rattle.std.proofs.Common.{Bor, Some, ◌∙◌, ap, sym}
+use Rattle.std.proofs.Common.{Bor, Some, ◌∙◌, ap}
 use Rattle.std.specs.Option.{option_map}
 use Rattle.persist_map.specs.Groups.{pairs_behind}
 use Rattle.grant_table.specs.Grants.{is_of_key, grant_of_key}

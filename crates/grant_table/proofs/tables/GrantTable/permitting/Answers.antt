@@ -1,16 +1,15 @@
-use Rattle.std.proofs.Common.{◌≡◌, Bor, ℕ, Bool, ◌&&◌, ◌||◌, not, true, [], None, Some, find, ◌∙◌, ap, sym, refl, rules, tests}
+use Rattle.std.proofs.Common.{Bor, ℕ, ◌&&◌, ◌||◌, not, [], None, Some, ◌∙◌, ap, sym, refl, rules, tests}
 use Rattle.std.specs.Option.{option_map}
 use Rattle.std.specs.Str.{bytes_eq}
 use Rattle.std.proofs.lemmas.Iterator.Consumers.{YieldsList-from_first}
 use Rattle.std.proofs.lemmas.Iterator.Search.{find_from_yields_List}
 use Rattle.kms_names.specs.GrantOps.{contains}
-use Rattle.kms_names.specs.declared.operations.GrantOp.TheVariants.{CreateGrant}
-use Rattle.grant_table.specs.Constraints.{constraint_holds, same_constraint}
-use Rattle.grant_table.specs.Grants.{asks_constraint, permits, is_parent, is_child_of, is_same, has_name, same_retiring, same_operations}
+use Rattle.grant_table.specs.Constraints.{constraint_holds}
+use Rattle.grant_table.specs.Grants.{asks_constraint, permits}
 use Rattle.grant_table.specs.Principals.{same_principal}
 use Rattle.grant_table.specs.Tables.{is_of_grantee}
 use Rattle.grant_table.specs.declared.rows.GrantRow.{GrantRow}
-use Rattle.grant_table.proofs.LookUps.{first_found, first_seen, seen, row_seen, only_grantee, only_named, and_first}
+use Rattle.grant_table.proofs.LookUps.{first_found, first_seen, seen, row_seen, only_grantee}
 use Rattle.grant_table.proofs.PermitFacts.{none_permits}
 use Rattle.grant_table.proofs.tables.GrantTable.permitting.Goals as goal
 

@@ -1,4 +1,4 @@
-use Rattle.std.proofs.Common.{◌≡◌, List, ℕ, None, Some, ◌==◌, length, ◌∙◌, ap, sym, subst}
+use Rattle.std.proofs.Common.{◌≡◌, List, ℕ, Some, ◌==◌, ◌∙◌, ap, sym, subst}
 use Rattle.grant_table.specs.Grants.{grant_with, without}
 use Rattle.grant_table.specs.Tables.{AreTable}
 use Rattle.grant_table.specs.declared.rows.GrantRow.{GrantRow}
