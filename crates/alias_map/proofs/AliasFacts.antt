@@ -1,10 +1,11 @@
 -- A row put in its place, and what stays true of aliases.
 use Rattle.std.proofs.Common.{◌≡◌, ◌≢◌, ◌⊎◌, inl, inr, ℕ, suc, ◌+◌, ◌<◌, ◌≤◌, Bool, true, false, not, cond, List, [], ◌∷◌, ◌++◌, length, get_or, set, length-set, None, Some, refl, sym, ◌∙◌, ap, subst, arith}
-use Rattle.std.specs.Prelude.{nat_lt, position, MatchOption, AllPairs}
+use Rattle.std.specs.Prelude.{MatchOption, AllPairs}
 use Rattle.std.specs.Bool.{Decides}
-use Rattle.std.specs.List.{position_or_len}
+use Rattle.std.specs.List.{AllByRecursion, position_or_len}
+use Rattle.std.specs.Str.{bytes_eq}
+use Rattle.std.proofs.lemmas.List.Elements.{recursion_from_All}
 use Rattle.std.proofs.lemmas.Bool.{false≢true}
-use Rattle.std.proofs.lemmas.Bool.Decides.{Decides-ltb}
 use Rattle.std.proofs.lemmas.List.{get_or-set_same, get_or-set_other, get_or_default}
 use Rattle.std.proofs.lemmas.List.Folds.{find_at}
 use Rattle.std.proofs.lemmas.List.Kept.{AllPairs-filter}
@@ -45,30 +46,30 @@ put_behind (first ∷ rest) row past = by_test (has_name row.name first) (put_be
 within : (rows : List AliasRow) (row : AliasRow) → (place_of rows row < length rows) ⊎ (length rows ≤ place_of rows row)
 within rows row = grind arith
 
-module _ (rows : List AliasRow) (row : AliasRow) where
-  abbrev IsWithin : Type 0
-  IsWithin = place_of rows row < length rows
-
-  found : (b : Bool) → Decides b IsWithin → (i : ℕ) → Some i ≡ cond b (Some (place_of rows row)) None → IsWithin × (i ≡ place_of rows row)
-  found true (to, back) i at = (to refl, cc)
-  found false (to, back) i at = absurd (cc)
-
-  not_found : (b : Bool) → Decides b IsWithin → None ≡ cond b (Some (place_of rows row)) None → length rows ≤ place_of rows row
-  not_found true (to, back) at = absurd (cc)
-  not_found false (to, back) at = elim (within rows row) [ inl lt ↦ absurd (false≢true (back lt)) | inr past ↦ past ]
-
-  pub put_at : (i : ℕ) → Some i ≡ position (has_name row.name) rows → set rows i row ≡ with_row rows row
-  put_at i at =
-      let f = found (nat_lt (place_of rows row) (length rows)) (Decides-ltb (place_of rows row) (length rows)) i at in
-      subst (λ n. set rows n row ≡ with_row rows row) (sym f.1) (put_there rows row f.0)
-
-  pub put_last : None ≡ position (has_name row.name) rows → rows ++ row ∷ [] ≡ with_row rows row
-  put_last at = put_behind rows row (not_found (nat_lt (place_of rows row) (length rows)) (Decides-ltb (place_of rows row) (length rows)) at)
-
 -- ---- what stays true
 
-same_name : (name : List ℕ) (row : AliasRow) → Decides (has_name name row) (row.name ≡ name)
-same_name name row = bytes_eq-Decides row.name name
+decides_name : (name : List ℕ) (row : AliasRow) → Decides (has_name name row) (row.name ≡ name)
+decides_name name row = bytes_eq-Decides row.name name
+
+pub same_name : (name : List ℕ) (row : AliasRow) → has_name name row ≡ true → row.name ≡ name
+same_name name row = (decides_name name row).0
+
+pub apart : (a b : List ℕ) → a ≢ b → bytes_eq a b ≡ false
+apart a b differ = by_test (bytes_eq a b) (bytes_eq-Decides a b).0
+  where
+    by_test : (t : Bool) → (t ≡ true → a ≡ b) → t ≡ false
+    by_test true same = absurd (differ (same refl))
+    by_test false same = refl
+
+-- the aliases behind the first one
+pub aliases_behind : (row : AliasRow) (rows : List AliasRow) → AreAliases (row ∷ rows) → AreAliases rows
+aliases_behind row rows aliases = (
+  (λ i j d before within. aliases.0 (suc i) (suc j) d (omega arith) (omega arith)),
+  (λ i j d before within. aliases.1 (suc i) (suc j) d (omega arith) (omega arith)),
+)
+
+pub differ_behind : (row : AliasRow) (rows : List AliasRow) → AreAliases (row ∷ rows) → AllByRecursion (λ (other : AliasRow). row.name ≢ other.name) rows
+differ_behind row rows aliases = recursion_from_All (λ (other : AliasRow). row.name ≢ other.name) rows (λ k d within. aliases.0 0 (suc k) d (omega arith) (omega arith))
 
 pub without_keeps : (rows : List AliasRow) (name : List ℕ) → AreAliases rows → AreAliases (without rows name)
 without_keeps rows name (names, births) = (
@@ -106,7 +107,7 @@ module _ (rows : List AliasRow) (row : AliasRow) (aliases : AreAliases rows) whe
       at d = get_or_default rows (place_of rows row) row d lt
 
       name_at : (d : AliasRow) → row.name ≡ (get_or rows (place_of rows row) d).name
-      name_at d = sym ((same_name row.name (get_or rows (place_of rows row) d)).0 (passes_at_first (has_name row.name) rows d lt))
+      name_at d = sym ((decides_name row.name (get_or rows (place_of rows row) d)).0 (passes_at_first (has_name row.name) rows d lt))
 
       born_at : (d : AliasRow) → row.born ≡ (get_or rows (place_of rows row) d).born
       born_at d = sym like.0 ∙ ap (λ (r : AliasRow). r.born) (at d)
@@ -129,7 +130,7 @@ module _ (rows : List AliasRow) (row : AliasRow) (aliases : AreAliases rows) whe
   keeps_behind : length rows ≤ place_of rows row → AreBefore rows row.born → AreAliases (rows ++ row ∷ [])
   keeps_behind past before = (
     all_pairs_push (λ (p q : AliasRow). p.name ≢ q.name) rows row aliases.0
-        (λ k d lt e. false≢true (sym (fails_before_first (has_name row.name) rows k d (omega arith)) ∙ (same_name row.name (get_or rows k d)).1 e)),
+        (λ k d lt e. false≢true (sym (fails_before_first (has_name row.name) rows k d (omega arith)) ∙ (decides_name row.name (get_or rows k d)).1 e)),
     all_pairs_push (λ (p q : AliasRow). p.born < q.born) rows row aliases.1 (λ k d lt. before k d lt),
   )
 

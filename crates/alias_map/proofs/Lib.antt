@@ -1,2 +1,4 @@
 pub mod AliasFacts
-pub mod IndexFacts
+pub mod KeptFacts
+pub mod KeyFacts
+pub mod Reading

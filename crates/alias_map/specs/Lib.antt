@@ -1,2 +1,2 @@
 pub mod Aliases
-pub mod Index
+pub mod Kept

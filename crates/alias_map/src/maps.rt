@@ -1,22 +1,28 @@
 //! The aliases of an account.
 
-ghost use Rattle.std.specs.Prelude.{◌≡◌, find, position, IfOk};
-ghost use Rattle.kms_names.specs.Place.{is_behind};
+ghost use Rattle.std.specs.Prelude.{◌≡◌, ◌<◌, [], length, filter, MatchOption, IfOk};
 ghost use Rattle.std.specs.Option.{option_map};
-ghost use Rattle.alias_map.specs.Aliases.{has_name, names_key, with_row};
-ghost use Rattle.alias_map.specs.Index.{AreByName};
+ghost use Rattle.std.specs.Cmp.Lexicographic.{slice_cmp};
+ghost use Rattle.std.specs.Ordering.{nat_cmp};
+ghost use Rattle.persist_map.specs.Pairs.{with_pair};
+ghost use Rattle.alias_map.specs.Aliases.{names_key, row_named, row_after, row_of_key, with_row, without, without_keys, MayPut, IsThere, AreAliases};
+ghost use Rattle.alias_map.specs.Kept.{of_others};
 
+use crate::iterators::RowsOfKey;
 use crate::rows::AliasRow;
-use kms_names::{AliasName, KeyId, NoMemory, is_behind};
+use kms_names::{AliasName, KeyId, NoMemory};
+use persist_map::{PGroups, PMap, Shared};
 use std::alloc::Global;
 use std::marker::Model;
 
-/// The aliases of an account. Contracts see it as the list of its rows in order of making. A changed map is a new one:
-/// the old one stays as it was.
+/// The aliases of an account. Contracts see it as the list of its rows in order of making. A changed map is a new one,
+/// which shares what stays with the old one; the old one stays as it was.
 #[derive(Drop)]
 pub struct AliasMap {
-    rows: Vec<AliasRow>,
-    by_name: Vec<AliasRow>,
+    alloc: Global,
+    rows: PMap<u64, Shared<AliasRow>>,
+    by_name: PMap<AliasName, Shared<AliasRow>>,
+    by_key: PGroups<KeyId, Shared<AliasRow>>,
 }
 
 impl Model for AliasMap {
@@ -25,84 +31,35 @@ impl Model for AliasMap {
 
     ghost Value = { List AliasRow };
 
-    ghost use Rattle.alias_map.specs.Aliases.{AreAliases};
-    ghost use Rattle.alias_map.specs.Index.{AreByName};
+    ghost use Rattle.alias_map.specs.Kept.{rows_in, AreKept};
 
-    ghost view = { λ map. map.rows.items };
+    ghost view = { λ m. rows_in m.rows };
 
-    ghost invariant = { λ map. AreAliases map.rows.items × AreByName map.rows.items map.by_name.items };
+    ghost invariant = { λ m. AreKept m.rows m.by_name m.by_key };
 }
 
-/// The same rows.
-fn copied(alloc: Global, rows: &[AliasRow]) -> Result<Vec<AliasRow>, NoMemory>
-    ensures { IfOk result (λ copies. copies.items ≡ rows.now) }
+// The rows by their names, with one in place of the one of its name, or one more.
+fn with_name(
+    by_name: &PMap<AliasName, Shared<AliasRow>>,
+    row: Shared<AliasRow>,
+) -> Result<PMap<AliasName, Shared<AliasRow>>, NoMemory>
+    ensures { IfOk result (λ names. names ≡ with_pair (slice_cmp nat_cmp) by_name.now row.name row) }
 {
-    let mut copies = Vec::with_capacity(alloc, rows.len())?;
-    for row in rows {
-        copies.push(row.copy()?)?;
-    }
-    Ok(copies)
-}
-
-/// The same rows in order of their names.
-fn sorted_by_name(alloc: Global, rows: &[AliasRow]) -> Result<Vec<AliasRow>, NoMemory>
-    ensures { IfOk result (λ sorted. AreByName rows.now sorted.items) }
-{
-    let mut sorted = copied(alloc, rows)?;
-    sorted.sort_by(|row, other| row.name.as_str().cmp(other.name.as_str()))?;
-    Ok(sorted)
-}
-
-/// The first row of a key.
-fn first_of_key<'a>(rows: &'a [AliasRow], key: &KeyId) -> Option<&'a AliasRow>
-    ensures { option_map (λ row. row.now) result ≡ find (names_key key.now) rows.now }
-{
-    for row in rows {
-        if row.names_key(key) {
-            return Some(row);
-        }
-    }
-    None
-}
-
-/// The rows with one more, in the first place of its name or behind all where none has it.
-fn placed(
-    mut rows: Vec<AliasRow>,
-    place: Option<usize>,
-    row: AliasRow,
-) -> Result<Vec<AliasRow>, NoMemory>
-    requires { place ≡ position (has_name row.name) rows.items }
-    ensures { IfOk result (λ placed. placed.items ≡ with_row rows.items row) }
-{
-    match place {
-        Some(place) => rows[place] = row,
-        None => rows.push(row)?,
-    }
-    Ok(rows)
+    let name = row.value().name.copy()?;
+    by_name.insert(name, row)
 }
 
 impl AliasMap {
-    ghost use Rattle.std.specs.Prelude.{◌≡◌, [], length, filter, position, IfOk};
-    ghost use Rattle.std.specs.Option.{option_map};
-    ghost use Rattle.alias_map.specs.Aliases.{has_name, row_named, row_after, row_of_key, with_row, without, without_keys, MayPut, IsThere, AreAliases};
-
     /// No aliases; no memory is taken. The map and those that are made of it keep the allocator.
     pub fn new(alloc: Global) -> AliasMap
         ensures { result ≡ [] }
     {
         AliasMap {
-            rows: Vec::new(alloc),
-            by_name: Vec::new(alloc),
+            alloc,
+            rows: PMap::new(alloc),
+            by_name: PMap::new(alloc),
+            by_key: PGroups::new(alloc),
         }
-    }
-
-    /// The map of these rows.
-    fn of_rows(rows: Vec<AliasRow>) -> Result<AliasMap, NoMemory>
-        requires { AreAliases rows.items }
-        ensures { IfOk result (λ map. map ≡ rows.items) }
-    {
-        let by_name = sorted_by_name(*rows.allocator(), rows.as_slice())?;
-        Ok(AliasMap { rows, by_name })
     }
 
     /// How many aliases there are. No two have one name, and each was made before those behind it. No memory is taken.
@@ -113,41 +70,21 @@ impl AliasMap {
         self.rows.len()
     }
 
-    /// All aliases, in order of making. No two have one name, and each was made before those behind it. No memory is
-    /// taken.
-    pub fn rows(&self) -> &[AliasRow]
-        ensures rows { result.now ≡ self.now }
-        ensures aliases { AreAliases self.now }
-    {
-        self.rows.as_slice()
-    }
-
     /// The alias of a name. No memory is taken.
     pub fn resolve(&self, name: &AliasName) -> Option<&AliasRow>
         ensures { option_map (λ row. row.now) result ≡ row_named self.now name.now }
     {
-        match self
-            .by_name
-            .binary_search_by(|row| row.name.as_str().cmp(name.as_str()))
-        {
-            Ok(place) => Some(&self.by_name[place]),
-            Err(_) => None,
+        let row = self.by_name.look_up(name)?;
+        Some(row.value())
+    }
+
+    /// The aliases of a key, in order of making. No memory is taken.
+    pub fn rows_of_key(&self, key: &KeyId) -> RowsOfKey<'_>
+        ensures { result ≡ filter (names_key key.now) self.now }
+    {
+        RowsOfKey {
+            rows: self.by_key.group(key),
         }
-    }
-
-    /// The place of the alias of a name among the rows.
-    fn place_of(&self, name: &AliasName) -> Option<usize>
-        ensures { result ≡ position (has_name name.now) self.now }
-    {
-        self.rows.iter().position(|row| row.has_name(name))
-    }
-
-    /// The aliases that were made behind a place, or all.
-    fn behind(&self, after: Option<u64>) -> &[AliasRow]
-        ensures { result.now ≡ filter (λ row. is_behind after row.born) self.now }
-    {
-        let start = self.rows.partition_point(|row| !is_behind(after, row.born));
-        &self.rows[start..]
     }
 
     /// The first alias of a key, in order of making, that was made behind a place, or the first of all of its aliases.
@@ -155,14 +92,16 @@ impl AliasMap {
     pub fn of_key(&self, key: &KeyId, after: Option<u64>) -> Option<&AliasRow>
         ensures { option_map (λ row. row.now) result ≡ row_of_key self.now key.now after }
     {
-        first_of_key(self.behind(after), key)
+        let (_, row) = self.by_key.group_behind(key, after).next()?;
+        Some(row.value())
     }
 
     /// The first alias, in order of making, that was made behind a place, or the first of all. No memory is taken.
     pub fn of_all(&self, after: Option<u64>) -> Option<&AliasRow>
         ensures { option_map (λ row. row.now) result ≡ row_after self.now after }
     {
-        self.behind(after).first()
+        let (_, row) = self.rows.behind(after).next()?;
+        Some(row.value())
     }
 
     /// The map with a row: in the place of the alias of its name, whose birth and making it has, or, where none has the
@@ -171,9 +110,19 @@ impl AliasMap {
         requires { MayPut self.now row }
         ensures { IfOk result (λ map. map ≡ with_row self.now row) }
     {
-        let rows = copied(*self.rows.allocator(), self.rows.as_slice())?;
-        let rows = placed(rows, self.place_of(&row.name), row)?;
-        AliasMap::of_rows(rows)
+        let by_key = match self.by_name.look_up(&row.name) {
+            Some(old) => self.by_key.remove(old.value().key, old.value().born)?,
+            None => self.by_key.share()?,
+        };
+        let key = row.key;
+        let born = row.born;
+        let row = Shared::new(self.alloc, row)?;
+        Ok(AliasMap {
+            alloc: self.alloc,
+            rows: self.rows.insert(born, row.share()?)?,
+            by_name: with_name(&self.by_name, row.share()?)?,
+            by_key: by_key.insert(key, born, row)?,
+        })
     }
 
     /// The map without the alias of a name, which is there.
@@ -181,36 +130,60 @@ impl AliasMap {
         requires { IsThere self.now name.now }
         ensures { IfOk result (λ map. map ≡ without self.now name.now) }
     {
-        let mut rows = Vec::new(*self.rows.allocator());
-        for row in &self.rows {
-            if !row.has_name(name) {
-                rows.push(row.copy()?)?;
-            }
-        }
-        AliasMap::of_rows(rows)
+        let Some(row) = self.by_name.look_up(name) else {
+            return self.share();
+        };
+        let row = row.value();
+        Ok(AliasMap {
+            alloc: self.alloc,
+            rows: self.rows.remove(&row.born)?,
+            by_name: self.by_name.remove(name)?,
+            by_key: self.by_key.remove(row.key, row.born)?,
+        })
     }
 
-    /// The map without the aliases of some keys. Its time grows with the number of aliases times that of the keys.
+    // The map without the first alias of a key, or None where the key has none.
+    fn without_first(&self, key: &KeyId) -> Result<Option<AliasMap>, NoMemory>
+        ensures { IfOk result (λ next. MatchOption next (of_others key.now self.now ≡ self.now) (λ map. (length map < length self.now) × (of_others key.now map ≡ of_others key.now self.now))) }
+    {
+        let Some((_, row)) = self.by_key.group(key).next() else {
+            return Ok(None);
+        };
+        let map = self.drop_one(&row.value().name)?;
+        Ok(Some(map))
+    }
+
+    // The map without the aliases of a key.
+    fn without_key(&self, key: &KeyId) -> Result<AliasMap, NoMemory>
+        ensures { IfOk result (λ map. map ≡ of_others key.now self.now) }
+    {
+        let mut map = self.share()?;
+        while let Some(next) = map.without_first(key)? {
+            map = next;
+        }
+        Ok(map)
+    }
+
+    /// The map without the aliases of some keys. Its time grows with the number of the keys and that of their aliases.
     pub fn without_keys(&self, keys: &[KeyId]) -> Result<AliasMap, NoMemory>
         ensures { IfOk result (λ map. map ≡ without_keys self.now keys.now) }
     {
-        let mut rows = Vec::new(*self.rows.allocator());
-        for row in &self.rows {
-            if !row.names_any(keys) {
-                rows.push(row.copy()?)?;
-            }
+        let mut map = self.share()?;
+        for key in keys {
+            map = map.without_key(key)?;
         }
-        AliasMap::of_rows(rows)
+        Ok(map)
     }
 
     /// The same map.
     pub fn share(&self) -> Result<AliasMap, NoMemory>
         ensures { IfOk result (λ map. map ≡ self.now) }
     {
-        let alloc = *self.rows.allocator();
         Ok(AliasMap {
-            rows: copied(alloc, self.rows.as_slice())?,
-            by_name: copied(alloc, self.by_name.as_slice())?,
+            alloc: self.alloc,
+            rows: self.rows.share()?,
+            by_name: self.by_name.share()?,
+            by_key: self.by_key.share()?,
         })
     }
 }

@@ -1,8 +1,8 @@
 //! Aliases as an account keeps them.
 
-ghost use Rattle.std.specs.Prelude.{◌≡◌, ◌&&◌, IfOk};
+ghost use Rattle.std.specs.Prelude.{◌≡◌, IfOk};
 ghost use Rattle.std.specs.Str.{bytes_eq};
-ghost use Rattle.alias_map.specs.Aliases.{has_name, names_key, names_any};
+ghost use Rattle.alias_map.specs.Aliases.{has_name, names_key};
 
 use kms_names::{AliasName, KeyId, NoMemory};
 
@@ -47,12 +47,5 @@ impl AliasRow {
         ensures { result ≡ names_key key.now self.now }
     {
         self.key == *key
-    }
-
-    /// Whether it names one of these keys. Its time grows with their number.
-    pub(crate) fn names_any(&self, keys: &[KeyId]) -> bool
-        ensures { result ≡ names_any keys.now self.now }
-    {
-        keys.iter().any(|key| self.names_key(key))
     }
 }

@@ -2,7 +2,7 @@
 ghost use Rattle.std.specs.Prelude.{◌≡◌, [], IfOk, option_map};
 ghost use Rattle.authority.specs.Setting.{names_of};
 
-use alias_map::{AliasMap, AliasRow};
+use alias_map::AliasMap;
 use enc_context::{Context, Pair};
 use grant_table::Constraint;
 use kms_names::{AliasName, GrantOps, KeyId, NoMemory, Principal, Text, TextList};
@@ -37,14 +37,12 @@ impl<'a> Model for Setting<'a> {
 }
 
 // The names of the aliases that name a key.
-fn names_of(alloc: Global, aliases: &[AliasRow], key: &KeyId) -> Result<TextList, NoMemory>
+fn names_of(alloc: Global, aliases: &AliasMap, key: &KeyId) -> Result<TextList, NoMemory>
     ensures { IfOk result (λ names. names ≡ names_of key.now aliases.now) }
 {
     let mut names = Vec::new(alloc);
-    for row in aliases {
-        if row.key == *key {
-            names.push(Text::from_str(alloc, row.name.as_str())?)?;
-        }
+    for row in aliases.rows_of_key(key) {
+        names.push(Text::from_str(alloc, row.name.as_str())?)?;
     }
     Ok(TextList::new(names))
 }
@@ -68,12 +66,11 @@ impl<'a> Model for KeyAliases<'a> {
 }
 
 impl KeyAliases<'_> {
-    /// Copies of the names of the key's aliases, in order of making. The time grows with the number of the account's
-    /// aliases.
+    /// Copies of the names of the key's aliases, in order of making. The time grows with their number.
     pub fn names(&self, alloc: Global) -> Result<TextList, NoMemory>
         ensures { IfOk result (λ names. names ≡ self.now) }
     {
-        names_of(alloc, self.aliases.rows(), self.key)
+        names_of(alloc, self.aliases, self.key)
     }
 }
 

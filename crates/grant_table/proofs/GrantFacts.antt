@@ -8,18 +8,12 @@ use Rattle.grant_table.specs.declared.rows.GrantRow.{GrantRow}
 use Rattle.kms_names.specs.declared.operations.GrantOps.{GrantOps}
 use Rattle.kms_names.specs.GrantOps.{contains, IsSubset}
 use Rattle.kms_names.proofs.OperationFacts.{all_implied, all_imply}
-use Rattle.grant_table.specs.Grants.{is_subset, has_id, is_of_any, without, without_keys, AreGrants}
+use Rattle.grant_table.specs.Grants.{is_subset, has_id, without, AreGrants}
 
 pub without_keeps : (rows : List GrantRow) (grant : List ℕ) → AreGrants rows → AreGrants (without rows grant)
 without_keeps rows grant (ids, births) = (
   AllPairs-filter (λ (p q : GrantRow). p.grant ≢ q.grant) (λ row. not (has_id grant row)) rows ids,
   AllPairs-filter (λ (p q : GrantRow). p.born < q.born) (λ row. not (has_id grant row)) rows births,
-)
-
-pub without_keys_keeps : (rows : List GrantRow) (keys : List (List ℕ)) → AreGrants rows → AreGrants (without_keys rows keys)
-without_keys_keeps rows keys (ids, births) = (
-  AllPairs-filter (λ (p q : GrantRow). p.grant ≢ q.grant) (λ row. not (is_of_any keys row)) rows ids,
-  AllPairs-filter (λ (p q : GrantRow). p.born < q.born) (λ row. not (is_of_any keys row)) rows births,
 )
 
 -- the test of operations decides that they are among others

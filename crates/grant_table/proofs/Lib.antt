@@ -1,4 +1,9 @@
 pub mod GrantFacts
-pub mod IndexFacts
-pub mod PlaceFacts
+pub mod GranteeFacts
+pub mod KeyFacts
+pub mod Lists
+pub mod LookUps
 pub mod PermitFacts
+pub mod PrincipalFacts
+pub mod RowFacts
+pub mod TableFacts

@@ -5,6 +5,7 @@ use Rattle.std.specs.Bool.{Decides}
 use Rattle.std.specs.Option.{option_map}
 use Rattle.std.specs.Str.{bytes_eq}
 use Rattle.std.proofs.lemmas.Bool.{false≢true}
+use Rattle.std.proofs.lemmas.List.Elements.{All-from_recursion}
 use Rattle.std.proofs.lemmas.Bool.Decides.{Decides-and, Decides-like}
 use Rattle.std.proofs.lemmas.Slice.Eq.{bytes_eq-Decides}
 use Rattle.kms_names.specs.GrantOps.{contains}
@@ -19,7 +20,7 @@ use Rattle.grant_table.specs.Principals.{same_principal}
 use Rattle.grant_table.specs.declared.constraints.Constraint.{Constraint}
 use Rattle.grant_table.specs.declared.constraints.Constraint.TheVariants.{Free, Equals, Subset}
 use Rattle.grant_table.specs.declared.rows.GrantRow.{GrantRow}
-use Rattle.grant_table.proofs.PlaceFacts.{find_passes, find_fails}
+use Rattle.grant_table.proofs.Lists.{found_passes, none_passes}
 
 never : {P : Type 0} → (P → false ≡ true) → Decides false P
 never none = ((λ t. absurd (cc)), none)
@@ -58,9 +59,9 @@ permits_decides key caller op context row =
 module _ (rows : List GrantRow) (key : List ℕ) (caller : Principal) (op : GrantOp) (context : List Pair) where
   pub permits_found : (r : Option (Bor GrantRow)) → option_map (λ (row : Bor GrantRow). row.now) r ≡ find (permits key caller op context) rows → IfSome r (λ row. Permits row.now key caller op context)
   permits_found None found = tt
-  permits_found (Some row) found = (permits_decides key caller op context row.now).0 (find_passes (permits key caller op context) rows row.now found)
+  permits_found (Some row) found = (permits_decides key caller op context row.now).0 (found_passes (permits key caller op context) rows row.now (sym found))
 
   pub none_permits : (r : Option (Bor GrantRow)) → option_map (λ (row : Bor GrantRow). row.now) r ≡ find (permits key caller op context) rows → IfNone r (All (λ row. ¬ (Permits row key caller op context)) rows)
   none_permits None none =
-      λ k d lt h. false≢true (sym (find_fails (permits key caller op context) rows none k d lt) ∙ (permits_decides key caller op context (get_or rows k d)).1 h)
+      λ k d lt h. false≢true (sym (All-from_recursion (λ row. permits key caller op context row ≡ false) rows (none_passes (permits key caller op context) rows (sym none)) k d lt) ∙ (permits_decides key caller op context (get_or rows k d)).1 h)
   none_permits (Some row) found = tt

@@ -1,5 +1,4 @@
 pub mod Principals
 pub mod Constraints
 pub mod Grants
-pub mod Index
 pub mod Tables

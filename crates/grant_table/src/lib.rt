@@ -2,7 +2,7 @@
 #![tactic(auto)]
 
 mod constraints;
-mod index;
+mod grantees;
 mod principals;
 mod rows;
 mod tables;

@@ -1,7 +1,7 @@
 //! Grants as an account keeps them.
 
 ghost use Rattle.std.specs.Prelude.{◌≡◌, ◌↔◌, ◌&&◌, [], IsTrue, IfOk};
-ghost use Rattle.grant_table.specs.Grants.{asks_constraint, Permits, permits, IsChildOf, is_child_of, is_parent, is_subset, has_name, same_operations, is_same, has_id, is_of_any, has_retiring};
+ghost use Rattle.grant_table.specs.Grants.{asks_constraint, Permits, permits, IsChildOf, is_child_of, is_parent, is_subset, has_name, same_operations, is_same, has_id, has_retiring};
 ghost use Rattle.grant_table.specs.Principals.{same_principal};
 ghost use Rattle.kms_names.specs.declared.operations.GrantOp.TheVariants.{CreateGrant};
 
@@ -164,13 +164,6 @@ impl GrantRow {
             Some(own) => own == name,
             None => false,
         }
-    }
-
-    /// Whether it is of one of these keys. Its time grows with their number.
-    pub(crate) fn is_of_any(&self, keys: &[KeyId]) -> bool
-        ensures { result ≡ is_of_any keys.now self.now }
-    {
-        keys.iter().any(|key| self.key == *key)
     }
 
     /// Whether this is its retiring principal.

@@ -1,26 +1,46 @@
 //! The grants of an account.
 
-ghost use Rattle.std.specs.Prelude.{◌≡◌, find, slice_get, IfOk};
-ghost use Rattle.kms_names.specs.Place.{is_behind};
-ghost use Rattle.std.specs.Option.{option_map};
-ghost use Rattle.grant_table.specs.Grants.{has_id, has_retiring, permits, is_parent, is_same};
-ghost use Rattle.grant_table.specs.Index.{rows_at, IsIndexOf};
+ghost use Rattle.std.specs.Prelude.{◌≡◌, [], Some, None, filter, length, IfOk, IfSome};
+ghost use Rattle.std.specs.Option.{option_map, unwrap_or};
+ghost use Rattle.kms_names.specs.declared.principals.Principal.{Principal as PrincipalValue};
+ghost use Rattle.persist_map.specs.Groups.{group_of, group_with, group_without};
+ghost use Rattle.grant_table.specs.Tables.{is_of_grantee, rows_of};
 
 use crate::constraints::Constraint;
-use crate::index::{Entry, group, in_order};
+use crate::grantees::Grantees;
+use crate::principals::copy_of_principal;
 use crate::rows::GrantRow;
 use enc_context::Context;
-use kms_names::{GrantId, GrantOp, GrantOps, KeyId, NoMemory, Principal, Text, is_behind};
+use kms_names::{GrantId, GrantOp, GrantOps, KeyId, NoMemory, Principal, Text};
+use persist_map::{PFrom, PGroups, PMap, Shared};
 use std::alloc::Global;
 use std::marker::Model;
 
-/// The grants of an account. Contracts see it as the list of its rows in order of making. A changed table is a new one:
-/// the old one stays as it was.
-#[derive(Drop)]
+/// The grants of an account. Contracts see it as the list of its rows in order of making. A changed table is a new one,
+/// which shares what stays with the old one; the old one stays as it was.
 pub struct GrantTable {
-    rows: Vec<GrantRow>,
-    by_id: Vec<Entry<GrantId>>,
-    by_key: Vec<Entry<KeyId>>,
+    alloc: Global,
+    // By the places of their making.
+    rows: PMap<u64, Shared<GrantRow>>,
+    by_id: PMap<GrantId, Shared<GrantRow>>,
+    by_key: PGroups<KeyId, Shared<GrantRow>>,
+    by_grantee: Grantees,
+    // Those that have a retiring principal.
+    by_retiring: PGroups<Principal, Shared<GrantRow>>,
+}
+
+// Each crate that lets a table go calls this one drop, and doesn't take it apart itself.
+impl Drop for GrantTable {
+    fn drop(self) {
+        let GrantTable {
+            alloc: _,
+            rows: _,
+            by_id: _,
+            by_key: _,
+            by_grantee: _,
+            by_retiring: _,
+        } = self;
+    }
 }
 
 impl Model for GrantTable {
@@ -29,165 +49,44 @@ impl Model for GrantTable {
 
     ghost Value = { List GrantRow };
 
-    ghost use Rattle.grant_table.specs.Tables.{AreTable};
+    ghost use Rattle.grant_table.specs.Tables.{AreTable, rows_of};
 
-    ghost view = { λ table. table.rows.items };
+    ghost view = { λ table. rows_of table.rows };
 
-    ghost invariant = { λ table. AreTable table.rows.items table.by_id.items table.by_key.items };
+    ghost invariant = { λ table. AreTable ⟦<Principal as Ord>⟧.cmp table.rows table.by_id table.by_key table.by_grantee table.by_retiring };
 }
 
-/// The same rows.
-fn copied(alloc: Global, rows: &[GrantRow]) -> Result<Vec<GrantRow>, NoMemory>
-    ensures { IfOk result (λ copies. copies.items ≡ rows.now) }
+// The groups of retiring principals with a row, where it has one.
+fn retiring_with(
+    groups: &PGroups<Principal, Shared<GrantRow>>,
+    row: Shared<GrantRow>,
+) -> Result<PGroups<Principal, Shared<GrantRow>>, NoMemory>
+    ensures none { row.retiring ≡ None → IfOk result (λ changed. changed ≡ groups.now) }
+    ensures some { (retiring : PrincipalValue) → row.retiring ≡ Some retiring → IfOk result (λ changed. (other : PrincipalValue) → group_of ⟦<Principal as Ord>⟧.cmp changed other ≡ group_with ⟦<Principal as Ord>⟧.cmp groups.now retiring row.born row other) }
 {
-    let mut copies = Vec::with_capacity(alloc, rows.len())?;
-    for row in rows {
-        copies.push(row.copy()?)?;
-    }
-    Ok(copies)
+    let Some(retiring) = copy_of_principal(&row.value().retiring)? else {
+        return groups.share();
+    };
+    let born = row.value().born;
+    groups.insert(retiring, born, row)
 }
 
-/// The places of rows by their ids.
-fn places_by_id(alloc: Global, rows: &[GrantRow]) -> Result<Vec<Entry<GrantId>>, NoMemory>
-    ensures { IfOk result (λ entries. IsIndexOf (λ row. row.grant) rows.now entries.items) }
+// The groups of retiring principals without a row.
+fn retiring_without(
+    groups: &PGroups<Principal, Shared<GrantRow>>,
+    row: &GrantRow,
+) -> Result<PGroups<Principal, Shared<GrantRow>>, NoMemory>
+    ensures none { row.now.retiring ≡ None → IfOk result (λ changed. changed ≡ groups.now) }
+    ensures some { (retiring : PrincipalValue) → row.now.retiring ≡ Some retiring → IfOk result (λ changed. (other : PrincipalValue) → group_of ⟦<Principal as Ord>⟧.cmp changed other ≡ group_without ⟦<Principal as Ord>⟧.cmp groups.now retiring row.now.born other) }
 {
-    let mut entries = Vec::with_capacity(alloc, rows.len())?;
-    for (place, row) in rows.iter().enumerate() {
-        let key = row.grant;
-        entries.push(Entry { key, place })?;
-    }
-    in_order(entries)
-}
-
-/// The places of rows by their keys.
-fn places_by_key(alloc: Global, rows: &[GrantRow]) -> Result<Vec<Entry<KeyId>>, NoMemory>
-    ensures { IfOk result (λ entries. IsIndexOf (λ row. row.key) rows.now entries.items) }
-{
-    let mut entries = Vec::with_capacity(alloc, rows.len())?;
-    for (place, row) in rows.iter().enumerate() {
-        let key = row.key;
-        entries.push(Entry { key, place })?;
-    }
-    in_order(entries)
-}
-
-/// The row at a place.
-fn row_at<'a>(rows: &'a [GrantRow], place: usize) -> Option<&'a GrantRow>
-    ensures { option_map (λ row. row.now) result ≡ slice_get rows.now place }
-{
-    rows.get(place)
-}
-
-/// The first row of an id at these places.
-fn first_with_id<'a>(
-    rows: &'a [GrantRow],
-    entries: &[Entry<GrantId>],
-    grant: &GrantId,
-) -> Option<&'a GrantRow>
-    ensures { option_map (λ row. row.now) result ≡ find (has_id grant.now) (rows_at rows.now entries.now) }
-{
-    for entry in entries {
-        if let Some(row) = row_at(rows, entry.place) {
-            if row.has_id(grant) {
-                return Some(row);
-            }
-        }
-    }
-    None
-}
-
-/// The first row at these places that was made behind a place.
-fn first_behind<'a>(
-    rows: &'a [GrantRow],
-    entries: &[Entry<KeyId>],
-    after: Option<u64>,
-) -> Option<&'a GrantRow>
-    ensures { option_map (λ row. row.now) result ≡ find (λ row. is_behind after row.born) (rows_at rows.now entries.now) }
-{
-    for entry in entries {
-        if let Some(row) = row_at(rows, entry.place) {
-            if is_behind(after, row.born) {
-                return Some(row);
-            }
-        }
-    }
-    None
-}
-
-/// The first row at these places that permits an operation on a key to a caller under a context.
-fn first_permitting<'a>(
-    rows: &'a [GrantRow],
-    entries: &[Entry<KeyId>],
-    key: &KeyId,
-    caller: &Principal,
-    op: GrantOp,
-    context: &Context,
-) -> Option<&'a GrantRow>
-    ensures { option_map (λ row. row.now) result ≡ find (permits key.now caller.now op context.now) (rows_at rows.now entries.now) }
-{
-    for entry in entries {
-        if let Some(row) = row_at(rows, entry.place) {
-            if row.permits(key, caller, op, context) {
-                return Some(row);
-            }
-        }
-    }
-    None
-}
-
-/// The first row at these places by which a caller may make a grant of these operations and this constraint.
-fn first_parent<'a>(
-    rows: &'a [GrantRow],
-    entries: &[Entry<KeyId>],
-    key: &KeyId,
-    caller: &Principal,
-    operations: &GrantOps,
-    constraint: &Constraint,
-) -> Option<&'a GrantRow>
-    ensures { option_map (λ row. row.now) result ≡ find (is_parent key.now caller.now operations.now constraint.now) (rows_at rows.now entries.now) }
-{
-    for entry in entries {
-        if let Some(row) = row_at(rows, entry.place) {
-            if row.is_parent(key, caller, operations, constraint) {
-                return Some(row);
-            }
-        }
-    }
-    None
-}
-
-/// The first row at these places of this key, name, grantee, retiring principal, set of operations and constraint.
-fn first_same<'a>(
-    rows: &'a [GrantRow],
-    entries: &[Entry<KeyId>],
-    key: &KeyId,
-    name: &Text,
-    grantee: &Principal,
-    retiring: &Option<Principal>,
-    operations: &GrantOps,
-    constraint: &Constraint,
-) -> Option<&'a GrantRow>
-    ensures { option_map (λ row. row.now) result ≡ find (is_same key.now name.now grantee.now retiring.now operations.now constraint.now) (rows_at rows.now entries.now) }
-{
-    for entry in entries {
-        if let Some(row) = row_at(rows, entry.place) {
-            if row.is_same(key, name, grantee, retiring, operations, constraint) {
-                return Some(row);
-            }
-        }
-    }
-    None
-}
-
-/// The first row of a retiring principal.
-fn first_retirable<'a>(rows: &'a [GrantRow], retiring: &Principal) -> Option<&'a GrantRow>
-    ensures { option_map (λ row. row.now) result ≡ find (has_retiring retiring.now) rows.now }
-{
-    rows.iter().find(|row| row.has_retiring(retiring))
+    let Some(retiring) = copy_of_principal(&row.retiring)? else {
+        return groups.share();
+    };
+    groups.remove(retiring, row.born)
 }
 
 impl GrantTable {
-    ghost use Rattle.std.specs.Prelude.{◌≡◌, [], ◌∷◌, ◌++◌, length, filter, All, IfOk, IfSome, IfNone};
+    ghost use Rattle.std.specs.Prelude.{◌≡◌, [], ◌∷◌, ◌++◌, length, filter, All, Some, None, IfOk, IfSome, IfNone};
     ghost use Rattle.std.specs.Option.{option_map};
     ghost use Rattle.grant_table.specs.Grants.{grant_with, grant_permitting, grant_retirable, grant_of_key, parent_of, same_as, number_of_key, Permits, without, without_keys, MayAdd, IsThere, AreGrants};
 
@@ -196,25 +95,13 @@ impl GrantTable {
         ensures { result ≡ [] }
     {
         GrantTable {
-            rows: Vec::new(alloc),
-            by_id: Vec::new(alloc),
-            by_key: Vec::new(alloc),
+            alloc,
+            rows: PMap::new(alloc),
+            by_id: PMap::new(alloc),
+            by_key: PGroups::new(alloc),
+            by_grantee: Grantees::new(alloc),
+            by_retiring: PGroups::new(alloc),
         }
-    }
-
-    /// The table of these rows.
-    fn of_rows(rows: Vec<GrantRow>) -> Result<GrantTable, NoMemory>
-        requires { AreGrants rows.items }
-        ensures { IfOk result (λ table. table ≡ rows.items) }
-    {
-        let alloc = *rows.allocator();
-        let by_id = places_by_id(alloc, rows.as_slice())?;
-        let by_key = places_by_key(alloc, rows.as_slice())?;
-        Ok(GrantTable {
-            rows,
-            by_id,
-            by_key,
-        })
     }
 
     /// How many grants there are. No two have one id, and each was made before those behind it. No memory is taken.
@@ -229,8 +116,18 @@ impl GrantTable {
     pub fn get(&self, grant: &GrantId) -> Option<&GrantRow>
         ensures { option_map (λ row. row.now) result ≡ grant_with self.now grant.now }
     {
-        let entries = group(self.by_id.as_slice(), grant);
-        first_with_id(self.rows.as_slice(), entries, grant)
+        Some(self.by_id.look_up(grant)?.value())
+    }
+
+    // The grants of a key that have a grantee, by place; None where the key has no grants.
+    fn of_grantee(
+        &self,
+        key: &KeyId,
+        grantee: &Principal,
+    ) -> Option<PFrom<'_, u64, Shared<GrantRow>>>
+        ensures { rows_of (unwrap_or result []) ≡ filter (is_of_grantee key.now grantee.now) self.now }
+    {
+        self.by_grantee.group(key, grantee)
     }
 
     /// The first grant, in order of making, that permits an operation on a key to a caller under an encryption context;
@@ -246,8 +143,9 @@ impl GrantTable {
         ensures permits { IfSome result (λ row. Permits row.now key.now caller.now op context.now) }
         ensures none { IfNone result (All (λ row. ¬ (Permits row key.now caller.now op context.now)) self.now) }
     {
-        let entries = group(self.by_key.as_slice(), key);
-        first_permitting(self.rows.as_slice(), entries, key, caller, op, context)
+        let mut grants = self.of_grantee(key, caller)?;
+        let (_, row) = grants.find(|(_, row)| row.value().permits(key, caller, op, context))?;
+        Some(row.value())
     }
 
     /// The first grant of a key, in order of making, by which a caller may make a grant of these operations and this
@@ -262,15 +160,11 @@ impl GrantTable {
     ) -> Option<&GrantRow>
         ensures { option_map (λ row. row.now) result ≡ parent_of self.now key.now caller.now operations.now constraint.now }
     {
-        let entries = group(self.by_key.as_slice(), key);
-        first_parent(
-            self.rows.as_slice(),
-            entries,
-            key,
-            caller,
-            operations,
-            constraint,
-        )
+        let mut grants = self.of_grantee(key, caller)?;
+        let (_, row) = grants.find(|(_, row)| row
+            .value()
+            .is_parent(key, caller, operations, constraint))?;
+        Some(row.value())
     }
 
     /// The first grant of a key, in order of making, that has this name, grantee, retiring principal, set of operations
@@ -286,32 +180,19 @@ impl GrantTable {
     ) -> Option<&GrantRow>
         ensures { option_map (λ row. row.now) result ≡ same_as self.now key.now name.now grantee.now retiring.now operations.now constraint.now }
     {
-        let entries = group(self.by_key.as_slice(), key);
-        first_same(
-            self.rows.as_slice(),
-            entries,
-            key,
-            name,
-            grantee,
-            retiring,
-            operations,
-            constraint,
-        )
+        let mut grants = self.of_grantee(key, grantee)?;
+        let (_, row) = grants.find(|(_, row)| {
+            row.value()
+                .is_same(key, name, grantee, retiring, operations, constraint)
+        })?;
+        Some(row.value())
     }
 
     /// How many grants a key has. No memory is taken.
     pub fn number_of_key(&self, key: &KeyId) -> usize
         ensures { result ≡ number_of_key self.now key.now }
     {
-        group(self.by_key.as_slice(), key).len()
-    }
-
-    /// The grants that were made behind a place, or all.
-    fn behind(&self, after: Option<u64>) -> &[GrantRow]
-        ensures { result.now ≡ filter (λ row. is_behind after row.born) self.now }
-    {
-        let start = self.rows.partition_point(|row| !is_behind(after, row.born));
-        &self.rows[start..]
+        self.by_key.group_len(key)
     }
 
     /// The first grant of a retiring principal, in order of making, that was made behind a place, or the first of all
@@ -319,7 +200,8 @@ impl GrantTable {
     pub fn retirable(&self, retiring: &Principal, after: Option<u64>) -> Option<&GrantRow>
         ensures { option_map (λ row. row.now) result ≡ grant_retirable self.now retiring.now after }
     {
-        first_retirable(self.behind(after), retiring)
+        let (_, row) = self.by_retiring.group_behind(retiring, after).next()?;
+        Some(row.value())
     }
 
     /// The first grant of a key, in order of making, that was made behind a place, or the first of all of its grants.
@@ -327,8 +209,18 @@ impl GrantTable {
     pub fn of_key(&self, key: &KeyId, after: Option<u64>) -> Option<&GrantRow>
         ensures { option_map (λ row. row.now) result ≡ grant_of_key self.now key.now after }
     {
-        let entries = group(self.by_key.as_slice(), key);
-        first_behind(self.rows.as_slice(), entries, after)
+        let (_, row) = self.by_key.group_behind(key, after).next()?;
+        Some(row.value())
+    }
+
+    // The first grant of a key.
+    fn first_of_key(&self, key: &KeyId) -> Option<&GrantRow>
+        ensures first { option_map (λ row. row.now) result ≡ grant_of_key self.now key.now None }
+        ensures own { IfSome result (λ row. grant_with self.now row.now.grant ≡ Some row.now) }
+        ensures grants { AreGrants self.now }
+    {
+        let (_, row) = self.by_key.group(key).next()?;
+        Some(row.value())
     }
 
     /// The table with one more grant behind the others. Its id isn't there, and the others were made before it.
@@ -336,9 +228,35 @@ impl GrantTable {
         requires { MayAdd self.now row }
         ensures { IfOk result (λ table. table ≡ self.now ++ row ∷ []) }
     {
-        let mut rows = copied(*self.rows.allocator(), self.rows.as_slice())?;
-        rows.push(row)?;
-        GrantTable::of_rows(rows)
+        let born = row.born;
+        let grant = row.grant;
+        let key = row.key;
+        let row = Shared::new(self.alloc, row)?;
+        Ok(GrantTable {
+            alloc: self.alloc,
+            by_id: self.by_id.insert(grant, row.share()?)?,
+            by_key: self.by_key.insert(key, born, row.share()?)?,
+            by_grantee: self.by_grantee.insert(self.alloc, row.share()?)?,
+            by_retiring: retiring_with(&self.by_retiring, row.share()?)?,
+            rows: self.rows.insert(born, row)?,
+        })
+    }
+
+    // The table without one of its rows.
+    fn without_row(&self, row: &GrantRow) -> Result<GrantTable, NoMemory>
+        requires { grant_with self.now row.now.grant ≡ Some row.now }
+        ensures { IfOk result (λ table. table ≡ without self.now row.now.grant) }
+    {
+        let by_key = self.by_key.remove(row.key, row.born)?;
+        let is_last = by_key.group_len(&row.key) == 0;
+        Ok(GrantTable {
+            alloc: self.alloc,
+            rows: self.rows.remove(&row.born)?,
+            by_id: self.by_id.remove(&row.grant)?,
+            by_key,
+            by_grantee: self.by_grantee.remove(row, is_last)?,
+            by_retiring: retiring_without(&self.by_retiring, row)?,
+        })
     }
 
     /// The table without the grant of an id, which is there.
@@ -346,26 +264,29 @@ impl GrantTable {
         requires { IsThere self.now grant.now }
         ensures { IfOk result (λ table. table ≡ without self.now grant.now) }
     {
-        let mut rows = Vec::new(*self.rows.allocator());
-        for row in &self.rows {
-            if !row.has_id(grant) {
-                rows.push(row.copy()?)?;
-            }
-        }
-        GrantTable::of_rows(rows)
+        self.without_row(self.get(grant).unwrap())
     }
 
-    /// The table without the grants of some keys. Its time grows with the number of grants times that of the keys.
+    // The table without the grants of a key.
+    fn without_key(&self, key: &KeyId) -> Result<GrantTable, NoMemory>
+        ensures { IfOk result (λ table. table ≡ without_keys self.now (key.now ∷ [])) }
+    {
+        let mut table = self.share()?;
+        while let Some(row) = table.first_of_key(key) {
+            table = table.without_row(row)?;
+        }
+        Ok(table)
+    }
+
+    /// The table without the grants of some keys. Its time grows with the number of their grants.
     pub fn without_keys(&self, keys: &[KeyId]) -> Result<GrantTable, NoMemory>
         ensures { IfOk result (λ table. table ≡ without_keys self.now keys.now) }
     {
-        let mut rows = Vec::new(*self.rows.allocator());
-        for row in &self.rows {
-            if !row.is_of_any(keys) {
-                rows.push(row.copy()?)?;
-            }
+        let mut table = self.share()?;
+        for key in keys {
+            table = table.without_key(key)?;
         }
-        GrantTable::of_rows(rows)
+        Ok(table)
     }
 
     /// The same table.
@@ -373,9 +294,12 @@ impl GrantTable {
         ensures { IfOk result (λ table. table ≡ self.now) }
     {
         Ok(GrantTable {
-            rows: copied(*self.rows.allocator(), self.rows.as_slice())?,
-            by_id: self.by_id.clone()?,
-            by_key: self.by_key.clone()?,
+            alloc: self.alloc,
+            rows: self.rows.share()?,
+            by_id: self.by_id.share()?,
+            by_key: self.by_key.share()?,
+            by_grantee: self.by_grantee.share()?,
+            by_retiring: self.by_retiring.share()?,
         })
     }
 }

@@ -32,12 +32,12 @@ module _ {X : Type 0} (test : X → Bool) (item : X) where
 
 module _ {X : Type 0} (test keep : X → Bool) where
   -- what is sought is kept
-  find_kept : ((x : X) → test x ≡ true → keep x ≡ true) → (xs : List X) → find test (filter keep xs) ≡ find test xs
+  pub find_kept : ((x : X) → test x ≡ true → keep x ≡ true) → (xs : List X) → find test (filter keep xs) ≡ find test xs
   find_kept kept [] = refl
   find_kept kept (x ∷ xs) = kept_item test x (keep x) (test x) refl (kept x) (filter keep xs) xs (find_kept kept xs)
 
   -- what is sought is left out
-  find_left_out : ((x : X) → test x ≡ true → keep x ≡ false) → (xs : List X) → find test (filter keep xs) ≡ None
+  pub find_left_out : ((x : X) → test x ≡ true → keep x ≡ false) → (xs : List X) → find test (filter keep xs) ≡ None
   find_left_out left [] = refl
   find_left_out left (x ∷ xs) = left_item test x (keep x) (test x) refl (left x) (filter keep xs) (find_left_out left xs)
 

@@ -1,15 +1,20 @@
-use Rattle.std.proofs.Common.{◌≡◌, Bor, Option, None, Some, refl, ap, ◌∙◌}
-use Rattle.kms_names.specs.Place.{is_behind}
-use Rattle.std.specs.Option.{option_map, option_copied}
-use Rattle.std.specs.Prelude.{slice_get}
-use Rattle.kms_names.proofs.Behind.{first_in_filter}
-use Rattle.alias_map.specs.declared.rows.AliasRow.{AliasRow}
+use Rattle.std.proofs.Common.{sym, ap, Some, ◌∙◌}
+use Rattle.std.specs.Option.{option_map}
+use Rattle.alias_map.specs.Aliases.{row_after}
+use Rattle.alias_map.proofs.Reading.{row_of_first}
+use Rattle.alias_map.proofs.KeptFacts.{first_of_all}
 use Rattle.alias_map.proofs.maps.AliasMap.of_all.Goals as goal
 
-lent : (row : Option (Bor AliasRow)) → option_map (λ (r : Bor AliasRow). r.now) row ≡ option_copied row
-lent None = refl
-lent (Some row) = refl
+pub returns-in_err-row : goal.returns-in_err-row
+returns-in_err-row c =
+    ap (option_map (λ row. row.now)) c.from_residual.ensures
+    ∙ ap row_of_first (sym (c.in_err-row.ensures.steps.0) ∙ c.behind.ensures.pairs)
+    ∙ first_of_all c.self.inside.rows c.args.after c.self.invariant.placed
+    ∙ ap (λ rows. row_after rows c.args.after) c.self.view_is
 
 pub returns : goal.returns
 returns c =
-    lent c.first.result ∙ (c.first.ensures.value ∙ (ap (λ rows. slice_get rows 0) c.behind.ensures ∙ first_in_filter (λ (row : AliasRow). is_behind c.args.after row.born) c.args.self.now))
+    ap Some c.value.ensures
+    ∙ ap row_of_first (sym c.in_ok-row.ensures.steps ∙ c.behind.ensures.pairs)
+    ∙ first_of_all c.self.inside.rows c.args.after c.self.invariant.placed
+    ∙ ap (λ rows. row_after rows c.args.after) c.self.view_is
