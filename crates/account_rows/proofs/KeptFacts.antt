@@ -340,8 +340,8 @@ module _ (time : ℕ) (id : List ℕ) where
         one_of (is_id (gone_at time (row_at rows place)) id) (is_id (gone_among time rows places) id) (sym (id_in_both (gone_at time (row_at rows place)) (gone_among time rows places) id) ∙ e)
         (is_id (gone_keys time rows) id ≡ true)
         (λ first.
-            let is = found_gone (row_at rows place) first in
-            found_every (λ row. IsGoneWith row → is_id (gone_keys time rows) id ≡ true) (λ (r : KeyRow). is_eq (nat_cmp r.born place)) rows is.0 is.1 (gone_is_there rows rows (λ later. later)) is.2)
+        let is = found_gone (row_at rows place) first in
+        found_every (λ row. IsGoneWith row → is_id (gone_keys time rows) id ≡ true) (λ (r : KeyRow). is_eq (nat_cmp r.born place)) rows is.0 is.1 (gone_is_there rows rows (λ later. later)) is.2)
         (λ later. among_are_gone places later)
 
     at_gone : (row : KeyRow) → IsGoneWith row → (b : Bool) → is_gone time row ≡ b → is_id (if b then row.key ∷ [] else []) id ≡ true
@@ -357,7 +357,7 @@ module _ (time : ℕ) (id : List ℕ) where
         id_in_both (gone_at time (row_at rows place)) (gone_among time rows places) id
         ∙ one_of (place == row.born) (is_place places row.born) there ((is_id (gone_at time (row_at rows place)) id || is_id (gone_among time rows places) id) ≡ true)
         (λ same. first_of_both (is_id (gone_at time (row_at rows place)) id) (is_id (gone_among time rows places) id)
-            (ap (λ o. is_id (gone_at time o) id) (ap (row_at rows) (equal place row.born same) ∙ at) ∙ at_gone row is (is_gone time row) refl))
+        (ap (λ o. is_id (gone_at time o) id) (ap (row_at rows) (equal place row.born same) ∙ at) ∙ at_gone row is (is_gone time row) refl))
         (λ later. second_of_both (is_id (gone_at time (row_at rows place)) id) (is_id (gone_among time rows places) id) (gone_is_among places row is at later))
       where
         equal : (x y : ℕ) → (x == y) ≡ true → x ≡ y

@@ -70,11 +70,7 @@ fn date_at(rows: &PMap<u64, HeldKey>, place: u64) -> Option<u64>
 }
 
 // The places of the keys whose dates have come.
-fn places_come(
-    alloc: Global,
-    dates: &PMap<Due, ()>,
-    time: u64,
-) -> Result<Vec<u64>, NoMemory>
+fn places_come(alloc: Global, dates: &PMap<Due, ()>, time: u64) -> Result<Vec<u64>, NoMemory>
     ensures { IfOk result (λ places. places.items ≡ places_come time dates.now) }
 {
     let mut places = Vec::new(alloc);

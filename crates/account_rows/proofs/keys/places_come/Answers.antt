@@ -30,11 +30,10 @@ loop-due-preserved c =
     let items = c.loop-due.places.items in
     let rest = c.next.new.self in
     let early = c.if-due-time.false in
-    let come : nat_le c.in-Some.due.now.date time ≡ true = grind (arith, nat_tests, early) in
-    (
+    let come : nat_le c.in-Some.due.now.date time ≡ true = grind (arith, nat_tests, early) in (
       ap (λ l. l ++ places_come time rest) c.in_ok-push.ensures.items
-      ∙ joined items c.in-Some.due.now.place (places_come time rest)
-      ∙ ap (λ l. items ++ l) (sym (ap (places_come time) c.in-Some.ensures.steps ∙ come_now due_cmp by_dates time _ rest come))
-      ∙ c.loop-due.invariant.0,
+          ∙ joined items c.in-Some.due.now.place (places_come time rest)
+          ∙ ap (λ l. items ++ l) (sym (ap (places_come time) c.in-Some.ensures.steps ∙ come_now due_cmp by_dates time _ rest come))
+          ∙ c.loop-due.invariant.0,
       rest_ascends due_cmp _ rest (subst (Ascends due_cmp) c.in-Some.ensures.steps c.loop-due.invariant.1),
     )
