@@ -84,12 +84,12 @@ fn answer_at<R: Realm>(
     ensures found { IfSome result (λ f. Settles R.facts (entries_of f.prefix) ask.now draws.old f.answered draws.new) }
     ensures missed { IfNone result (draws.new ≡ draws.old) }
 {
-    let count = shown.whole().len();
-    if count < known.len() {
+    let history = shown.history::<R>();
+    if history.len() < known.len() {
         return None;
     }
-    let prefix = known.joined(&Prefix::of(shown.glimpse(), count));
-    let answered = answer(alloc, shown.whole().account(), ask, draws);
+    let prefix = known.joined(&history);
+    let answered = answer(alloc, shown.account(), ask, draws);
     Some(Found { answered, prefix })
 }
 
