@@ -211,9 +211,9 @@ pub fn open_service<W: Wait, R: Realm>(
             drop(writer.take(rt));
             Err(error)
         }
-        Ok((passes, region)) => {
+        Ok((all, region)) => {
             let desk = Desk::new(writer, head, book);
-            Ok((Service::new(desk, Told::new(prefix), region), passes))
+            Ok((Service::new(desk, Told::new(prefix), passes, region), all))
         }
     }
 }
