@@ -1,42 +1,31 @@
 #!/usr/bin/env -S python3 -B
-"""Which kms_local a script runs, and a server of its own for it: with examples/config.json, at a free port, which ends by itself at the
-last connection. It needs Python and Linux, and `rt` where no proved build stands.
+"""A server of a script's own: with examples/config.json, at a free port, which ends by itself at the last connection. It needs Python and
+Linux, and `rt` where nothing that serves stands yet.
 
     tools/served.py [--proved] [--program PATH] --front F COMMAND..
 
 runs a command with the environment in which AWS clients ask such a server as its keeper, tells the closing line, and fails where the
-command does or the line has other than F entries. With --proved the program is proved and built first. Else the proved build serves where
-one stands, and where none does the same code is compiled without proof and run."""
+command does or the line has other than F entries. Which program serves is said in built.py."""
 
 import argparse
-import datetime
 import json
 import os
 import re
 import select
-import signal
 import socket
 import subprocess
 import sys
 import tempfile
 import time
 
-TOP = os.path.dirname(os.path.dirname(os.path.abspath(__file__)))
-CONFIG = os.path.join(TOP, "examples", "config.json")
-PROGRAM = os.path.join(TOP, "crates", "kms_local", "out", "kms_local")
+import built
+from built import CONFIG, PROGRAM, Failure
+
 HOST = "127.0.0.1"
 REGION = "us-east-1"
-CRATE = os.path.join(TOP, "crates", "kms_local")
-UNPROVED = ("no proved build stands here, so the same code is compiled without proof: that takes some minutes, and what it makes "
-            "checks memory as it runs and is many times slower. With --proved it is proved and built first, which takes many minutes")
 CLOSING = re.compile(r"^served (\d+) front (\d+)$", re.MULTILINE)
 START_SECONDS = 30
-COMPILE_SECONDS = 900
 END_SECONDS = 60
-
-
-class Failure(Exception):
-    """What went wrong, in words."""
 
 
 def callers():
@@ -65,88 +54,18 @@ def boto3_client(server, caller):
     return session.client("kms", endpoint_url=server.endpoint, config=once)
 
 
-def tell(line):
-    """A line on standard error, with the script's name."""
-    print(f"{os.path.basename(sys.argv[0])}: {line}", file=sys.stderr, flush=True)
-
-
-def prove():
-    """Proves and builds the program, where that isn't done, with the toolchain's progress on standard error."""
-    tell("proves and builds kms_local and the crates below it")
-    begin = time.monotonic()
-    words = ["rt", "run", "--", "check", "--config", CONFIG]
-    try:
-        status = subprocess.run(words, cwd=CRATE, stdin=subprocess.DEVNULL, stdout=sys.stderr).returncode
-    except FileNotFoundError:
-        raise Failure("rt is missing, the command of the Rattle kit") from None
-    if status:
-        raise Failure(f"kms_local wasn't proved and built: status {status}")
-    tell(f"proved and built in {time.monotonic() - begin:.0f} s")
-
-
-def chosen(proved=False, program=PROGRAM):
-    """The program that runs, or None where the same code is to be compiled without proof. Says which on standard error."""
-    if proved:
-        prove()
-    if os.path.exists(program):
-        made = datetime.datetime.fromtimestamp(os.path.getmtime(program))
-        tell(f"runs the proved build of {made:%Y-%m-%d %H:%M}, {os.path.relpath(program)}")
-        return program
-    if program != PROGRAM:
-        raise Failure(f"{program} isn't there")
-    tell(UNPROVED)
-    return None
-
-
-def unproved(words, config=CONFIG, seconds=600):
-    """The command that compiles and runs the program without proof, with a configuration under the name config.json."""
-    limits = ["--steps", "1000", "--seconds", str(seconds)]
-    return ["rt", "try", *limits, "--data", f"config.json={os.path.abspath(config)}", "--", *words]
-
-
-def free_port():
-    """A port at which nothing listened a moment ago."""
-    with socket.socket() as probe:
-        probe.bind((HOST, 0))
-        return probe.getsockname()[1]
-
-
-def listens(port):
-    """Whether something listens at the port, without a connection to it, which would count."""
-    for name in ["/proc/net/tcp", "/proc/net/tcp6"]:
-        if os.path.exists(name):
-            with open(name, encoding="ascii") as table:
-                if any(row.split()[1].endswith(f":{port:04X}") and row.split()[3] == "0A" for row in table):
-                    return True
-    return False
-
-
-def wait_for(process, port, seconds):
-    """Waits until something listens at the port, and gives whether it does, before the process ends and within so many seconds."""
-    deadline = time.monotonic() + seconds
-    while not listens(port):
-        if process.poll() is not None or time.monotonic() > deadline:
-            return False
-        time.sleep(0.1)
-    return True
-
-
 class Server:
-    """A process that serves: each of its workers takes so many connections. Where no program is given the same code is compiled without
-    proof. In a `with` it is ended at the end, however that comes."""
+    """A process that serves: each of its workers takes so many connections. In a `with` it is ended at the end, however that comes."""
 
     def __init__(self, program=PROGRAM, workers=8, connections=1):
-        if program and not os.path.exists(program):
+        if not os.path.exists(program):
             raise Failure(f"{program} isn't there: examples/serve --proved builds it")
         self.taken = workers * connections
         self.said = tempfile.TemporaryFile("w+")
         words = ["--workers", str(workers), "--connections", str(connections)]
         self.port, self.process = None, None
         try:
-            if program:
-                self.start(program, words)
-            else:
-                self.start_unproved(words)
+            self.start(program, words)
         except BaseException:
             self.end()
             raise
@@ -161,19 +80,6 @@ class Server:
         if not found:
             raise Failure(f"the server didn't listen: {line!r}")
         self.port = int(found.group(1))
-
-    def start_unproved(self, words):
-        """Compiles and runs the program without proof, and waits until it listens."""
-        self.port = free_port()
-        words = unproved(["serve", "--config", "config.json", "--listen", f"{HOST}:{self.port}", *words])
-        begin = time.monotonic()
-        try:
-            self.process = subprocess.Popen(words, cwd=CRATE, stdin=subprocess.DEVNULL, stdout=self.said, stderr=subprocess.STDOUT)
-        except FileNotFoundError:
-            raise Failure("rt is missing, the command of the Rattle kit") from None
-        if not wait_for(self.process, self.port, COMPILE_SECONDS):
-            raise Failure(f"the server didn't listen: {self.told()}")
-        tell(f"compiled without proof, and listens, after {time.monotonic() - begin:.0f} s")
 
     @property
     def endpoint(self):
@@ -238,15 +144,9 @@ def serving_words(parser):
 
 
 def run(script):
-    """Runs the main function of a script, isolated. SIGTERM ends it as SIGINT does, with its server, and a failure is told in words."""
+    """Runs the main function of a script, isolated."""
     isolate()
-    signal.signal(signal.SIGTERM, signal.default_int_handler)
-    try:
-        sys.exit(script())
-    except Failure as failure:
-        sys.exit(f"{os.path.basename(sys.argv[0])}: {failure}")
-    except KeyboardInterrupt:
-        sys.exit(130)
+    built.run(script)
 
 
 def main():
@@ -256,7 +156,7 @@ def main():
     parser.add_argument("command", nargs=argparse.REMAINDER)
     words = parser.parse_args()
     keeper = callers()[0]
-    with Server(chosen(words.proved, words.program), workers=4, connections=8) as server:
+    with Server(built.chosen(words.proved, words.program), workers=4, connections=8) as server:
         environment = os.environ | {
             "AWS_ENDPOINT_URL": server.endpoint,
             "AWS_DEFAULT_REGION": REGION,

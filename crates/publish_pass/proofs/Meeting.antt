@@ -1,11 +1,13 @@
 -- A pass that learns more and more, and what is done at the desk of one that has met it.
-use Rattle.std.proofs.Common.{◌≡◌, ℕ, refl, ap, ◌∙◌, sym, subst, Result, Ok, Err}
+use Rattle.std.proofs.Common.{◌≡◌, ◌<◌, ℕ, refl, ap, ◌∙◌, sym, subst, arith, None, Result, Ok, Err}
 use Rattle.std.specs.Result.{IfOk}
 use Rattle.kms_names.specs.declared.faults.NoMemory.{NoMemory}
 use Rattle.kms_json.specs.declared.asks.Ask.{Ask}
 use Rattle.published_account.specs.declared.answered.Answered.{Answered}
+use Rattle.account_steps.specs.History.{housekeeping_of}
 use Rattle.published_account.specs.Growing.{Pairs}
-use Rattle.publish_pass.specs.Pass.{Pass, KnewAllIfAlone, MadeAllIfAlone, Learns, AnswersChange, AnswersAtDesk, WantsChange, KeepsHouse, WantsHouse, LeavesAtMost, keeping_house}
+use Rattle.published_account.specs.Pairs.{entries_of}
+use Rattle.publish_pass.specs.Pass.{Pass, KnewAllIfAlone, MadeAllIfAlone, Learns, AnswersChange, AnswersAtDesk, WantsChange, KeepsHouse, WantsHouse, LeavesAtMost, making_any, keeping_house}
 use Rattle.published_account.proofs.Lists.{prefix_self, prefix_trans}
 use Rattle.publish_pass.proofs.OwnPlaces.{all_and_any, all_left}
 
@@ -37,3 +39,13 @@ module _ (s u t : Pass) (met : Learns s u) (knew : KnewAllIfAlone s u) (all : Ma
 
   pub left_on : (clock : ℕ) → LeavesAtMost u clock t → WantsHouse s clock t
   left_on clock left = record { met = u; seen = met; left = left; knew = knew; made_all = all_left u t clock all left }
+
+-- a pass that isn't alone, and learns a history at which no housekeeping is due
+pub kept_there : (s t : Pass) (clock n : ℕ) → Learns s t → housekeeping_of (entries_of t.history) clock ≡ None → t.passes ≡ n → 1 < n → KeepsHouse s clock t
+kept_there s t clock n learns none is several = record {
+  met = t;
+  seen = learns;
+  kept = sym (ap (making_any t) none);
+  knew = λ alone. absurd (omega (arith, alone, ap (λ (p : Pass). p.passes) learns.others, is, several));
+  made_all = λ alone. absurd (omega (arith, alone, is, several));
+}

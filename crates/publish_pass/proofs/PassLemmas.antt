@@ -1,7 +1,8 @@
 -- Decisions of a pass.
-use Rattle.std.proofs.Common.{◌≡◌, ◌<◌, ◌==◌, ℕ, ◌+◌, List, [], ◌∷◌, ◌++◌, length, add-one, Option, Some, None, Bool, true, false, refl, sym, ap, ap₂, ◌∙◌, subst, if◌then◌else◌, ◌⊎◌, inl, inr, Result, Ok, Err}
+use Rattle.std.proofs.Common.{◌≡◌, ◌<◌, ◌==◌, ℕ, ◌+◌, List, [], ◌∷◌, ◌++◌, length, length-append, add-one, arith, Option, Some, None, Bool, true, false, refl, sym, ap, ap₂, ◌∙◌, subst, if◌then◌else◌, ◌⊎◌, inl, inr, Result, Ok, Err}
 use Rattle.kms_names.specs.Moment.{year_10000}
 use Rattle.std.specs.Result.{IfOk, OnOk, OnErr}
+use Rattle.std.proofs.lemmas.List.{length-map}
 use Rattle.kms_names.specs.declared.faults.NoMemory.{NoMemory}
 use Rattle.published_account.specs.declared.answered.Answered.{Answered}
 use Rattle.published_account.specs.Answers.{answer_in, answer_of}
@@ -55,6 +56,11 @@ next_entry facts entries x entry reply is proper = appended x proper (change_par
 
 pub house_next : (facts : RealmFacts) (entries : List Entry) (clock : ℕ) (entry : Entry) → clock < year_10000 → housekeeping_of entries clock ≡ Some entry → IsNext facts entries entry
 house_next facts entries clock entry before is = kept clock before is
+
+-- the number of entries, where there is one more than of pairs
+pub counted_on : (pairs : List (Entry × ℕ)) (entries : List Entry) (entry : Entry) (n : ℕ) → n ≡ length entries → entries ≡ entries_of pairs ++ entry ∷ [] → n ≡ length pairs + 1
+counted_on pairs entries entry n counted are =
+    omega (arith, counted, ap length are, length-append (entries_of pairs) (entry ∷ []), length-map pairs (λ (made : Entry × ℕ). made.0))
 
 -- what the decision of the account does to a pass of these facts and this history
 module _ (s : Pass) (x : Ask) (account : Account) (facts : account.facts ≡ s.facts) (entries : account.entries ≡ entries_of s.history) (changing : changes_account x.body ≡ true) where

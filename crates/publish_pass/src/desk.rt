@@ -1,5 +1,5 @@
 // The desk.
-ghost use Rattle.std.specs.Prelude.{◌≡◌, ◌<◌, ◌≤◌, ◌++◌, ◌∷◌, [], length, true, IfOk, IfSome, OnOk, OnErr, IsTrue, IsFalse, ◌↔◌};
+ghost use Rattle.std.specs.Prelude.{◌≡◌, ◌<◌, ◌≤◌, ◌+◌, ◌++◌, ◌∷◌, [], length, true, IfOk, IfSome, OnOk, OnErr, IsTrue, IsFalse, ◌↔◌};
 ghost use Rattle.kms_names.specs.Moment.{year_10000};
 ghost use Rattle.std.specs.Arc.{arc_value};
 ghost use Rattle.kms_json.specs.Asks.{changes_account};
@@ -16,9 +16,7 @@ use account_rows::Entry;
 use kms_io::{Gate, Point};
 use kms_json::{Ask, Reply};
 use kms_names::NoMemory;
-use published_account::{
-    Answered, Copies, Prefix, Published, Realm, Tip, Whole, answer_with, show,
-};
+use published_account::{Answered, Copies, Prefix, Published, Realm, Tip, answer_with, show};
 use std::alloc::Global;
 use std::marker::{Model, PhantomData};
 use std::sync::ledger::Book;
@@ -76,26 +74,25 @@ impl<R: Realm> Desk<R> {
         drop(writer.take(rt));
     }
 
-    // The published account with its makers.
-    fn whole(&self) -> &Whole
-        ensures { result.now ≡ record { facts = R.facts; passes = R.passes; pairs = self.now } }
+    // What is published.
+    fn published(&self) -> &Published
+        ensures { result.now ≡ record { book = R.book; whole = record { facts = R.facts; passes = R.passes; pairs = self.now } } }
     {
-        self.writer.published().whole()
+        self.writer.published()
     }
 
     // The published account.
     fn account(&self) -> &Account
         ensures { result.now ≡ record { facts = R.facts; entries = entries_of self.now } }
     {
-        self.whole().account()
+        self.published().account()
     }
 
     // The published history.
     fn prefix(&self) -> Prefix<R>
         ensures { result ≡ self.now }
     {
-        let shown = self.writer.published();
-        Prefix::of(shown.glimpse(), shown.whole().len())
+        self.published().history()
     }
 
     /// The pass learns the desk's whole history. It is true exactly where the pass has then seen as many
@@ -120,12 +117,12 @@ impl<R: Realm> Desk<R> {
         pass.seen() == prefix.len()
     }
 
-    // The next account, with the entry as its last, which the pass makes.
-    fn prepare(&self, alloc: Global, pass: &Pass<R>, entry: &Entry) -> Result<Arc<Whole>, NoMemory>
+    // The next account, with the entry as its last.
+    fn prepare(&self, alloc: Global, entry: &Entry) -> Result<Arc<Account>, NoMemory>
         requires { IsNext R.facts (entries_of self.now) entry.now }
-        ensures { IfOk result (λ w. arc_value w ≡ record { facts = R.facts; passes = R.passes; pairs = self.now ++ (entry.now, pass.now.number) ∷ [] }) }
+        ensures { IfOk result (λ a. arc_value a ≡ record { facts = R.facts; entries = entries_of self.now ++ entry.now ∷ [] }) }
     {
-        self.whole().next(alloc, entry, pass.number())
+        self.published().next_account(alloc, entry)
     }
 
     // The published history with one more entry, which is in its log then; none where the log is longer, or full.
@@ -151,21 +148,21 @@ impl<R: Realm> Desk<R> {
         &mut self,
         rt: &W,
         pass: &mut Pass<R>,
-        whole: Arc<Whole>,
+        account: Arc<Account>,
         entry: Entry,
     ) -> Result<(), NoMemory>
         requires next { IsNext R.facts (entries_of self.old) entry }
-        requires whole { arc_value whole ≡ record { facts = R.facts; passes = R.passes; pairs = self.old ++ (entry, pass.old.number) ∷ [] } }
+        requires account { arc_value account ≡ record { facts = R.facts; entries = entries_of self.old ++ entry ∷ [] } }
         requires met { pass.old.history ≡ self.old }
         ensures ok { OnOk result ((self.new ≡ pass.new.history) × (pass.new ≡ making pass.old entry)) }
         ensures err { OnErr result ((self.new ≡ self.old) × (pass.new ≡ pass.old)) }
     {
         pass.own.reserve(1)?;
-        let place = self.whole().len();
+        let place = pass.seen();
         let Some(prefix) = self.logged(entry, pass.number()) else {
             return Err(NoMemory);
         };
-        let published = Published::new(whole, prefix.glimpse());
+        let published = self.published().next(account, &prefix);
         show(rt, &mut self.writer, published);
         self.book.add(&mut pass.share, 1);
         pass.own.push_reserved(place);
@@ -190,27 +187,27 @@ impl<R: Realm> Desk<R> {
         match self.account().housekeeping(moment) {
             None => Ok(()),
             Some(entry) => {
-                let whole = self.prepare(alloc, pass, &entry)?;
-                self.publish(rt, pass, whole, entry)
+                let next = self.prepare(alloc, &entry)?;
+                self.publish(rt, pass, next, entry)
             }
         }
     }
 
     // The next account, and the answer of the request that makes its last entry.
+    #[tactic(auto, using(crate::proofs::PassLemmas::counted_on))]
     fn ready(
         &self,
         alloc: Global,
-        pass: &Pass<R>,
         entry: &Entry,
         reply: Reply,
-    ) -> Result<(Arc<Whole>, Answered), NoMemory>
+    ) -> Result<(Arc<Account>, Answered), NoMemory>
         requires { IsNext R.facts (entries_of self.now) entry.now }
-        ensures whole { IfOk result (λ both. arc_value both.0 ≡ record { facts = R.facts; passes = R.passes; pairs = self.now ++ (entry.now, pass.now.number) ∷ [] }) }
-        ensures answer { IfOk result (λ both. (both.1.front ≡ length (self.now ++ (entry.now, pass.now.number) ∷ [])) × (answer_in both.1 ≡ answer_of reply)) }
+        ensures account { IfOk result (λ both. arc_value both.0 ≡ record { facts = R.facts; entries = entries_of self.now ++ entry.now ∷ [] }) }
+        ensures answer { IfOk result (λ both. (both.1.front ≡ length self.now + 1) × (answer_in both.1 ≡ answer_of reply)) }
     {
-        let whole = self.prepare(alloc, pass, entry)?;
-        let answered = answer_with(alloc, whole.len(), reply)?;
-        Ok((whole, answered))
+        let next = self.prepare(alloc, entry)?;
+        let answered = answer_with(alloc, next.entries(), reply)?;
+        Ok((next, answered))
     }
 
     // Publishes the entry of a request. The answer is made before.
@@ -229,9 +226,9 @@ impl<R: Realm> Desk<R> {
         ensures answer { IfOk result (λ a. (a.front ≡ length pass.new.history) × (answer_in a ≡ answer_of reply)) }
         ensures err { OnErr result ((self.new ≡ self.old) × (pass.new ≡ pass.old)) }
     {
-        let (whole, answered) = self.ready(alloc, pass, &entry, reply)?;
+        let (next, answered) = self.ready(alloc, &entry, reply)?;
         gate.at(Point::AtDesk);
-        self.publish(rt, pass, whole, entry)?;
+        self.publish(rt, pass, next, entry)?;
         Ok(answered)
     }
 

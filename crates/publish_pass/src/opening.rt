@@ -10,9 +10,7 @@ use crate::service::Service;
 use crate::told::Told;
 use account_steps::{RealmFacts, draw_line};
 use kms_names::{NoMemory, Text};
-use published_account::{
-    Copies, Entrance, Notes, Prefix, Published, Realm, Unnamed, Whole, Window, warm,
-};
+use published_account::{Copies, Entrance, Notes, Prefix, Published, Realm, Unnamed, Window, warm};
 use std::alloc::Global;
 use std::marker::Model;
 use std::sync::Wait;
@@ -59,8 +57,7 @@ fn empty_copies(
     ensures pending { IfOk result (λ w. drop w.behind w.log.items ≡ []) }
     ensures shown { IfOk result (λ w. w.desk.shown.value ≡ record { book = unnamed.now.seen.book; whole = record { facts = facts; passes = passes; pairs = [] } }) }
 {
-    let whole = Whole::empty(alloc, facts, passes)?;
-    let first = Published::new(whole, unnamed.seen.again());
+    let first = Published::empty(alloc, facts, passes, unnamed)?;
     let second = first.share()?;
     match Copies::new(alloc, first, second, passes as usize) {
         Ok(writer) => Ok(writer),
@@ -183,7 +180,7 @@ fn equip<R: Realm>(
     ensures passes { IfOk result (λ made. made.0.items ≡ fresh_passes R.facts R.passes R.passes) }
     ensures region { IfOk result (λ made. made.1 ≡ R.facts.region) }
 {
-    let facts = writer.published().whole().account().facts().copy()?;
+    let facts = writer.published().account().facts().copy()?;
     let region = facts.region.copy()?;
     let passes = make_passes(alloc, writer, &facts, prefix, share, passes)?;
     Ok((passes, region))
@@ -214,9 +211,9 @@ pub fn open_service<W: Wait, R: Realm>(
             drop(writer.take(rt));
             Err(error)
         }
-        Ok((passes, region)) => {
+        Ok((all, region)) => {
             let desk = Desk::new(writer, head, book);
-            Ok((Service::new(desk, Told::new(prefix), region), passes))
+            Ok((Service::new(desk, Told::new(prefix), passes, region), all))
         }
     }
 }

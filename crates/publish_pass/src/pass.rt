@@ -1,10 +1,11 @@
 // A pass.
-ghost use Rattle.std.specs.Prelude.{◌≡◌, ◌<◌, ◌≤◌, [], length, false, IfOk, IfErr};
+ghost use Rattle.std.specs.Prelude.{◌≡◌, ◌<◌, ◌≤◌, [], length, false, None, IfOk, IfErr, IsTrue, IsFalse};
 ghost use Rattle.kms_json.specs.Asks.{changes_account};
 ghost use Rattle.account_core.specs.Decide.{IsProper};
+ghost use Rattle.account_steps.specs.History.{housekeeping_of};
 ghost use Rattle.account_steps.specs.Places.{first_line};
 ghost use Rattle.published_account.specs.Growing.{IsLongerOf};
-ghost use Rattle.published_account.specs.Pairs.{IsHistory};
+ghost use Rattle.published_account.specs.Pairs.{IsHistory, entries_of};
 ghost use Rattle.publish_pass.specs.Pass.{fresh_pass, ArePlaces, Learns, AnswersRead, LacksRead};
 
 use crate::told::Told;
@@ -111,6 +112,24 @@ impl<R: Realm> Pass<R> {
         self.prefix = prefix;
         let answered = answered?;
         Ok(answered)
+    }
+
+    // Looks at the published account without a lock, and is true where no housekeeping is due there at the clock's
+    // answer: the pass then holds that history. Else it is as it was.
+    #[tactic(auto, using(crate::proofs::OwnPlaces::places_stay))]
+    pub(crate) fn finds_house_kept(&mut self, moment: u64) -> bool
+        ensures learns { IsTrue result → Learns self.old self.new }
+        ensures kept { IsTrue result → housekeeping_of (entries_of self.new.history) moment ≡ None }
+        ensures passes { self.new.passes ≡ R.passes }
+        ensures same { IsFalse result → self.new ≡ self.old }
+    {
+        match self.entrance.kept_house(&self.prefix, moment) {
+            None => false,
+            Some(prefix) => {
+                self.prefix = prefix;
+                true
+            }
+        }
     }
 
     /// What this pass tells others: all that it has seen. It takes no memory and waits for nobody.

@@ -20,17 +20,21 @@ use std::sync::{Mutex, MutexGuard, Wait};
 pub struct Service<R: Realm> {
     desk: Mutex<Desk<R>>,
     board: Mutex<Told<R>>,
+    passes: u16,
     region: Text,
+    ghost passes_is: { passes ≡ R.passes },
     ghost region_is: { region ≡ R.facts.region },
 }
 
 impl<R: Realm> Service<R> {
-    pub(crate) fn new(desk: Desk<R>, board: Told<R>, region: Text) -> Service<R>
-        requires { region ≡ R.facts.region }
+    pub(crate) fn new(desk: Desk<R>, board: Told<R>, passes: u16, region: Text) -> Service<R>
+        requires passes { passes ≡ R.passes }
+        requires region { region ≡ R.facts.region }
     {
         Service {
             desk: Mutex::new(desk),
             board: Mutex::new(board),
+            passes,
             region,
         }
     }
@@ -40,6 +44,7 @@ impl<R: Realm> Service<R> {
         let Service {
             desk,
             board: _,
+            passes: _,
             region: _,
         } = self;
         desk.into_inner().close(rt);
@@ -80,7 +85,18 @@ fn try_change<R: Realm, W: Wait, G: Gate>(
     None
 }
 
-// The same for housekeeping.
+// Looks at the published account, without a lock, and is true where the pass then holds a history at which no
+// housekeeping is due. A pass that is alone leaves it to the desk, where it is known that there are no entries but its
+// own.
+#[tactic(auto, using(crate::proofs::Meeting::kept_there))]
+fn needs_no_desk<R: Realm>(service: &Service<R>, pass: &mut Pass<R>, moment: u64) -> bool
+    ensures kept { IsTrue result → KeepsHouse pass.old moment pass.new }
+    ensures same { IsFalse result → pass.new ≡ pass.old }
+{
+    service.passes > 1 && pass.finds_house_kept(moment)
+}
+
+// Locks the desk, and does the housekeeping that is due there. It is None where the pass has seen more than the desk.
 #[tactic(auto, using(crate::proofs::Meeting::kept_on, crate::proofs::Meeting::left_on))]
 fn try_keep_house<R: Realm, W: Wait>(
     rt: &W,
@@ -146,8 +162,11 @@ impl<R: Realm> Pass<R> {
         unreachable!()
     }
 
-    /// Appends the entry of housekeeping at the clock's answer, if one is due at the whole published history,
-    /// which the pass then holds. For want of memory at most that entry was appended.
+    /// Appends the entry of housekeeping at the clock's answer, if one is due at a published history that holds all
+    /// that this pass has seen, and that it then holds. For want of memory at most that entry was appended.
+    ///
+    /// Where nothing is due it looks at the published account alone, without a lock. Else, or where the service has one
+    /// pass, it locks the desk, and goes by the whole history there.
     pub fn keep_house<W: Wait>(
         &mut self,
         rt: &W,
@@ -159,6 +178,9 @@ impl<R: Realm> Pass<R> {
         ensures kept { OnOk result (KeepsHouse self.old moment self.new) }
         ensures wants { OnErr result (WantsHouse self.old moment self.new) }
     {
+        if needs_no_desk(service, self, moment) {
+            return Ok(());
+        }
         for _ in rt.forever() {
             if let Some(kept) = try_keep_house(rt, alloc, service, self, moment) {
                 return kept;

@@ -1,29 +1,12 @@
 -- Lists of pairs, and beginnings of one list.
-use Rattle.std.proofs.Common.{◌≡◌, ℕ, suc, ◌≤◌, ◌<◌, subst, List, [], ◌∷◌, ◌++◌, length, fold, refl, ap, sym, ◌∙◌, arith, append_assoc, length-append}
-use Rattle.std.specs.List.{zip}
+use Rattle.std.proofs.Common.{◌≡◌, ℕ, ◌≤◌, ◌<◌, subst, List, [], ◌∷◌, ◌++◌, length, fold, refl, ap, sym, ◌∙◌, arith, append_assoc}
 use mathlib.Core.List.{IsPrefix}
 use Rattle.std.proofs.lemmas.List.{map-append}
 use Rattle.std.proofs.lemmas.List.Elements.{All-nil, All-push}
 use Rattle.account_steps.specs.History.{Entry}
 use Rattle.account_core.specs.Decide.{IsNext, IsLawful, empty, longer}
-use Rattle.published_account.specs.Pairs.{entries_of, IsHistory, Whole}
+use Rattle.published_account.specs.Pairs.{entries_of, IsHistory}
 use Rattle.account_steps.specs.declared.facts.RealmFacts.{RealmFacts}
-
-pub entries_of-zip : (es : List Entry) (ms : List ℕ) → length ms ≡ length es → entries_of (zip es ms) ≡ es
-entries_of-zip [] ms h = refl
-entries_of-zip (e ∷ es) [] h = absurd (omega arith)
-entries_of-zip (e ∷ es) (m ∷ ms) h = ap (λ xs. e ∷ xs) (entries_of-zip es ms (omega arith))
-
-pub zip-push : (es : List Entry) (ms : List ℕ) (e : Entry) (m : ℕ) → length ms ≡ length es → zip (es ++ e ∷ []) (ms ++ m ∷ []) ≡ zip es ms ++ (e, m) ∷ []
-zip-push [] [] e m h = refl
-zip-push [] (n ∷ ms) e m h = absurd (omega arith)
-zip-push (d ∷ es) [] e m h = absurd (omega arith)
-zip-push (d ∷ es) (n ∷ ms) e m h = ap (λ xs. (d, n) ∷ xs) (zip-push es ms e m (omega arith))
-
-pub length-zip : (es : List Entry) (ms : List ℕ) → length ms ≡ length es → length (zip es ms) ≡ length es
-length-zip [] ms h = refl
-length-zip (e ∷ es) [] h = absurd (omega arith)
-length-zip (e ∷ es) (m ∷ ms) h = ap suc (length-zip es ms (omega arith))
 
 -- each list begins with itself
 pub prefix_self : {A : Type 0} (xs : List A) → IsPrefix xs xs
@@ -64,12 +47,6 @@ history_push facts n pairs x is next = record {
   lawful = subst (IsLawful facts) (sym (entries_of-push pairs x)) (longer x.0 is.lawful next.0);
   makers = All-push (λ (made : Entry × ℕ). (0 < made.1) × (made.1 ≤ n)) pairs x is.makers (next.1, next.2);
 }
-
-pub zip_pushed : (m : ℕ) (e : Entry) (ms : List ℕ) (es : List Entry) (ms' : List ℕ) (es' : List Entry) → ms' ≡ ms ++ m ∷ [] → es' ≡ es ++ e ∷ [] → length ms ≡ length es → zip es' ms' ≡ zip es ms ++ (e, m) ∷ []
-zip_pushed m e ms es ms' es' p q h = rw (p, q) (zip-push es ms e m h)
-
-pub whole_is : (f g : RealmFacts) (m n : ℕ) (xs ys : List (Entry × ℕ)) → f ≡ g → m ≡ n → xs ≡ ys → let x : Whole = record { facts = f; passes = m; pairs = xs } in let y : Whole = record { facts = g; passes = n; pairs = ys } in x ≡ y
-whole_is f g m n xs ys p q r = λ i. record { facts = p i; passes = q i; pairs = r i }
 
 -- a beginning as long as the whole is the whole
 pub prefix_whole : {A : Type 0} (xs ys : List A) → IsPrefix xs ys → length ys ≤ length xs → xs ≡ ys

@@ -1,9 +1,10 @@
 // The edge to the published account.
-ghost use Rattle.std.specs.Prelude.{◌≡◌, length, IfSome, IfNone, false};
+ghost use Rattle.std.specs.Prelude.{◌≡◌, length, IfSome, IfNone, None, false};
 ghost use mathlib.Core.List.{IsPrefix};
 ghost use Rattle.left_right.specs.Sides.{view};
 ghost use Rattle.kms_json.specs.Asks.{changes_account};
 ghost use Rattle.account_core.specs.Decide.{IsProper};
+ghost use Rattle.account_steps.specs.History.{housekeeping_of};
 ghost use Rattle.account_steps.specs.Places.{IsLineOf};
 ghost use Rattle.published_account.specs.Pairs.{IsHistory, entries_of};
 ghost use Rattle.published_account.specs.Reading.{Rose};
@@ -84,12 +85,12 @@ fn answer_at<R: Realm>(
     ensures found { IfSome result (λ f. Settles R.facts (entries_of f.prefix) ask.now draws.old f.answered draws.new) }
     ensures missed { IfNone result (draws.new ≡ draws.old) }
 {
-    let count = shown.whole().len();
-    if count < known.len() {
+    let history = shown.history::<R>();
+    if history.len() < known.len() {
         return None;
     }
-    let prefix = known.joined(&Prefix::of(shown.glimpse(), count));
-    let answered = answer(alloc, shown.whole().account(), ask, draws);
+    let prefix = known.joined(&history);
+    let answered = answer(alloc, shown.account(), ask, draws);
     Some(Found { answered, prefix })
 }
 
@@ -115,6 +116,41 @@ fn look<R: Realm>(
         Ok(reading) => {
             let found = answer_at(reading.get(), alloc, known, ask, draws);
             (reading.leave(), found)
+        }
+    }
+}
+
+// The history of what is published, where no housekeeping is due there at the clock's answer; None where it is, or
+// where the history is older than what is known.
+fn kept_at<R: Realm>(shown: &Published, known: &Prefix<R>, moment: u64) -> Option<Prefix<R>>
+    requires names { Names R.book R.facts R.passes shown.now }
+    ensures begins { IfSome result (λ p. IsPrefix known.now p × IsHistory R.facts R.passes p) }
+    ensures kept { IfSome result (λ p. housekeeping_of (entries_of p) moment ≡ None) }
+{
+    let history = shown.history::<R>();
+    if history.len() < known.len() || shown.account().housekeeping(moment).is_some() {
+        return None;
+    }
+    Some(known.joined(&history))
+}
+
+// Enters once, looks whether housekeeping is due, and leaves. It is None where it is, where the account was not
+// entered, or where it is older than what is known.
+fn look_for_house<R: Realm>(
+    window: Window,
+    known: &Prefix<R>,
+    moment: u64,
+) -> (Window, Option<Prefix<R>>)
+    requires window { Knows R.book R.facts R.passes (view window.place) }
+    ensures window { Knows R.book R.facts R.passes (view result.0.place) }
+    ensures begins { IfSome result.1 (λ p. IsPrefix known.now p × IsHistory R.facts R.passes p) }
+    ensures kept { IfSome result.1 (λ p. housekeeping_of (entries_of p) moment ≡ None) }
+{
+    match window.enter_as::<Sees>() {
+        Err(window) => (window, None),
+        Ok(reading) => {
+            let kept = kept_at(reading.get(), known, moment);
+            (reading.leave(), kept)
         }
     }
 }
@@ -163,5 +199,19 @@ impl<R: Realm> Entrance<R> {
             self.missed = self.missed.saturating_add(1);
         }
         found
+    }
+
+    /// Enters the published account once, without a lock, and looks whether housekeeping is due there at the clock's
+    /// answer. Where it isn't, this is the published history, which the known one begins. At `None` it may be due. It
+    /// takes no memory, and no miss is counted.
+    pub fn kept_house(&mut self, known: &Prefix<R>, moment: u64) -> Option<Prefix<R>>
+        ensures begins { IfSome result (λ p. IsPrefix known.now p × IsHistory R.facts R.passes p) }
+        ensures kept { IfSome result (λ p. housekeeping_of (entries_of p) moment ≡ None) }
+        ensures same { self.new ≡ self.old }
+    {
+        let window = self.window.take().unwrap();
+        let (window, kept) = look_for_house(window, known, moment);
+        self.window = Some(window);
+        kept
     }
 }

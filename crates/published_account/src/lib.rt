@@ -13,7 +13,6 @@ mod realm;
 mod rule;
 mod showing;
 mod threads;
-mod whole;
 
 pub use answered::{Answered, Unread, answer_with};
 pub use entrance::{Entrance, Found};
@@ -22,5 +21,4 @@ pub use published::Published;
 pub use realm::Realm;
 pub use rule::{Copies, Notes, Window};
 pub use showing::{show, warm};
-pub use threads::whole_crosses_threads;
-pub use whole::Whole;
+pub use threads::published_crosses_threads;

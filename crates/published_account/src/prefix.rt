@@ -130,8 +130,8 @@ impl<R: Realm> Model for Prefix<R> {
 }
 
 impl<R: Realm> Prefix<R> {
-    /// What was seen, of which the length is known.
-    pub fn of(glimpse: &Glimpse, count: u64) -> Prefix<R>
+    // What was seen, of which the length is known.
+    pub(crate) fn of(glimpse: &Glimpse, count: u64) -> Prefix<R>
         requires { (glimpse.now.book ≡ R.book) × (count ≡ length glimpse.now.log) × IsHistory R.facts R.passes glimpse.now.log }
         ensures { result ≡ glimpse.now.log }
     {
@@ -144,7 +144,8 @@ impl<R: Realm> Prefix<R> {
 
     /// What was seen, once more.
     pub fn glimpse(&self) -> Glimpse
-        ensures { (result.book ≡ R.book) × (result.log ≡ self.now) }
+        ensures seen { (result.book ≡ R.book) × (result.log ≡ self.now) }
+        ensures history { IsHistory R.facts R.passes self.now }
     {
         self.seen.again()
     }

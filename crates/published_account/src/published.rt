@@ -1,54 +1,107 @@
 // What is published.
-ghost use Rattle.std.specs.Prelude.{◌≡◌, length, IfOk};
+ghost use Rattle.std.specs.Prelude.{◌≡◌, ◌++◌, ◌∷◌, [], IfOk};
 ghost use Rattle.std.specs.Arc.{arc_value};
+ghost use Rattle.account_core.specs.Decide.{IsNext};
+ghost use Rattle.published_account.specs.Pairs.{entries_of};
+ghost use Rattle.published_account.specs.Rules.{Names};
 
-use crate::prefix::Glimpse;
-use crate::whole::Whole;
+use crate::prefix::{Glimpse, Prefix, Unnamed};
+use crate::realm::Realm;
+use account_core::Account;
+use account_rows::Entry;
+use account_steps::RealmFacts;
+use kms_names::NoMemory;
 use left_right::Absorb;
-use std::alloc::AllocError;
+use std::alloc::{AllocError, Global};
 use std::marker::Model;
 use std::sync::Arc;
 
-/// What readers take: the whole behind one `Arc`, beside what was seen of the history. Contracts see it as the history's book and the whole.
+/// What readers take: the account behind one `Arc`, beside what was seen of its history. Contracts see the
+/// history's book, the facts, the number of passes, and each entry with its maker, which no other place has.
 #[derive(Drop)]
 pub struct Published {
-    whole: Arc<Whole>,
+    account: Arc<Account>,
+    passes: u16,
     glimpse: Glimpse,
 }
 
 impl Model for Published {
     ghost use Rattle.std.specs.Prelude.{◌≡◌};
     ghost use Rattle.std.specs.Arc.{arc_value};
-    ghost use Rattle.published_account.specs.Pairs.{Shown};
+    ghost use Rattle.published_account.specs.Pairs.{Shown, IsHistory, entries_of};
 
     ghost Value = { Shown };
 
-    ghost view = { λ p. record { book = p.glimpse.book; whole = arc_value p.whole } };
+    ghost view = { λ p. record { book = p.glimpse.book; whole = record { facts = (arc_value p.account).facts; passes = p.passes; pairs = p.glimpse.log } } };
 
-    ghost invariant = { λ p. (arc_value p.whole).pairs ≡ p.glimpse.log };
+    ghost invariant = { λ p. record {
+      entries : (arc_value p.account).entries ≡ entries_of p.glimpse.log;
+      history : IsHistory (arc_value p.account).facts p.passes p.glimpse.log;
+    } };
+}
+
+fn behind_arc(alloc: Global, account: Account) -> Result<Arc<Account>, NoMemory>
+    ensures { IfOk result (λ a. arc_value a ≡ account) }
+{
+    match Arc::new(alloc, account) {
+        Ok(shared) => Ok(shared),
+        Err(_) => Err(NoMemory),
+    }
 }
 
 impl Published {
-    /// The whole, with what was seen of its history.
-    pub fn new(whole: Arc<Whole>, glimpse: Glimpse) -> Published
-        requires { (arc_value whole).pairs ≡ glimpse.log }
-        ensures { result ≡ record { book = glimpse.book; whole = arc_value whole } }
+    /// The account of these facts with no entries, at the beginning of a history that no realm names yet.
+    pub fn empty(
+        alloc: Global,
+        facts: RealmFacts,
+        passes: u16,
+        unnamed: &Unnamed,
+    ) -> Result<Published, NoMemory>
+        ensures { IfOk result (λ p. p ≡ record { book = unnamed.now.seen.book; whole = record { facts = facts; passes = passes; pairs = [] } }) }
     {
-        Published { whole, glimpse }
+        let account = Account::empty(alloc, facts)?;
+        Ok(Published {
+            account: behind_arc(alloc, account)?,
+            passes,
+            glimpse: unnamed.seen.again(),
+        })
     }
 
-    /// What was seen of the history: all of its pairs.
-    pub fn glimpse(&self) -> &Glimpse
-        ensures { (result.now.book ≡ self.now.book) × (result.now.log ≡ self.now.whole.pairs) }
+    /// The account with one more entry; this one stays.
+    pub fn next_account(&self, alloc: Global, entry: &Entry) -> Result<Arc<Account>, NoMemory>
+        requires { IsNext self.now.whole.facts (entries_of self.now.whole.pairs) entry.now }
+        ensures { IfOk result (λ a. arc_value a ≡ record { facts = self.now.whole.facts; entries = entries_of self.now.whole.pairs ++ entry.now ∷ [] }) }
     {
-        &self.glimpse
+        let next = self.account().apply(entry)?;
+        behind_arc(alloc, next)
     }
 
-    /// The account with its makers.
-    pub fn whole(&self) -> &Whole
-        ensures { result.now ≡ self.now.whole }
+    /// What is published where this was: the account of a history of the same realm.
+    pub fn next<R: Realm>(&self, account: Arc<Account>, history: &Prefix<R>) -> Published
+        requires names { Names R.book R.facts R.passes self.now }
+        requires account { arc_value account ≡ record { facts = R.facts; entries = entries_of history.now } }
+        ensures { result ≡ record { book = R.book; whole = record { facts = R.facts; passes = R.passes; pairs = history.now } } }
     {
-        &*self.whole
+        Published {
+            account,
+            passes: self.passes,
+            glimpse: history.glimpse(),
+        }
+    }
+
+    /// The history that it stands on.
+    pub fn history<R: Realm>(&self) -> Prefix<R>
+        requires { Names R.book R.facts R.passes self.now }
+        ensures { result ≡ self.now.whole.pairs }
+    {
+        Prefix::of(&self.glimpse, self.account.entries())
+    }
+
+    /// The account.
+    pub fn account(&self) -> &Account
+        ensures { result.now ≡ record { facts = self.now.whole.facts; entries = entries_of self.now.whole.pairs } }
+    {
+        &*self.account
     }
 
     /// The same value, held once more.
@@ -56,13 +109,14 @@ impl Published {
         ensures { IfOk result (λ p. p ≡ self.now) }
     {
         Ok(Published {
-            whole: Arc::try_clone(&self.whole)?,
+            account: Arc::try_clone(&self.account)?,
+            passes: self.passes,
             glimpse: self.glimpse.again(),
         })
     }
 }
 
-/// An operation is the next whole value, which takes the place of this one.
+/// An operation is the next published value, which takes the place of this one.
 impl Absorb<Published> for Published {
     type State = Published;
 

@@ -1,7 +1,7 @@
 use Rattle.std.proofs.Common.{sym, subst}
 use Rattle.account_core.specs.Decide.{IsNext}
-use Rattle.published_account.specs.Pairs.{Whole, entries_of}
+use Rattle.published_account.specs.Pairs.{Shown, entries_of}
 use Rattle.publish_pass.proofs.desk.Desk.prepare.Goals as goal
 
-pub next-requires-clause-next : goal.next-requires-clause-next
-next-requires-clause-next g c = subst (λ (w : Whole). IsNext w.facts (entries_of w.pairs) c.args.entry.now) (sym c.whole.ensures) c.requires
+pub next_account-requires : goal.next_account-requires
+next_account-requires g c = subst (λ (x : Shown). IsNext x.whole.facts (entries_of x.whole.pairs) c.args.entry.now) (sym c.published.ensures) c.requires
