@@ -1,6 +1,7 @@
-use Rattle.std.proofs.Common.{◌≡◌, ℕ, length, sym, ap, ◌∙◌, arith}
+use Rattle.std.proofs.Common.{◌≡◌, ℕ, ◌≤◌, length, sym, ap, ◌∙◌, arith}
 use Rattle.std.proofs.lemmas.Bool.Decides.{nat_tests}
 use Rattle.std.specs.Prelude.{IsTrue, nat_eq}
+use Rattle.published_account.proofs.Lists.{prefix_whole}
 use Rattle.publish_pass.specs.Pass.{Pass}
 use Rattle.publish_pass.proofs.OwnPlaces.{it_knew, it_made}
 use Rattle.publish_pass.proofs.desk.Desk.meet.Goals as goal
@@ -27,3 +28,10 @@ returns-clause-alone g c = λ yes.
       λ one. it_knew _ t c.pass.invariant.own c.learn_prefix.ensures.learns (as_many (passes ∙ one)) ∙ c.pass.view_is,
       λ one. it_made _ t c.pass.invariant.own c.learn_prefix.ensures.learns (as_many one),
     )
+
+pub returns-clause-same : goal.returns-clause-same
+returns-clause-same g c = λ yes.
+    let known = c.prefix-prefix.result in
+    let history = c.learn_prefix.new.self.history in
+    let no_longer : length history ≤ length known = omega (arith, same_number c.seen.result c.len.result yes, c.seen.ensures.number, c.len.ensures.count) in
+    sym (prefix_whole known history c.learn_prefix.ensures.longer.second no_longer) ∙ c.prefix-prefix.ensures ∙ c.self.view_is
