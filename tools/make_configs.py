@@ -27,13 +27,13 @@ read_config | JSON | what is configured, or the place of the first fault
 padded | JSON | how many bytes there are with spaces behind it | the same
 
 What is configured is `ok`, the account, the region, the root secret, the boot number; the credentials as ID SECRET ARN; and the principals with
-policies as ARN COUNT, with `; ` between the parts and `, ` between the items of a list, which is `-` where it is empty. The place of a fault is its
-JSON pointer.
+policies as ARN COUNT, with `; ` between the parts and `, ` between the items of a list, which is `-` where it is empty; and where there is a ceiling
+`; ceiling COUNT`. The place of a fault is its JSON pointer.
 
 A configuration is a JSON object of at most 4,194,304 bytes with exactly `account` (12 digits), `region` (1 to 32 of a to z, 0 to 9, `-`), `root` (64 hexadecimal
 digits), `boot` (1 to 4294967295), `credentials` (a list of at most 1,000 objects of `accessKeyId`, 1 to 128 letters and digits, distinct, `secret`, 1 to 128 visible ASCII
 characters, and `principal`) and `policies` (a list of at most 1,000 objects of `principal`, distinct and not the root, and `documents`, a list of at most 10 identity
-policies). A principal is an ARN of the account. Faults are looked for in this order, and of each object's other members last, in byte order. What is no JSON object or too
+policies); `ceiling` (a list of 1 to 10 identity policies) may stand behind them. A principal is an ARN of the account. Faults are looked for in this order, and of each object's other members last, in byte order. What is no JSON object or too
 long is refused at `/`. Credentials are put in the order of their ids.
 
 Made by tools/make_configs.py, with answers written by hand from these rules.
@@ -239,6 +239,27 @@ def policies():
     change(ok(policies=f"{ANN} 2"), ["policies", 0, "documents", 1], {"Statement": [{"Effect": "Deny", "NotAction": ["kms:Encrypt"], "NotResource": "*", "Condition": {"Bool": {"aws:SecureTransport": "false"}}}]})
 
 
+def ceilings():
+    file.note("The account's ceiling.")
+    for count in (1, 2, 10):
+        change(ok() + f"; ceiling {count}", ["ceiling"], [DOCUMENT] * count)
+    for value in [None, [], {}, DOCUMENT, 1, "x", False, [DOCUMENT] * 11, [1] * 11]:
+        change("/ceiling", ["ceiling"], value)
+    for value in [None, 1, "x", [], text_of(DOCUMENT)]:
+        change("/ceiling/0", ["ceiling"], [value])
+        change("/ceiling/1", ["ceiling"], [DOCUMENT, value, 1])
+    change("/ceiling/0/Statement", ["ceiling"], [{}])
+    change("/ceiling/1/Statement/Effect", ["ceiling"], [DOCUMENT, {"Statement": {"Effect": "allow", "Action": "*", "Resource": "*"}}])
+    change("/ceiling/1/Statement/0/Condition/IpAddress", ["ceiling"], [DOCUMENT, {"Statement": [{"Effect": "Deny", "Action": "*", "Resource": "*", "Condition": {"IpAddress": {"aws:SourceIp": "10.0.0.0/8"}}}]}])
+    change("/ceiling/0/Statement/Principal", ["ceiling"], [{"Statement": {"Effect": "Allow", "Principal": "*", "Action": "*", "Resource": "*"}}])
+    for other in ["ceilin", "ceilings", "Ceiling"]:
+        case("/" + other, changed(["ceiling"], [DOCUMENT]) | {other: 1})
+        case("/ceiling", changed(["ceiling"], []) | {other: 1})
+    config = changed(["ceiling"], [])
+    config["policies"] = None
+    case("/policies", config)
+
+
 def orders():
     file.note("The first of two faults.")
     names = list(base())
@@ -264,5 +285,6 @@ members()
 unknown()
 credentials()
 policies()
+ceilings()
 orders()
 file.write()

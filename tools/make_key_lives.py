@@ -13,7 +13,7 @@ import uuid
 from email.utils import formatdate
 from pathlib import Path
 
-from cryptography.hazmat.primitives.ciphers.aead import AESGCM
+import blobs
 
 DATA = Path(__file__).resolve().parent.parent / "crates/worked_cases/data"
 ROOT_SECRET = bytes(32)
@@ -44,11 +44,9 @@ def encoded(context):
     return b"".join(len(t).to_bytes(4, "big") + t for pair in pairs for t in pair)
 
 
-def seal(key, version, count, context, text):
-    head = b"\x01" + key + version.to_bytes(4, "big")
+def seal(key, version, count, context, text, form=2):
     iv = (1).to_bytes(4, "big") + (1).to_bytes(2, "big") + count.to_bytes(6, "big")
-    material = mac(b"material" + key + version.to_bytes(4, "big"))
-    return head + iv + AESGCM(material).encrypt(iv, text, head + encoded(context))
+    return blobs.sealed(ROOT_SECRET, key, version, iv, encoded(context), text, form)
 
 
 def b64(data):
@@ -283,9 +281,9 @@ class Account:
     def blob(self, k=-1):
         return list(self.blobs)[k]
 
-    def plant(self, key, version, context, text):
+    def plant(self, key, version, context, text, form=2):
         """A blob that no request of the session made, as if by a pass that drew the vector 65,535."""
-        blob = b64(seal(key, version, 65535, context, text))
+        blob = b64(seal(key, version, 65535, context, text, form))
         self.blobs[blob] = (key, version, context, text)
         return blob
 

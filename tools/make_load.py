@@ -1,7 +1,7 @@
 """Prints the five lines of a workload: python3 -B tools/make_load.py SEED REQUESTS
 
 The account in Python of whole_account.py answers the messages; the words are the key stream of Python's cryptography, the blobs that
-are decrypted are sealed by its AESGCM, and each reply is written with its head as crates/http_front has it.
+are decrypted are sealed by blobs.py, and each reply is written with its head as crates/http_front has it.
 """
 
 import base64
@@ -10,12 +10,11 @@ import json
 import sys
 from email.utils import formatdate
 
-from cryptography.exceptions import InvalidTag
 from cryptography.hazmat.primitives.ciphers import Cipher, algorithms
-from cryptography.hazmat.primitives.ciphers.aead import AESGCM
 
+import blobs
 import whole_account
-from make_key_lives import ACCOUNT, START, Refused, b64, encoded, key_id, mac, printed
+from make_key_lives import ACCOUNT, ROOT_SECRET, START, Refused, b64, encoded, key_id, mac, printed
 from whole_account import Whole
 
 KEYS = 8
@@ -27,12 +26,10 @@ class Loaded(Whole):
     """The account whose blobs are opened, and not looked up, and whose replies are told."""
 
     def text_of(self, key, blob, context):
-        raw = base64.b64decode(blob)
-        material = AESGCM(mac(b"material" + raw[1:21]))
-        try:
-            return material.decrypt(raw[21:33], raw[33:], raw[:21] + encoded(context))
-        except InvalidTag:
-            raise Refused("InvalidCiphertextException", "The ciphertext does not open.") from None
+        text = blobs.opened(ROOT_SECRET, base64.b64decode(blob), encoded(context))
+        if text is None:
+            raise Refused("InvalidCiphertextException", "The ciphertext does not open.")
+        return text
 
     def told(self, operation, body):
         """The status and the body of the reply."""
@@ -54,9 +51,8 @@ def words_of(seed, count):
 
 def blob(key, number, context):
     """The blob of a message's text, under the first version of the key."""
-    head = b"\x01" + key + (1).to_bytes(4, "big")
     vector = (1).to_bytes(4, "big") + (65535).to_bytes(2, "big") + number.to_bytes(6, "big")
-    return head + vector + AESGCM(mac(b"material" + head[1:])).encrypt(vector, number.to_bytes(8, "big"), head + encoded(context))
+    return blobs.sealed(ROOT_SECRET, key, 1, vector, encoded(context), number.to_bytes(8, "big"))
 
 
 def message(number, words):

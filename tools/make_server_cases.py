@@ -11,8 +11,8 @@ import json
 import os
 import uuid
 
+import blobs
 import signing
-from cryptography.hazmat.primitives.ciphers.aead import AESGCM
 
 PLACE = os.path.join(os.path.dirname(__file__), "..", "crates", "server_cases", "src", "messages.rt")
 STAMP = "20231114T221320Z"
@@ -21,7 +21,6 @@ ACCESS_KEY = ("AKIDEXAMPLE", "wJalrXUtnFEMI/K7MDENG+bPxRfiCYEXAMPLEKEY")
 # Boot 1 of the service, whose root secret is of zeros, and the first place of its history.
 BOOT = (1).to_bytes(4, "big")
 PLACE_0 = bytes(6)
-VERSION = (1).to_bytes(4, "big")
 
 
 def mac(key, text):
@@ -34,10 +33,8 @@ ID = str(uuid.UUID(bytes=KEY))
 
 def sealed(text):
     """A text sealed under the first key by a pass of number 9, whose first it is."""
-    head = b"\x01" + KEY + VERSION
     vector = BOOT + (9).to_bytes(2, "big") + bytes(6)
-    blob = head + vector + AESGCM(mac(bytes(32), b"material" + KEY + VERSION)).encrypt(vector, text, head)
-    return base64.b64encode(blob).decode()
+    return base64.b64encode(blobs.sealed(bytes(32), KEY, 1, vector, b"", text)).decode()
 
 
 def message(operation, body, after=None):

@@ -43,6 +43,7 @@ Signed messages (AWS Signature Version 4).
 
 signing_key | secret access key | day | region | service | the key, in hexadecimal
 check | message | credentials | region | the clock's second | who signed it, or why nobody did
+check_with | how many messages, for which one key is kept | for each what `check` has | for each who signed it, or why nobody did
 
 In a message `\\n` is a CR and a LF, and `\\t` is a tab. A credential is its id, its secret and its principal's ARN, with a space
 between two.
@@ -331,6 +332,73 @@ def wire():
     file.case("check", word.replace("TrentService.Encrypt", "TrentService.Decrypt"), CREDENTIALS, REGION, str(SECOND), "BadSignature")
 
 
+def step(answer, headers, clock=SECOND, region=REGION, credentials=CREDENTIALS):
+    """A message of a run, and its answer."""
+    return (written(headers), credentials, region, str(clock)), answer
+
+
+def run(*steps):
+    columns = [column for inputs, _ in steps for column in inputs]
+    file.case("check_with", str(len(steps)), *columns, " ".join(answer for _, answer in steps))
+
+
+def signed_by_the_key_of(secret=SECRET, day=STAMP[:8], region=REGION, stamp=STAMP, own_region=REGION):
+    """The headers of a date, whose scope is its own, with a signature under the key of other ones."""
+    headers = with_value("X-Amz-Date", stamp)
+    scope = f"{stamp[:8]}/{own_region}/{SERVICE}/aws4_request"
+    text = "\n".join(["AWS4-HMAC-SHA256", stamp, scope, signing.digest(canonical(headers, NAMES, "{}"))])
+    digits = signing.mac(signing.signing_key(secret, day, region, SERVICE), text).hex()
+    return headers + [("Authorization", authorization(digits, day=stamp[:8], region=own_region))]
+
+
+def runs():
+    file.note("Runs of messages for which one key is kept: of one day and the next, of two credentials, of two regions, and wrong ones between.")
+    tomorrow, away = "20231115T101112Z", "eu-central-1"
+    later = seconds_of(tomorrow)
+    changed = f"{ID} {OTHER_SECRET} {ANN}"
+    longer = f"{ID} {SECRET}/ {ANN}, {OTHER} {SECRET} {ROOT}"
+    assert signed_by_the_key_of() == signed(BASE)
+    right = step(ANN, signed(BASE))
+    next_day = step(ANN, at(tomorrow), clock=later)
+    other = step(ROOT, signed(BASE, id=OTHER, secret=OTHER_SECRET))
+    abroad = step(ANN, signed(BASE, region=away), region=away)
+    wrong = step("BadSignature", signed(BASE, secret=OTHER_SECRET))
+    other_wrong = step("BadSignature", signed(BASE, id=OTHER))
+    right_once_changed = step(ANN, signed(BASE, secret=OTHER_SECRET), credentials=changed)
+    wrong_once_changed = step("BadSignature", signed(BASE), credentials=changed)
+    of_yesterday = step("BadSignature", signed_by_the_key_of(stamp=tomorrow), clock=later)
+    of_tomorrow = step("BadSignature", signed_by_the_key_of(day=tomorrow[:8]))
+    of_away = step("BadSignature", signed_by_the_key_of(region=away))
+    of_home = step("BadSignature", signed_by_the_key_of(own_region=away), region=away)
+    of_longer = step(ANN, signed(BASE, secret=SECRET + "/"), credentials=longer)
+    of_shorter = step(ROOT, signed(BASE, id=OTHER), credentials=longer)
+    unsigned = [
+        step("NoAuth", BASE), step("Incomplete", signed(BASE), region=away), step("UnknownKey", signed(BASE, id="AKIDNOBODY")),
+        step("Expired", signed(BASE), clock=later), step("Expired", at(tomorrow)),
+    ]
+    run(right)
+    run(right, right, right)
+    run(right, next_day, right, next_day, next_day)
+    run(right, other, other, right, other)
+    run(right, abroad, right, abroad, abroad)
+    run(wrong, right, wrong, right)
+    run(other, wrong, other, other_wrong, right, other_wrong, wrong, other)
+    run(right, right_once_changed, right, wrong_once_changed, right_once_changed, wrong, right)
+    run(right, of_yesterday, next_day, of_tomorrow, right, of_yesterday, next_day)
+    run(next_day, of_tomorrow, right, of_yesterday)
+    run(abroad, of_away, right, of_home, abroad, of_away, right)
+    run(right, of_home, of_away, right)
+    run(of_longer, of_shorter, of_longer, right, of_shorter, of_longer)
+    run(right, *unsigned, right, *reversed(unsigned), next_day)
+    run(*unsigned, right)
+    every = [
+        right, next_day, other, abroad, wrong, other_wrong, right_once_changed, wrong_once_changed, of_yesterday, of_tomorrow, of_away, of_home,
+        of_longer, of_shorter, *unsigned,
+    ]
+    for _ in range(9):
+        run(*file.random.choices(every, k=9))
+
+
 keys()
 windows()
 by_botocore()
@@ -340,4 +408,5 @@ scopes()
 forms()
 dates()
 wire()
+runs()
 file.write()

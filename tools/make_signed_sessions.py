@@ -17,6 +17,7 @@ DATES = {
     1700000000: "Tue, 14 Nov 2023 22:13:20 GMT",
     1700000300: "Tue, 14 Nov 2023 22:18:20 GMT",
     1700000301: "Tue, 14 Nov 2023 22:18:21 GMT",
+    1700006400: "Wed, 15 Nov 2023 00:00:00 GMT",
 }
 ACCOUNT = "111122223333"
 ROOT = f"arn:aws:iam::{ACCOUNT}:root"
@@ -37,8 +38,9 @@ PLACE = os.path.join(os.path.dirname(__file__), "..", "crates", "worked_cases", 
 lines = []
 
 
-def message(operation, body, caller=KEEPER, names=signing.NAMES, region=REGION, stamp=STAMP, sent=None, change=None):
-    """A message, which the caller signs where there is one; another body may be sent in the signed one's place, and the signature changed."""
+def message(operation, body, caller=KEEPER, names=signing.NAMES, region=REGION, stamp=STAMP, sent=None, change=None, key_day=None):
+    """A message, which the caller signs where there is one; another body may be sent in the signed one's place, the signature changed, and
+    the signing key of another day taken."""
     sent = body if sent is None else sent
     headers = [
         ("Host", "localhost"),
@@ -49,7 +51,11 @@ def message(operation, body, caller=KEEPER, names=signing.NAMES, region=REGION, 
     ]
     if caller is not None:
         values = {name.lower(): value for name, value in headers}
-        scope, digits = signing.signature(caller[1], stamp, region, signing.canonical_request(values, names, body))
+        canonical = signing.canonical_request(values, names, body)
+        scope, digits = signing.signature(caller[1], stamp, region, canonical)
+        if key_day is not None:
+            text = "\n".join(["AWS4-HMAC-SHA256", stamp, scope, signing.digest(canonical)])
+            digits = signing.mac(signing.signing_key(caller[1], key_day, region), text).hex()
         if change is not None:
             digits = change(digits)
         headers.append(("Authorization", signing.authorization(caller[0], scope, names, digits)))
@@ -83,8 +89,8 @@ def metadata(second):
     )
 
 
-def refused(why):
-    say("< 400 " + ANSWERS[why])
+def refused(why, front=0):
+    say("< 400 " + ANSWERS[why].replace(" 0 ", f" {front} ", 1))
 
 
 def one(what, text, answer, second=SECOND):
@@ -159,6 +165,28 @@ def callers():
     say("end Ended")
 
 
+def days():
+    describe = '{"KeyId":"' + KEY + '"}'
+    midnight, before, after = 1700006400, "20231114T235900Z", "20231115T000100Z"
+    begin("messages of two days, around midnight", (midnight,))
+    ask(message("CreateKey", "{}", stamp=before))
+    say(f"< 200 1 {metadata(midnight)}")
+    for stamp in (after, before, after, after):
+        ask(message("DescribeKey", describe, stamp=stamp))
+        say(f"< 200 1 {metadata(midnight)}")
+    ask(message("DescribeKey", describe, stamp=before, key_day=after[:8]))
+    refused("bad", 1)
+    ask(message("DescribeKey", describe, stamp=before))
+    say(f"< 200 1 {metadata(midnight)}")
+    ask(message("DescribeKey", describe, stamp=after, key_day=before[:8]))
+    refused("bad", 1)
+    ask(message("DescribeKey", describe, stamp=before, caller=(OTHER[0], KEEPER[1], ANN)))
+    refused("bad", 1)
+    ask(message("DescribeKey", describe, stamp=after))
+    say(f"< 200 1 {metadata(midnight)}")
+    say("end Ended")
+
+
 say("# Sessions of signed messages (AWS Signature Version 4). Made by tools/make_signed_sessions.py: the signatures are those of Python's hmac,")
 say("# and what is wanted was written by hand.")
 say(f"text K1 {KEY}")
@@ -167,5 +195,6 @@ windows()
 signatures()
 orders()
 callers()
+days()
 with open(PLACE, "w") as file:
     file.write("\n".join(lines) + "\n")

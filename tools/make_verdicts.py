@@ -10,7 +10,8 @@ import make_policies
 from vectors import Below
 
 NOTE = """
-Made by tools/make_verdicts.py: random policies and requests, with the answers of an evaluation in Python.
+Made by tools/make_verdicts.py: random policies and requests, and then random ceilings, with the answers of an evaluation in
+Python.
 """
 
 ROOT = "arn:aws:iam::111122223333:root"
@@ -66,6 +67,12 @@ def verdict(kind, document, caller, action, resource, facts):
     return "ByRoot" if any(names(statement, [root]) for statement in allowed) else "Silent"
 
 
+def ceiling(documents, action, resource, facts):
+    """What the documents of a ceiling say, whomever their statements name."""
+    effects = {statement["Effect"] for document in documents for statement in listed(json.loads(document)["Statement"]) if matches(statement, action, resource, facts)}
+    return "Stops" if documents and effects != {"Allow"} else "Passes"
+
+
 class Policies:
     """Policies about few callers, actions, resources and keys, so that many match."""
 
@@ -114,6 +121,14 @@ def main():
         assert make_policies.answer(kind, document).startswith(kind)
         written = "; ".join(key + " = " + make_conditions.listed(values) for key, values in facts) or "-"
         file.once("verdict", kind, document, *request, written, verdict(kind, document, *request, facts))
+    for _ in range(200):
+        kinds = [file.random.choice(["identity", "identity", "identity", "key"]) for _ in range(file.random.choice([0, 1, 1, 2, 2, 3]))]
+        documents = [json.dumps(policies.document(kind), separators=(",", ":")) for kind in kinds]
+        request = [file.random.choice(ACTIONS), file.random.choice(RESOURCES)]
+        facts = policies.facts()
+        written = "; ".join(key + " = " + make_conditions.listed(values) for key, values in facts) or "-"
+        columns = [column for pair in zip(kinds, documents) for column in pair]
+        file.once("ceiling", str(len(kinds)), *columns, file.random.choice(CALLERS), *request, written, ceiling(documents, *request, facts))
     file.write()
 
 

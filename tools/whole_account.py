@@ -10,10 +10,12 @@ import json
 import re
 import struct
 import uuid
+from datetime import datetime, timezone
 from email.utils import formatdate
 
 from cryptography.hazmat.primitives.ciphers import Cipher, algorithms
 
+import blobs
 import make_key_lives
 import make_verdicts
 from make_key_lives import ACCOUNT, ROOT, Refused, arn, b64, key_id, mac, printed
@@ -102,14 +104,15 @@ class Whole(make_key_lives.Account):
 
     long = False
 
-    def __init__(self, what, policies=None, caller=ROOT, asked=False):
+    def __init__(self, what, policies=None, caller=ROOT, asked=False, ceiling=()):
         super().__init__(what)
         self.aliases, self.grants, self.words = [], [], 0
-        self.policies, self.caller, self.asked = policies or {}, caller, asked
+        self.policies, self.caller, self.asked, self.ceiling = policies or {}, caller, asked, list(ceiling)
         if asked:
             self.lines.append("spent 0 0")
         for who, documents in self.policies.items():
             self.lines += [f"policy {who} {document}" for document in documents]
+        self.lines += [f"ceiling {document}" for document in self.ceiling]
         if caller != ROOT:
             self.lines.append(f"as {caller}")
 
@@ -173,8 +176,10 @@ class Whole(make_key_lives.Account):
     KIND = [("kms:KeySpec", ["SYMMETRIC_DEFAULT"]), ("kms:KeyUsage", ["ENCRYPT_DECRYPT"]), ("kms:KeyOrigin", ["AWS_KMS"]), ("kms:MultiRegion", ["false"])]
 
     def facts(self, key=None, alias=None):
+        now = datetime.fromtimestamp(self.moment(), timezone.utc).strftime("%Y-%m-%dT%H:%M:%SZ")
         found = [("aws:PrincipalArn", [self.caller]), ("aws:PrincipalAccount", [ACCOUNT]), ("kms:CallerAccount", [ACCOUNT]),
-                 ("aws:EpochTime", [str(self.moment())]), ("aws:RequestedRegion", [REGION]), ("aws:SecureTransport", ["false"])]
+                 ("aws:CurrentTime", [now]), ("aws:EpochTime", [str(self.moment())]), ("aws:RequestedRegion", [REGION]),
+                 ("aws:SecureTransport", ["false"])]
         if ":user/" in self.caller:
             found.append(("aws:username", [self.caller.rsplit("/", 1)[1]]))
         if key:
@@ -183,6 +188,11 @@ class Whole(make_key_lives.Account):
             found += [("kms:ResourceAliases", names)] if names else []
             found += [("kms:RequestAlias", [alias])] if alias else []
         return found
+
+    def stops(self, action, resource, facts):
+        """Whether the account's ceiling stops it: one of its documents denies it, or there are some and none allows it."""
+        said = {make_verdicts.verdict("identity", document, self.caller, action, resource, facts) for document in self.ceiling}
+        return bool(said) and ("Deny" in said or "Direct" not in said)
 
     def own_verdict(self, action, resource, facts):
         said = {make_verdicts.verdict("identity", document, self.caller, action, resource, facts) for document in self.policies.get(self.caller, [])}
@@ -208,7 +218,7 @@ class Whole(make_key_lives.Account):
         resource = arn(key["id"])
         policy = make_verdicts.verdict("key", key["policy"], self.caller, action, resource, facts)
         own = self.own_verdict(action, resource, facts)
-        if "Deny" in (policy, own):
+        if "Deny" in (policy, own) or self.stops(action, resource, facts):
             return False
         if policy == "Direct" or (policy == "ByRoot" and own == "Allow"):
             return True
@@ -220,7 +230,8 @@ class Whole(make_key_lives.Account):
 
     def must_own(self, action, resource, more=()):
         """An operation that no key policy speaks of."""
-        if self.own_verdict(action, resource, self.facts() + list(more)) != "Allow":
+        facts = self.facts() + list(more)
+        if self.own_verdict(action, resource, facts) != "Allow" or self.stops(action, resource, facts):
             self.denied(action, resource)
 
     def tokens(self, body):
@@ -345,7 +356,7 @@ class Whole(make_key_lives.Account):
         """The key of a blob, and the alias by which the request names it."""
         named = self.named(body[field]) if field in body else None
         raw = base64.b64decode(body["CiphertextBlob"])
-        if len(raw) < 50 or raw[0] != 1:
+        if blobs.parts(raw) is None:
             raise Refused("InvalidCiphertextException", "The ciphertext does not open.")
         if named and named[0]["id"] != raw[1:17]:
             raise Refused("IncorrectKeyException", "The ciphertext is of another key.")

@@ -44,9 +44,9 @@ def keys(what, count=1, policies=None, **how):
     return account
 
 
-def asked(what, count=1, policies=None, policy=None):
+def asked(what, count=1, policies=None, policy=None, ceiling=()):
     """Several callers who ask at one second. The first key may have a policy of its own."""
-    account = Whole(what, policies, asked=True)
+    account = Whole(what, policies, asked=True, ceiling=ceiling)
     for number in range(count):
         account.ask("CreateKey", {"Policy": policy} if policy and number == 0 else {})
     return account

@@ -145,6 +145,7 @@ impl Account {
             ask.moment.max(self.rows.latest()),
             &ask.caller,
             policies,
+            self.facts.ceiling(),
             places,
         ))
     }

@@ -12,11 +12,19 @@ use std::alloc::Global;
 use std::marker::Model;
 use std::sync::Arc;
 
-/// What is constant for a run: beside the facts the policies of callers, ready to be asked. The accounts of a run share it. Contracts see the facts.
+// The facts, with what was read of them: the policies of callers and the documents of the ceiling, ready to be asked.
+#[derive(Drop)]
+struct Kept {
+    facts: RealmFacts,
+    callers: Callers,
+    ceiling: Vec<Compiled>,
+}
+
+/// What is constant for a run: beside the facts the policies of callers and the ceiling, ready to be asked. The accounts of a run
+/// share it. Contracts see the facts.
 #[derive(Drop)]
 pub struct HeldFacts {
-    facts: Arc<RealmFacts>,
-    callers: Arc<Callers>,
+    kept: Arc<Kept>,
 }
 
 impl Model for HeldFacts {
@@ -27,9 +35,12 @@ impl Model for HeldFacts {
 
     ghost Value = { FactsValue };
 
-    ghost view = { λ r. arc_value r.facts };
+    ghost view = { λ r. (arc_value r.kept).facts };
 
-    ghost invariant = { λ r. ArePoliciesOf (arc_value r.callers) (arc_value r.facts).identities };
+    ghost invariant = { λ r. record {
+      callers : ArePoliciesOf (arc_value r.kept).callers (arc_value r.kept).facts.identities;
+      ceiling : (arc_value r.kept).ceiling.items ≡ (arc_value r.kept).facts.ceiling;
+    } };
 }
 
 fn shared<T: Drop>(alloc: Global, value: T) -> Result<Arc<T>, NoMemory>
@@ -66,9 +77,14 @@ impl HeldFacts {
         ensures { IfOk result (λ r. r ≡ facts) }
     {
         let callers = Callers::new(alloc, &facts.identities)?;
+        let ceiling = facts.ceiling.compile(alloc)?;
+        let kept = Kept {
+            facts,
+            callers,
+            ceiling,
+        };
         Ok(HeldFacts {
-            facts: shared(alloc, facts)?,
-            callers: shared(alloc, callers)?,
+            kept: shared(alloc, kept)?,
         })
     }
 
@@ -77,8 +93,7 @@ impl HeldFacts {
         ensures { IfOk result (λ r. r ≡ self.now) }
     {
         Ok(HeldFacts {
-            facts: once_more(&self.facts)?,
-            callers: once_more(&self.callers)?,
+            kept: once_more(&self.kept)?,
         })
     }
 
@@ -86,7 +101,7 @@ impl HeldFacts {
     pub fn facts(&self) -> &RealmFacts
         ensures { result.now ≡ self.now }
     {
-        &self.facts
+        &self.kept.facts
     }
 
     /// A caller's own policies, none of the account's root. They are found by a hash of the caller's ARN.
@@ -97,8 +112,15 @@ impl HeldFacts {
             Principal::Root(_) => Ok(&[]),
             Principal::User(_, _) | Principal::Role(_, _) => {
                 let arn = write_principal(alloc, caller)?;
-                Ok(policies_at(&self.callers, arn.as_str()))
+                Ok(policies_at(&self.kept.callers, arn.as_str()))
             }
         }
+    }
+
+    /// The documents of the account's ceiling, ready to be asked.
+    pub fn ceiling(&self) -> &[Compiled]
+        ensures { result.now ≡ self.now.ceiling }
+    {
+        self.kept.ceiling.as_slice()
     }
 }

@@ -1,5 +1,5 @@
 -- The step of authority passes exactly where statements allow every question.
-use Rattle.std.proofs.Common.{◌≡◌, ℕ, List, [], ◌∷◌, Bool, true, false, Option, Some, None, is_some, refl, sym, ap, ◌∙◌, zero, suc, subst, arith, cond}
+use Rattle.std.proofs.Common.{◌≡◌, ℕ, List, [], ◌∷◌, Bool, true, false, Option, Some, None, is_some, refl, sym, ap, ◌∙◌, zero, suc, subst, arith, cond, inl, get_or}
 use Rattle.std.specs.Prelude.{◌↔◌, IsTrue, All, Any, find}
 use Rattle.std.specs.Bool.{Decides}
 use Rattle.std.proofs.lemmas.List.Elements.{All-cons}
@@ -21,8 +21,8 @@ use Rattle.enc_context.proofs.PairFacts.{includes_decides, same_pairs_decides}
 use Rattle.std.proofs.lemmas.Bool.Decides.{Decides-and}
 use Rattle.account_steps.specs.View.{View}
 use Rattle.account_steps.specs.Steps.{or_else}
-use Rattle.account_steps.specs.Authority.{Question, setting_of, resource_of, action_of, granted_op, grant_op_of, denied_one, denied, MayAsk, IsParent, GrantedOp}
-use Rattle.account_laws.specs.Laws.{PassesWhereStatementsAllow, IsFirstDenied, NamesTheFirstDenied, GrantsPermit}
+use Rattle.account_steps.specs.Authority.{Question, on_key, on_other, retiring, setting_of, resource_of, action_of, granted_op, grant_op_of, denied_one, denied, MayAsk, IsParent, GrantedOp}
+use Rattle.account_laws.specs.Laws.{PassesWhereStatementsAllow, MayByStatements, PassesWithoutACeiling, IsFirstDenied, NamesTheFirstDenied, GrantsPermit}
 use Rattle.account_steps.proofs.Asking.{one_passes, one_names}
 
 -- ---- grants
@@ -121,3 +121,14 @@ passes_where_allowed view questions kinds = (passes_of view kinds questions, pas
 
 pub names_the_first : NamesTheFirstDenied
 names_the_first view questions why kinds e = names_of view kinds questions why e
+
+-- ---- an account without a ceiling
+
+unbounded : (view : View) → view.facts.ceiling ≡ [] → (q : Question) → MayByStatements view q ↔ MayAsk view q
+unbounded view none (on_key action row said) = (λ may. (inl none, may), λ both. both.1)
+unbounded view none (on_other action resource said) = (λ may. (inl none, may), λ both. both.1)
+unbounded view none (retiring grant) = (λ may. may, λ may. may)
+
+pub passes_without : PassesWithoutACeiling
+passes_without view questions none kinds =
+    (λ e k d lt. (unbounded view none (get_or questions k d)).1 (passes_of view kinds questions e k d lt), λ all. passes_from view kinds questions (λ k d lt. (unbounded view none (get_or questions k d)).0 (all k d lt)))

@@ -7,14 +7,12 @@ use Rattle.std.proofs.lemmas.List.Sorted.{IsNonDecreasingBy-push}
 use Rattle.std.proofs.lemmas.List.{take_at, drop_at, get_or_push}
 use Rattle.draw_lines.specs.Iv.{iv_at}
 use Rattle.draw_lines.proofs.IvFacts.{boot_told, count_told, pass_told}
-use Rattle.blob_format.specs.Blob.{blob_head, blob_text}
+use Rattle.blob_format.specs.Blob.{form_one, form_two, blob_start, blob_text}
 use Rattle.blob_format.proofs.BlobFacts.{told}
 use Rattle.enc_context.specs.declared.pairs.Pair.{Pair}
-use Rattle.gcm_seal.proofs.SealFacts.{opens_sealed}
-use Rattle.crypto_ops.specs.Material.{material_of}
-use Rattle.crypto_ops.specs.Sealed.{additional_data, sealed, opened}
+use Rattle.crypto_ops.specs.Sealed.{sealed, sealed_one, opened}
 use Rattle.crypto_ops.specs.Laws.{CanSeal}
-use Rattle.crypto_ops.proofs.OpeningFacts.{sealed_form, opened_blob}
+use Rattle.crypto_ops.proofs.OpeningFacts.{sealed_form, sealed_one_form, opens_one, opens_two}
 use Rattle.kms_names.specs.declared.actions.Action.TheVariants as action
 use Rattle.authority.specs.Setting.{callers_policies}
 use Rattle.authority.specs.Allowed.{AreIdentityPolicies}
@@ -51,7 +49,7 @@ use Rattle.account_crypto.specs.Crypto.{decrypts}
 use Rattle.account_steps.specs.Authority.{of_context}
 use Rattle.account_core.specs.Operations.{read_outcome}
 use Rattle.account_core.specs.Decide.{lacking, decide_body, decide, IsLawful, empty, longer}
-use Rattle.account_laws.specs.Laws.{Sealing, HasSealed, reply_to, PassGoesOn, no_request, one_more, wants_memory, iv_in, exception_of, unless_excepted, SealedIsDecryptedAgain, OnePassRepeatsNoIv, PassesShareNoIv, BootsShareNoIv, TimesNeverFall, HouseIsKeptOnce, KeysDiffer, GrantsDiffer}
+use Rattle.account_laws.specs.Laws.{Sealing, HasSealed, reply_to, PassGoesOn, no_request, one_more, wants_memory, iv_in, exception_of, unless_excepted, SealedIsDecryptedAgain, AsksToOpen, SealedEarlier, EarlierBlobsAreDecrypted, OnePassRepeatsNoIv, PassesShareNoIv, BootsShareNoIv, TimesNeverFall, HouseIsKeptOnce, KeysDiffer, GrantsDiffer}
 use Rattle.blob_format.proofs.BlobNames.{named_blob}
 use Rattle.account_core.proofs.GoingOn.{decide_goes_on}
 use Rattle.account_rows.specs.Changes.{HasVersions, is_gone, is_state_gone}
@@ -79,19 +77,21 @@ iv_size : (boot number count : ℕ) → length (iv_at boot number count) ≡ 12
 unfolding iv_at
 iv_size boot number count = refl
 
-iv_told : (key : List ℕ) (version : ℕ) (iv text tag : List ℕ) → length key ≡ 16 → length iv ≡ 12 → iv_in (blob_text key version iv text tag) ≡ iv
+iv_told : (key : List ℕ) (version : ℕ) (iv commitment text tag : List ℕ) → length key ≡ 16 → length iv ≡ 12
+    → iv_in (blob_text (form_two commitment) key version iv text tag) ≡ iv
 unfolding blob_text
-iv_told key version iv text tag key_is iv_is =
-    let head : List ℕ = 1 ∷ key ++ to_be_bytes w32 version in
-    let size : length head ≡ 21 = omega (arith, length-append (1 ∷ key) (to_be_bytes w32 version)) in
-    let spelled : blob_text key version iv text tag ≡ head ++ (iv ++ (text ++ tag)) =
-    append_assoc (head ++ iv) text tag ∙ append_assoc head iv (text ++ tag) in
-    ap (λ (bytes : List ℕ). take 12 (drop 21 bytes)) spelled ∙ ap (take 12) (drop_at head (iv ++ (text ++ tag)) 21 size) ∙ take_at iv (text ++ tag) 12 iv_is
+iv_told key version iv commitment text tag key_is iv_is =
+    let start : List ℕ = blob_start 2 key version in
+    let size : length start ≡ 21 = omega (arith, length-append (2 ∷ key) (to_be_bytes w32 version)) in
+    let spelled : blob_text (form_two commitment) key version iv text tag ≡ start ++ (iv ++ (commitment ++ (text ++ tag))) =
+    append_assoc (start ++ iv ++ commitment) text tag ∙ append_assoc (start ++ iv) commitment (text ++ tag) ∙ append_assoc start iv (commitment ++ (text ++ tag)) in
+    ap (λ (bytes : List ℕ). take 12 (drop 21 bytes)) spelled ∙ ap (take 12) (drop_at start (iv ++ (commitment ++ (text ++ tag))) 21 size)
+    ∙ take_at iv (commitment ++ (text ++ tag)) 12 iv_is
 
 sealed_iv : (facts : RealmFacts) (row : KeyRow) (context : List Pair) (text : List ℕ) (places : Places) → length row.key ≡ 16
     → iv_in (seals facts row context text places) ≡ iv_at facts.boot places.number places.ivs
 unfolding seals sealed
-sealed_iv facts row context text places is = iv_told row.key (newest_version row) _ _ _ is (iv_size facts.boot places.number places.ivs)
+sealed_iv facts row context text places is = iv_told row.key (newest_version row) _ _ _ _ is (iv_size facts.boot places.number places.ivs)
 
 key_size : (facts : RealmFacts) (history : List Entry) (row : KeyRow) → IsLawful facts history → key_with (replay history).keys row.key ≡ Some row → length row.key ≡ 16
 key_size facts history row lawful there =
@@ -135,19 +135,18 @@ sealing_versions facts history row lawful there =
     let is = found_all (IsRowOf (length history)) (replay history).keys row.key row there laws.rows.each in
     record { some = is.some; few = omega (arith, is.counted, laws.few) }
 
--- a blob says its key, and opens to its text
-record Opens (facts : RealmFacts) (row : KeyRow) (context : List Pair) (text blob : List ℕ) : Type 0 where
-  named : named_in blob ≡ Some (record { key = row.key; version = newest_version row })
+-- a blob says its key and the version, and opens to its text
+record Opens (facts : RealmFacts) (row : KeyRow) (version : ℕ) (context : List Pair) (text blob : List ℕ) : Type 0 where
+  named : named_in blob ≡ Some (record { key = row.key; version = version })
   key : (name_in blob).key ≡ row.key
   opens_to : opened facts.root blob context ≡ Some text
 
 sealed_opens : (facts : RealmFacts) (row : KeyRow) (context : List Pair) (text : List ℕ) (places : Places) → length row.key ≡ 16 → HasVersions row → IsText text
-    → Opens facts row context text (seals facts row context text places)
+    → Opens facts row (newest_version row) context text (seals facts row context text places)
 unfolding seals
 sealed_opens facts row context text places id_is versions size =
     let iv : List ℕ = iv_at facts.boot places.number places.ivs in
     let version : ℕ = newest_version row in
-    let key : List ℕ = material_of facts.root row.key version in
     let can : CanSeal row.key version iv text = record {
       id_size = id_is;
       version_from_one = versions.some;
@@ -158,9 +157,19 @@ sealed_opens facts row context text places id_is versions size =
     } in
     let form = sealed_form facts.root row.key version iv context text can in
     record {
-      named = named_blob _ row.key version iv _ _ form;
-      key = (told _ row.key version iv _ _ form).key_at;
-      opens_to = opened_blob facts.root _ row.key version iv _ _ context form ∙ opens_sealed key iv (additional_data (blob_head row.key version) context) text;
+      named = named_blob _ _ row.key version iv _ _ form;
+      key = (told _ _ row.key version iv _ _ form).key_at;
+      opens_to = opens_two facts.root row.key version iv context text can;
+    }
+
+sealed_one_opens : (facts : RealmFacts) (row : KeyRow) (version : ℕ) (iv : List ℕ) (context : List Pair) (text : List ℕ) → CanSeal row.key version iv text
+    → Opens facts row version context text (sealed_one facts.root row.key version iv context text)
+sealed_one_opens facts row version iv context text can =
+    let form = sealed_one_form facts.root row.key version iv context text can in
+    record {
+      named = named_blob _ form_one row.key version iv _ _ form;
+      key = (told _ form_one row.key version iv _ _ form).key_at;
+      opens_to = opens_one facts.root row.key version iv context text can;
     }
 
 module _ (view : View) (row : KeyRow) (version : ℕ) (there : key_held view row.key ≡ Some row) where
@@ -233,35 +242,57 @@ live_of moment (Some found) row e = by_test (is_gone moment found) refl e
     by_test false is e = let same : found ≡ row = cc in ap (is_gone moment) (sym same) ∙ is
 live_of moment None row e = cc
 
+-- the blob of a version that a key had at a history, at one that goes on from it
+opened_later : (facts : RealmFacts) (history more : List Entry) (y : Ask) (places : Places) (s : Sealing) (row : KeyRow) (version : ℕ) → IsLawful facts (history ++ more)
+    → key_with (replay history).keys row.key ≡ Some row → version ≤ newest_version row → Opens facts row version s.context s.plaintext s.blob → s.arn ≡ arn_of facts row.key
+    → AreIdentityPolicies (callers_policies facts.identities y.caller) → (asks : AsksToOpen facts (history ++ more) y places s.blob s.context)
+    → reply_to facts (history ++ more) y places ≡ unless_excepted (exception_of s.arn asks.held.stored) (reply.Decrypted s.plaintext s.arn)
+opened_later facts history more y places s row version lawful there had made arn_is kinds asks =
+    let d : Decrypt = asks.fields in
+    let view : View = view_of facts (history ++ more) y places in
+    let laws = laws_of facts (history ++ more) lawful in
+    let later : KeyRow = asks.held in
+    let found : key_with view.keys (name_in s.blob).key ≡ Some later = there_of view.moment (key_with view.keys (name_in s.blob).key) later asks.is_held in
+    let named_key : later.key ≡ (name_in s.blob).key = found_key view.keys (name_in s.blob).key later found in
+    let id : later.key ≡ row.key = named_key ∙ made.key in
+    let held : key_held view later.key ≡ Some later = ap (key_held view) named_key ∙ asks.is_held in
+    let grows : newest_version row ≤ newest_version later =
+    versions_grow history more row.key row later laws.made there (ap (key_with view.keys) (sym made.key) ∙ found) id in
+    let named : named_in d.blob ≡ Some (record { key = later.key; version = version }) =
+    ap named_in asks.same_blob ∙ made.named ∙ ap (λ (key : List ℕ). Some (record { key = key; version = version })) (sym id) in
+    let state = by_state view later version held later.stored refl (live_of view.moment (key_with view.keys (name_in s.blob).key) later asks.is_held) in
+    let answer = decrypted_is view later version held d asks.named s.plaintext (exception_of (arn_of facts later.key) later.stored)
+    asks.is_named (ap (other_key asks.named) named_key ∙ asks.right_key) named (omega (arith, had, grows))
+    (ap (λ (b : List ℕ). opened facts.root b d.context) asks.same_blob ∙ ap (opened facts.root s.blob) asks.same_context ∙ made.opens_to)
+    (may_open view d later (alias_of asks.named) s.context kinds asks.same_context asks.may) asks.live_tokens state asks.fit asks.no_recipient asks.no_dry_run in
+    decrypt_reply facts (history ++ more) y places d asks.there asks.body
+    ∙ answer
+    ∙ ap (λ (arn : List ℕ). unless_excepted (exception_of arn later.stored) (reply.Decrypted s.plaintext arn)) (ap (arn_of facts) id ∙ sym arn_is)
+
 pub decrypted_again : SealedIsDecryptedAgain
 decrypted_again facts history more x y places other_places s lawful proper sealed kinds asks =
-    let d : Decrypt = asks.fields in
-    let view : View = view_of facts (history ++ more) y other_places in
-    let laws = laws_of facts (history ++ more) lawful in
     let is = is_sealed facts history x places s sealed in
-    let later : KeyRow = asks.held in
     let before = lawful_front facts history more lawful in
     let versions = sealing_versions facts history is.row before is.there in
     let size = key_size facts history is.row before is.there in
     let made = sealed_opens facts is.row s.context s.plaintext places size versions (is.size proper) in
-    let blob_is : d.blob ≡ seals facts is.row s.context s.plaintext places = asks.same_blob ∙ is.blob in
-    let name_is : (name_in s.blob).key ≡ is.row.key = ap (λ (b : List ℕ). (name_in b).key) is.blob ∙ made.key in
-    let found : key_with view.keys (name_in s.blob).key ≡ Some later = there_of view.moment (key_with view.keys (name_in s.blob).key) later asks.is_held in
-    let named_key : later.key ≡ (name_in s.blob).key = found_key view.keys (name_in s.blob).key later found in
-    let id : later.key ≡ is.row.key = named_key ∙ name_is in
-    let held : key_held view later.key ≡ Some later = ap (key_held view) named_key ∙ asks.is_held in
-    let grows : newest_version is.row ≤ newest_version later =
-    versions_grow history more is.row.key is.row later laws.made is.there (ap (key_with view.keys) (sym name_is) ∙ found) id in
-    let named : named_in d.blob ≡ Some (record { key = later.key; version = newest_version is.row }) =
-    ap named_in blob_is ∙ made.named ∙ ap (λ (key : List ℕ). Some (record { key = key; version = newest_version is.row })) (sym id) in
-    let state = by_state view later (newest_version is.row) held later.stored refl (live_of view.moment (key_with view.keys (name_in s.blob).key) later asks.is_held) in
-    let answer = decrypted_is view later (newest_version is.row) held d asks.named s.plaintext (exception_of (arn_of facts later.key) later.stored)
-    asks.is_named (ap (other_key asks.named) named_key ∙ asks.right_key) named grows
-    (ap (λ (b : List ℕ). opened facts.root b d.context) blob_is ∙ ap (opened facts.root (seals facts is.row s.context s.plaintext places)) asks.same_context ∙ made.opens_to)
-    (may_open view d later (alias_of asks.named) s.context kinds asks.same_context asks.may) asks.live_tokens state asks.fit asks.no_recipient asks.no_dry_run in
-    decrypt_reply facts (history ++ more) y other_places d asks.there asks.body
-    ∙ answer
-    ∙ ap (λ (arn : List ℕ). unless_excepted (exception_of arn later.stored) (reply.Decrypted s.plaintext arn)) (ap (arn_of facts) id ∙ sym is.arn)
+    opened_later facts history more y other_places s is.row (newest_version is.row) lawful is.there (omega arith)
+    (subst (Opens facts is.row (newest_version is.row) s.context s.plaintext) (sym is.blob) made) is.arn kinds asks
+
+pub earlier_decrypted : EarlierBlobsAreDecrypted
+earlier_decrypted facts history more y places s lawful is kinds asks =
+    let before = lawful_front facts history more lawful in
+    let versions = sealing_versions facts history is.row before is.there in
+    let can : CanSeal is.row.key is.version is.iv s.plaintext = record {
+      id_size = key_size facts history is.row before is.there;
+      version_from_one = is.version_from_one;
+      version_fits = omega (arith, is.had, versions.few);
+      iv_size = is.iv_size;
+      text_given = is.text_given;
+      text_fits = is.text_fits;
+    } in
+    opened_later facts history more y places s is.row is.version lawful is.there is.had
+    (subst (Opens facts is.row is.version s.context s.plaintext) (sym is.blob) (sealed_one_opens facts is.row is.version is.iv s.context s.plaintext can)) is.arn kinds asks
 
 -- ---- times
 

@@ -5,6 +5,7 @@ use Rattle.std.proofs.lemmas.Bool.Decides.{nat_tests}
 use Rattle.draw_lines.proofs.DrawFacts.{draw_length}
 use Rattle.enc_context.specs.declared.pairs.Pair.{Pair}
 use Rattle.crypto_ops.specs.Sealed.{opened}
+use Rattle.crypto_ops.proofs.OpeningFacts.{opened_size}
 use Rattle.kms_names.specs.declared.faults.NameFault.{NameFault}
 use Rattle.kms_names.specs.declared.faults.NameFault.TheVariants as fault
 use Rattle.kms_names.specs.declared.references.KeyRef.{KeyRef}
@@ -43,7 +44,6 @@ use Rattle.account_crypto.specs.Crypto.{one_iv, words_and_iv, encrypts, re_encry
 use Rattle.account_crypto.specs.declared.data_keys.DataKeyForm.TheVariants as form
 use Rattle.account_core.specs.Decide.{decide, IsProper}
 use Rattle.account_laws.specs.Laws.{Sealing, HasSealed, encrypted, re_encrypted, data_key, sealed_data_key}
-use Rattle.account_steps.proofs.Openings.{size_of_opened}
 use Rattle.account_rows.proofs.RowFacts.{found_key}
 use Rattle.account_steps.proofs.Passing.{found_of, next_of, ok_of, ok_same, read_passed}
 use Rattle.account_laws.proofs.Serving.{Serves, serves_of}
@@ -113,31 +113,9 @@ few_of places uses one e =
 abbrev pub IsText : List ℕ → Type 0
 IsText text = (1 ≤ length text) × (length text ≤ 4096)
 
-form_of : (b : Bool) (name found : BlobName) → (if b then Some name else None) ≡ Some found → b ≡ true
-form_of true name found e = refl
-form_of false name found e = cc
-
-first_two : (a b c d : Bool) → (a && b && c && d) ≡ true → (a ≡ true) × (b ≡ true)
-first_two true true c d e = (refl, refl)
-first_two true false c d e = cc
-first_two false b c d e = cc
-
--- a blob has 49 bytes beside its text
-opened_size : (root bytes : List ℕ) (pairs : List Pair) (name : BlobName) (text : List ℕ) → named_in bytes ≡ Some name → opened root bytes pairs ≡ Some text
-    → IsText text
-unfolding opened named_in
-opened_size root bytes pairs name text named e =
-    let form = first_two (nat_le 50 (length bytes)) (nat_le (length bytes) 4145) _ _ (form_of (has_form bytes) (name_in bytes) name named) in
-    let from : 50 ≤ length bytes = leb-true 50 (length bytes) form.0 in
-    let to : length bytes ≤ 4145 = leb-true (length bytes) 4145 form.1 in
-    let size : length text ≡ length (slice_range bytes 33 (length bytes - 16)) = size_of_opened _ _ _ (slice_range bytes 33 (length bytes - 16)) _ text e in
-    (omega (arith, size, length-take {A = ℕ}, length-drop {A = ℕ}), omega (arith, size, length-take {A = ℕ}, length-drop {A = ℕ}))
-
--- a sealed text that was looked up has the form of a blob, and its bytes are those that were given
-record IsSourceOf (blob : List ℕ) (source : Source) : Type 0 where
-  name : BlobName
-  named : named_in blob ≡ Some name
-  bytes : source.bytes ≡ blob
+-- the bytes of a sealed text that was looked up are those that were given
+abbrev IsSourceOf : List ℕ → Source → Type 0
+IsSourceOf blob source = source.bytes ≡ blob
 
 source_named : (view : View) (op : Action) (reference : Option (List ℕ)) (blob : List ℕ) (source : Source)
     → source_of view op reference blob ≡ Ok source → IsSourceOf blob source
@@ -147,11 +125,7 @@ source_named view op reference blob source e =
     let name = found_of (blob_name blob) (compared given.value) source given.came in
     let same = next_of (other_key given.value name.value.key) (source_in view op (alias_of given.value) blob name.value) source name.came in
     let held = found_of (held_key view op name.value.key) (λ (row : KeyRow). Ok (record { row = row; alias = alias_of given.value; version = name.value.version; bytes = blob })) source same in
-    record {
-      name = name.value;
-      named = ok_of (named_in blob) refusal.InvalidCiphertext name.value name.is;
-      bytes = sym (ap (λ (s : Source). s.bytes) (ok_same (record { row = held.value; alias = alias_of given.value; version = name.value.version; bytes = blob }) source held.came));
-    }
+    sym (ap (λ (s : Source). s.bytes) (ok_same (record { row = held.value; alias = alias_of given.value; version = name.value.version; bytes = blob }) source held.came))
 
 draws_size : (facts : RealmFacts) (size : ℕ) (places : Places) → length (draws facts size places) ≡ size
 unfolding draws
@@ -225,7 +199,7 @@ module _ (facts : RealmFacts) (history : List Entry) (x : Ask) (places : Places)
       let second = next_of (unfit r.source_algorithm) (unless (unfit r.algorithm) (opens facts turning.source r.source_context)) text own in
       let third = next_of (unfit r.algorithm) (opens facts turning.source r.source_context) text second in
       opened_is (nat_le turning.source.version (newest_version turning.source.row)) (opened facts.root turning.source.bytes r.source_context) text plaintext third
-      (ap (λ (bytes : List ℕ). opened facts.root bytes r.source_context) turns.source.bytes ∙ opens_to)
+      (ap (λ (bytes : List ℕ). opened facts.root bytes r.source_context) turns.source ∙ opens_to)
 
 -- ---- a request that was answered with a sealed text
 
@@ -265,7 +239,7 @@ is_sealed facts history x places s (re_encrypted r blob plaintext arn source_arn
       few = one.few;
       number = one.number;
       ivs = one.ivs;
-      size = λ proper. opened_size facts.root r.blob r.source_context turns.source.name plaintext turns.source.named opens_to;
+      size = λ proper. opened_size facts.root r.blob r.source_context plaintext opens_to;
     }
 is_sealed facts history x places s (data_key key recipient blob plaintext arn body replied) =
     let seen = view_of facts history x places in

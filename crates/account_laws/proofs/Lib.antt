@@ -1,6 +1,7 @@
 mod Allowing
 mod Serving
 mod Retiring
+mod DeadTokens
 mod Standing
 mod Joining
 mod LawSealings

@@ -2,12 +2,14 @@
 use Rattle.std.specs.Prelude.{◌≡◌, ◌≢◌, ◌^◌, ℕ, ◌<◌, ◌≤◌, List, [], ◌++◌, length, slice_range, Bool, false, Option, Some, None, Ok, All, AllPairs, ◌↔◌, ◌∷◌, IsTrue}
 use Rattle.std.specs.List.Sorted.{IsNonDecreasingBy}
 use Rattle.enc_context.specs.declared.pairs.Pair.{Pair}
-use Rattle.crypto_ops.specs.Sealed.{opened}
+use Rattle.crypto_ops.specs.Sealed.{opened, sealed_one}
 use Rattle.kms_names.specs.declared.actions.Action.TheVariants as action
 use Rattle.kms_names.specs.declared.actions.Action.{Action}
 use Rattle.kms_names.specs.declared.principals.Principal.{Principal}
 use Rattle.authority.specs.Setting.{callers_policies}
-use Rattle.authority.specs.Allowed.{AreIdentityPolicies}
+use Rattle.authority.specs.Allowed.{AreIdentityPolicies, MayByPolicies}
+use Rattle.authority.specs.Facts.{request_of}
+use Rattle.authority.specs.KeyPolicy.{policy_in}
 use Rattle.kms_json.specs.declared.refusals.Refusal.{Refusal}
 use Rattle.kms_json.specs.declared.refusals.Refusal.TheVariants as refusal
 use Rattle.kms_json.specs.declared.asks.Ask.{Ask}
@@ -34,12 +36,12 @@ use Rattle.account_rows.specs.declared.entries.What.TheVariants as what
 use Rattle.alias_map.specs.declared.rows.AliasRow.{AliasRow}
 use Rattle.grant_table.specs.declared.rows.GrantRow.{GrantRow}
 use Rattle.grant_table.specs.Grants.{grant_with}
-use Rattle.account_rows.specs.History.{State, replay, housekeeping_of}
+use Rattle.account_rows.specs.History.{State, replay, key_with, housekeeping_of}
 use Rattle.account_steps.specs.View.{View, view_of, key_held}
-use Rattle.account_steps.specs.Steps.{unfit, draws, key_if_given, other_key, alias_of}
+use Rattle.account_steps.specs.Steps.{unfit, draws, key_if_given, other_key, alias_of, arn_of, newest_version}
 use Rattle.account_steps.specs.declared.checks.Named.{Named}
 use Rattle.authority.specs.Setting.{Particulars}
-use Rattle.account_steps.specs.Authority.{Question, on_key, action_of, resource_of, denied, setting_of, granted, IsGranted, MayAsk}
+use Rattle.account_steps.specs.Authority.{Question, on_key, on_other, retiring, action_of, resource_of, asked_of, denied, setting_of, granted, IsGranted, MayRetire, MayAsk}
 use Rattle.account_steps.specs.Authority.{of_context}
 use Rattle.account_steps.specs.Parts.{dead_token}
 use Rattle.account_lists.specs.declared.listings.Numbered.{Numbered}
@@ -112,6 +114,29 @@ SealedIsDecryptedAgain =
     → IsLawful facts (history ++ more) → IsProper facts x → HasSealed facts history x places sealing
     → AreIdentityPolicies (callers_policies facts.identities y.caller) → (asks : AsksToOpen facts (history ++ more) y other_places sealing.blob sealing.context)
     → reply_to facts (history ++ more) y other_places ≡ unless_excepted (exception_of sealing.arn asks.held.stored) (reply.Decrypted sealing.plaintext sealing.arn)
+
+-- a blob of form 1, as earlier versions sealed it: of this text under this context, with any initialization vector, under the
+-- material of a version that a key had at this history
+pub record SealedEarlier (facts : RealmFacts) (history : List Entry) (sealing : Sealing) : Type 0 where
+  pub row : KeyRow
+  pub version : ℕ
+  pub iv : List ℕ
+  pub there : key_with (replay history).keys row.key ≡ Some row
+  pub version_from_one : 1 ≤ version
+  pub had : version ≤ newest_version row
+  pub iv_size : length iv ≡ 12
+  pub text_given : 1 ≤ length sealing.plaintext
+  pub text_fits : length sealing.plaintext ≤ 4096
+  pub blob : sealing.blob ≡ sealed_one facts.root row.key version iv sealing.context sealing.plaintext
+  pub arn : sealing.arn ≡ arn_of facts row.key
+
+-- the same is answered for its blob, and on the same conditions
+abbrev pub EarlierBlobsAreDecrypted : Type 0
+EarlierBlobsAreDecrypted =
+    (facts : RealmFacts) (history more : List Entry) (y : Ask) (places : Places) (sealing : Sealing)
+    → IsLawful facts (history ++ more) → SealedEarlier facts history sealing
+    → AreIdentityPolicies (callers_policies facts.identities y.caller) → (asks : AsksToOpen facts (history ++ more) y places sealing.blob sealing.context)
+    → reply_to facts (history ++ more) y places ≡ unless_excepted (exception_of sealing.arn asks.held.stored) (reply.Decrypted sealing.plaintext sealing.arn)
 
 -- where a pass's requests, each at some history, leave its places: where their decisions say, or for want of memory at most there
 pub data PassGoesOn (facts : RealmFacts) : Places → Places → Type 0 where
@@ -211,13 +236,24 @@ ListsOfLawfulHistoriesAreWhole =
 
 -- ---- authority
 
--- the step of authority passes exactly where every question is allowed: no Deny statement of the key's policy or of the caller's own policies hits,
--- and a statement of the key's policy allows the caller directly, or allows the root of the account while a statement of the caller's own policies
--- allows it, or a live grant of the key allows it; a question about no key goes by the caller's own policies alone; a grant is retired by the root, its
--- retiring principal, and its grantee where RetireGrant is among its operations
+-- the step of authority passes exactly where every question is allowed: the account's ceiling lets it pass (it has no documents, or no Deny statement of
+-- theirs matches and an Allow statement of one does), no Deny statement of the key's policy or of the caller's own policies hits, and a statement of the key's policy allows the caller directly, or allows the root of the account while a statement of the caller's own policies
+-- allows it, or a live grant of the key allows it; a question about no key goes by the ceiling and the caller's own policies alone; a grant is retired by
+-- the root, its retiring principal, and its grantee where RetireGrant is among its operations, whatever statements and the ceiling say
 abbrev pub PassesWhereStatementsAllow : Type 0
 PassesWhereStatementsAllow =
     (view : View) (questions : List Question) → AreIdentityPolicies (setting_of view).policies → (denied view questions ≡ None) ↔ All (MayAsk view) questions
+
+-- the same of an account without a ceiling, of which no word is left
+abbrev pub MayByStatements : View → Question → Type 0
+MayByStatements view (on_key action row said) =
+    MayByPolicies (setting_of view) (Some (policy_in row.policy)) (granted view action row.key said) (request_of (setting_of view) (asked_of action (arn_of view.facts row.key) said))
+MayByStatements view (on_other action resource said) = MayByPolicies (setting_of view) None false (request_of (setting_of view) (asked_of action resource said))
+MayByStatements view (retiring grant) = MayRetire view.caller grant
+
+abbrev pub PassesWithoutACeiling : Type 0
+PassesWithoutACeiling =
+    (view : View) (questions : List Question) → view.facts.ceiling ≡ [] → AreIdentityPolicies (setting_of view).policies → (denied view questions ≡ None) ↔ All (MayByStatements view) questions
 
 -- the first question that isn't allowed, and those before it
 pub record IsFirstDenied (view : View) (questions : List Question) (q : Question) : Type 0 where

@@ -1,6 +1,7 @@
 //! Laws of what the account answers. Each stands as the contract of a function that does nothing.
 
-ghost use Rattle.account_laws.specs.Laws.{SealedIsDecryptedAgain, OnePassRepeatsNoIv, PassesShareNoIv, BootsShareNoIv, TimesNeverFall, HouseIsKeptOnce, KeysDiffer, GrantsDiffer, PassesWhereStatementsAllow, NamesTheFirstDenied, GrantsPermit, DroppedGrantsStayAway, RowsStandInOrder, ListsOfLawfulHistoriesAreWhole};
+ghost use Rattle.account_laws.specs.Laws.{SealedIsDecryptedAgain, EarlierBlobsAreDecrypted, OnePassRepeatsNoIv, PassesShareNoIv, BootsShareNoIv, TimesNeverFall, HouseIsKeptOnce, KeysDiffer, GrantsDiffer, PassesWhereStatementsAllow, PassesWithoutACeiling, NamesTheFirstDenied, GrantsPermit, DroppedGrantsStayAway, RowsStandInOrder, ListsOfLawfulHistoriesAreWhole};
+ghost use Rattle.account_laws.specs.Tokens.{DeadTokensAreRefused};
 ghost use Rattle.account_steps.specs.View.{View};
 ghost use Rattle.account_lists.specs.Lists.{PartsOfListsMakeTheWhole};
 
@@ -13,6 +14,12 @@ ghost use Rattle.account_lists.specs.Lists.{PartsOfListsMakeTheWhole};
 /// is scheduled, the reply is the exception of that state.
 pub fn sealed_is_decrypted_again()
     ensures { SealedIsDecryptedAgain }
+{}
+
+/// A blob of form 1, which earlier versions made, is decrypted in the same way: one of a text that was
+/// sealed under a version that the key had, whatever its initialization vector.
+pub fn earlier_blobs_are_decrypted()
+    ensures { EarlierBlobsAreDecrypted }
 {}
 
 /// The blobs that one pass seals have initialization vectors of their own: a blob's differs from those
@@ -52,14 +59,23 @@ pub fn grants_differ()
     ensures { GrantsDiffer }
 {}
 
-/// Authority passes exactly where for each thing that the request asks no Deny statement of the key's
-/// policy or of the caller's own policies hits, and a statement of the key's policy allows the caller
-/// directly, or allows the root of the account while a statement of the caller's own policies allows it,
-/// or a grant of the key permits it; what is about no key goes by the caller's own policies alone. The
-/// root is allowed everything that no key's policy is asked about. A grant is retired by the root, by its
-/// retiring principal, and by its grantee where RetireGrant is among its operations.
+/// Authority passes exactly where for each thing that the request asks the account's ceiling lets it pass,
+/// no Deny statement of the key's policy or of the caller's own policies hits, and a statement of the key's
+/// policy allows the caller directly, or allows the root of the account while a statement of the caller's own
+/// policies allows it, or a grant of the key permits it; what is about no key goes by the ceiling and the
+/// caller's own policies alone. Whatever no key's policy is asked about, the root is allowed as far as the
+/// ceiling lets it pass. A grant is retired by the root, by its retiring principal, and by its grantee where
+/// RetireGrant is among its operations; no statement and no ceiling is asked of that.
 pub fn authority_passes_where_statements_allow()
     ensures { PassesWhereStatementsAllow }
+{}
+
+/// In an account without a ceiling authority passes exactly where for each thing that the request asks no
+/// Deny statement of the key's policy or of the caller's own policies hits, and a statement of the key's
+/// policy allows the caller directly, or allows the root of the account while a statement of the caller's own
+/// policies allows it, or a grant of the key permits it.
+pub fn without_a_ceiling_statements_and_grants_decide()
+    ensures { PassesWithoutACeiling }
 {}
 
 /// A denial names the caller and the first thing that the request asks and isn't allowed: the action and
@@ -79,6 +95,13 @@ pub fn grants_permit()
 /// entry no grant has its id.
 pub fn dropped_grants_stay_away()
     ensures { DroppedGrantsStayAway }
+{}
+
+/// The token of a grant that was retired or revoked is refused by its name, InvalidGrantTokenException (AWS
+/// KMS API Reference), at every lawful history that goes on from its entry: by each operation that takes
+/// tokens wherever its references are found and authority passes, and by RetireGrant in any case.
+pub fn dead_tokens_are_refused()
+    ensures { DeadTokensAreRefused }
 {}
 
 /// The keys, the aliases and the grants of a lawful history stand in order of making.

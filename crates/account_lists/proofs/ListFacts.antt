@@ -7,6 +7,8 @@ use Rattle.kms_names.specs.Place.{is_behind}
 use Rattle.kms_names.specs.declared.principals.Principal.{Principal}
 use Rattle.kms_names.proofs.Behind.{find_in_filter}
 use Rattle.key_states.specs.declared.versions.Version.{Version}
+use Rattle.alias_map.specs.declared.rows.AliasRow.{AliasRow}
+use Rattle.alias_map.specs.Aliases.{AreAliases, names_key, row_of_key}
 use Rattle.grant_table.specs.declared.rows.GrantRow.{GrantRow}
 use Rattle.grant_table.specs.Grants.{AreGrants, is_of_key, has_retiring, grant_of_key, grant_retirable}
 use Rattle.account_lists.specs.declared.listings.Numbered.{Numbered}
@@ -41,6 +43,16 @@ first_of_key key rows after = first_of (is_of_key key) rows after
 
 pub first_retirable : (retiring : Principal) (rows : List GrantRow) (after : Option ℕ) → grant_retirable rows retiring after ≡ find (λ (row : GrantRow). is_behind after row.born) (filter (has_retiring retiring) rows)
 first_retirable retiring rows after = first_of (has_retiring retiring) rows after
+
+-- ---- aliases
+
+pub kept_aliases_rise : (test : AliasRow → Bool) (rows : List AliasRow) → AreAliases rows → AllPairs (λ (p q : AliasRow). p.born < q.born) (filter test rows)
+kept_aliases_rise test rows are = AllPairs-filter (λ (p q : AliasRow). p.born < q.born) test rows are.1
+
+pub first_alias_of_key : (key : List ℕ) (rows : List AliasRow) (after : Option ℕ) → row_of_key rows key after ≡ find (λ (row : AliasRow). is_behind after row.born) (filter (names_key key) rows)
+first_alias_of_key key rows after =
+    find_alike (λ (row : AliasRow). names_key key row && is_behind after row.born) (λ (row : AliasRow). is_behind after row.born && names_key key row) (λ row. turned (names_key key row) (is_behind after row.born)) rows
+    ∙ sym (find_in_filter (names_key key) (λ (row : AliasRow). is_behind after row.born) rows)
 
 -- ---- rotations
 
@@ -110,9 +122,9 @@ rotation_behind after versions =
 
 -- ---- all of them are listed
 
-every : (rows : List Numbered) → filter (λ (row : Numbered). true) rows ≡ rows
+pub every : {X : Type 0} (rows : List X) → filter (λ (row : X). true) rows ≡ rows
 every [] = refl
-every (row ∷ rows) = ap (λ (l : List Numbered). row ∷ l) (every rows)
+every {X} (row ∷ rows) = ap (λ (l : List X). row ∷ l) (every rows)
 
 pub rotations_shown : (row lent : KeyRow) (limit : ℕ) (after : Option ℕ) (items : List Rotation) (next : Option ℕ) → row ≡ lent
     → items ≡ map shown_rotation (part_of (λ (numbered : Numbered). numbered.number) (filter (λ (numbered : Numbered). true) (rotations_of row)) limit after).rows

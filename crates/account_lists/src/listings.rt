@@ -1,6 +1,6 @@
 // The lists that are shown in parts.
 ghost use Rattle.std.specs.Prelude.{◌≡◌, ◌&&◌, ◌+◌, IfOk, option_map, slice_get};
-ghost use Rattle.account_lists.specs.Lists.{shown_constraint, shown_grant, has_sought_id, has_sought_grantee};
+ghost use Rattle.account_lists.specs.Lists.{shown_alias, shown_constraint, shown_grant, has_sought_id, has_sought_grantee};
 
 use crate::lists::Sought;
 use crate::pages::Listing;
@@ -82,26 +82,37 @@ impl<'a> Model for LentAlias<'a> {
     ghost view = { λ lent. lent.row.now };
 }
 
-/// The aliases of keys that aren't gone, or those of one key.
+// An alias as replies show it.
+fn shown_alias(row: &AliasRow) -> Result<ListedAlias, NoMemory>
+    ensures { IfOk result (λ shown. shown ≡ shown_alias row.now) }
+{
+    Ok(ListedAlias {
+        name: row.name.copy()?,
+        key: row.key,
+        created: row.made,
+        updated: row.updated,
+    })
+}
+
+/// The aliases of keys that aren't gone.
 #[derive(Drop)]
 pub struct AliasesListed<'a> {
     view: &'a View<'a>,
-    key: &'a Option<KeyId>,
 }
 
 impl<'a> AliasesListed<'a> {
     ghost use Rattle.std.specs.Prelude.{◌≡◌};
 
     /// Those of a view.
-    pub fn new(view: &'a View<'a>, key: &'a Option<KeyId>) -> AliasesListed<'a>
-        ensures view { result.view.now ≡ view.now }
-        ensures key { result.key.now ≡ key.now }
+    pub fn new(view: &'a View<'a>) -> AliasesListed<'a>
+        ensures { result.view.now ≡ view.now }
     {
-        AliasesListed { view, key }
+        AliasesListed { view }
     }
 }
 
 impl<'a> Listing for AliasesListed<'a> {
+    ghost use Rattle.std.specs.Prelude.{None};
     ghost use Rattle.account_lists.specs.Lists.{is_listed_alias, shown_alias};
 
     type Row = LentAlias<'a>;
@@ -112,7 +123,7 @@ impl<'a> Listing for AliasesListed<'a> {
 
     ghost born = { λ l row. row.born };
 
-    ghost listed = { λ l row. is_listed_alias l.view.now l.key.now row };
+    ghost listed = { λ l row. is_listed_alias l.view.now None row };
 
     ghost shown = { λ l row. shown_alias row };
 
@@ -130,19 +141,69 @@ impl<'a> Listing for AliasesListed<'a> {
     }
 
     fn lists(&self, row: &LentAlias<'a>) -> bool {
-        match self.key {
-            Some(key) => row.row.key == *key,
-            None => self.view.key(&row.row.key).is_some(),
-        }
+        self.view.key(&row.row.key).is_some()
     }
 
     fn show(&self, _alloc: Global, row: LentAlias<'a>) -> Result<ListedAlias, NoMemory> {
-        Ok(ListedAlias {
-            name: row.row.name.copy()?,
-            key: row.row.key,
-            created: row.row.made,
-            updated: row.row.updated,
-        })
+        shown_alias(row.row)
+    }
+}
+
+/// The aliases of a key.
+#[derive(Drop)]
+pub struct AliasesOfKey<'a> {
+    view: &'a View<'a>,
+    key: &'a KeyId,
+}
+
+impl<'a> AliasesOfKey<'a> {
+    ghost use Rattle.std.specs.Prelude.{◌≡◌};
+
+    /// Those of a view.
+    pub fn new(view: &'a View<'a>, key: &'a KeyId) -> AliasesOfKey<'a>
+        ensures view { result.view.now ≡ view.now }
+        ensures key { result.key.now ≡ key.now }
+    {
+        AliasesOfKey { view, key }
+    }
+}
+
+impl<'a> Listing for AliasesOfKey<'a> {
+    ghost use Rattle.std.specs.Prelude.{filter, true};
+    ghost use Rattle.alias_map.specs.Aliases.{names_key};
+    ghost use Rattle.account_lists.specs.Lists.{shown_alias};
+
+    type Row = LentAlias<'a>;
+
+    type Item = ListedAlias;
+
+    ghost rows = { λ l. filter (names_key l.key.now) l.view.now.aliases };
+
+    ghost born = { λ l row. row.born };
+
+    ghost listed = { λ l row. true };
+
+    ghost shown = { λ l row. shown_alias row };
+
+    fn in_order(&self) {
+        let _ = self.view.aliases().len();
+    }
+
+    fn behind(&self, after: Option<u64>) -> Option<LentAlias<'a>> {
+        let row = self.view.aliases().of_key(self.key, after)?;
+        Some(LentAlias { row })
+    }
+
+    fn born(&self, row: &LentAlias<'a>) -> u64 {
+        row.row.born
+    }
+
+    fn lists(&self, _row: &LentAlias<'a>) -> bool {
+        true
+    }
+
+    fn show(&self, _alloc: Global, row: LentAlias<'a>) -> Result<ListedAlias, NoMemory> {
+        shown_alias(row.row)
     }
 }
 

@@ -4,8 +4,10 @@ ghost use Rattle.account_steps.specs.Steps.{Gives};
 ghost use Rattle.account_steps.specs.Given.{principal_if_given};
 ghost use Rattle.account_lists.specs.Lists.{action_in, key_id_if_given, lists_in, grant_id_if_given, lists_on};
 
-use crate::listings::{AliasesListed, GrantsOfKey, KeysListed, RetirableGrants, RotationsOf};
-use crate::pages::{behind_marker, part_behind};
+use crate::listings::{
+    AliasesListed, AliasesOfKey, GrantsOfKey, KeysListed, RetirableGrants, RotationsOf,
+};
+use crate::pages::{Part, behind_marker, part_behind};
 use account_rows::Lent;
 use account_steps::{
     LentText, Reads, Request, Stop, Uses, View, grant_id_in, of_key, of_none, only_key_of,
@@ -13,8 +15,8 @@ use account_steps::{
 };
 use draw_lines::DrawLine;
 use kms_json::{
-    AliasList, AliasPage, GrantList, GrantPage, KeyIdList, KeyPage, Page, Reply, RotationList,
-    RotationPage,
+    AliasList, AliasPage, GrantList, GrantPage, KeyIdList, KeyPage, ListedAlias, Page, Reply,
+    RotationList, RotationPage,
 };
 use kms_names::{Action, GrantId, KeyId, NoMemory, Principal, Text};
 use std::alloc::Global;
@@ -80,9 +82,9 @@ pub struct ListingAccount<'a> {
 }
 
 impl<'a> ListingAccount<'a> {
-    ghost use Rattle.std.specs.Prelude.{◌≡◌, IfOk, filter};
+    ghost use Rattle.std.specs.Prelude.{◌≡◌, IfOk, filter, map};
     ghost use Rattle.account_lists.specs.Pages.{part_of};
-    ghost use Rattle.account_lists.specs.Lists.{key_page, alias_page, grant_page, listed_keys, listed_aliases, retirable_grants};
+    ghost use Rattle.account_lists.specs.Lists.{key_page, alias_page, grant_page, shown_alias, listed_keys, listed_aliases, retirable_grants};
 
     // A part of the keys.
     fn keys(&self, alloc: Global, after: Option<u64>) -> Result<Reply, NoMemory>
@@ -103,6 +105,23 @@ impl<'a> ListingAccount<'a> {
         }))
     }
 
+    // At most so many of the aliases of all keys, or of one, behind a place.
+    fn part_of_aliases(
+        &self,
+        alloc: Global,
+        key: &Option<KeyId>,
+        after: Option<u64>,
+    ) -> Result<Part<ListedAlias>, NoMemory>
+        ensures items { IfOk result (λ part. part.items.items ≡ map shown_alias (part_of (λ row. row.born) (listed_aliases self.now.view.now key.now) self.now.page.now.limit after).rows) }
+        ensures next { IfOk result (λ part. part.next ≡ (part_of (λ row. row.born) (listed_aliases self.now.view.now key.now) self.now.page.now.limit after).next) }
+    {
+        let limit = self.page.limit as usize;
+        match key {
+            Some(key) => part_behind(alloc, &AliasesOfKey::new(self.view, key), limit, after),
+            None => part_behind(alloc, &AliasesListed::new(self.view), limit, after),
+        }
+    }
+
     // A part of the aliases.
     fn aliases(
         &self,
@@ -113,8 +132,7 @@ impl<'a> ListingAccount<'a> {
         ensures { IfOk result (λ reply. reply ≡ alias_page self.now.view.now (part_of (λ row. row.born) (listed_aliases self.now.view.now key.now) self.now.page.now.limit after)) }
     {
         let facts = self.view.facts();
-        let listing = AliasesListed::new(self.view, key);
-        let part = part_behind(alloc, &listing, self.page.limit as usize, after)?;
+        let part = self.part_of_aliases(alloc, key, after)?;
         Ok(Reply::Aliases(AliasPage {
             account: facts.account,
             region: facts.region.copy()?,

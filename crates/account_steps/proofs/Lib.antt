@@ -1,6 +1,5 @@
 pub mod Following
 pub mod KeyIds
-pub mod Openings
 pub mod Passing
 pub mod Done
 pub mod Fit

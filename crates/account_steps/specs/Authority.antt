@@ -47,6 +47,7 @@ setting_of view = record {
   moment = view.moment;
   region = view.facts.region;
   policies = callers_policies view.facts.identities view.caller;
+  ceiling = view.facts.ceiling;
 }
 
 -- ---- grants
@@ -143,7 +144,8 @@ IsGranted view action key said = GrantedOp view key said said.grant (grant_op_of
 abbrev pub MayRetire : Principal → GrantRow → Type 0
 MayRetire caller grant = IsTrue (is_root caller) ⊎ ((grant.retiring ≡ Some caller) ⊎ ((grant.grantee ≡ caller) × (contains grant.operations op.RetireGrant ≡ true)))
 
--- no statement denies the question, and statements allow it, or a grant of the key does
+-- the account's ceiling lets the question pass and no statement denies it, and statements allow it, or a grant of the key does; who may retire a grant
+-- is asked neither of statements nor of the ceiling
 abbrev pub MayAsk : View → Question → Type 0
 MayAsk view (on_key action row said) =
     May (setting_of view) (Some (policy_in row.policy)) (granted view action row.key said) (request_of (setting_of view) (asked_of action (arn_of view.facts row.key) said))

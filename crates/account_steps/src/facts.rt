@@ -1,5 +1,5 @@
 // What is constant for a run.
-use authority::IdentityList;
+use authority::{IdentityList, PolicyList};
 use kms_names::{AccountNumber, NoMemory, Text};
 
 /// What is constant for a run of the service.
@@ -15,6 +15,9 @@ pub struct RealmFacts {
     /// The principals with their own policies, which are of the kind `Identity`. Where a principal stands twice, the
     /// first counts. The account's root needs none: it may do everything.
     pub identities: IdentityList,
+    /// The documents of the account's ceiling, which are of the kind `Identity`. Where there are some, nobody may do what one
+    /// of them denies or none of them allows, the account's root and grantees included. They allow nothing by themselves.
+    pub ceiling: PolicyList,
 }
 
 // Each crate that lets the facts go calls this one drop, and doesn't take them apart itself.
@@ -26,6 +29,7 @@ impl Drop for RealmFacts {
             root: _,
             boot: _,
             identities: _,
+            ceiling: _,
         } = self;
     }
 }
@@ -43,6 +47,7 @@ impl RealmFacts {
             root: self.root,
             boot: self.boot,
             identities: self.identities.copy()?,
+            ceiling: self.ceiling.copy()?,
         })
     }
 }

@@ -22,7 +22,8 @@ use std::alloc::Global;
 use std::marker::Model;
 
 /// What every step of a decision goes by, lent: the facts, the entries with the rows that they make, the moment, who
-/// asks, and the places of the pass that asks. Beside them stand the caller's own policies.
+/// asks, and the places of the pass that asks. Beside them stand the caller's own policies and the documents of the
+/// account's ceiling, ready to be asked.
 #[derive(Drop)]
 pub struct View<'a> {
     facts: &'a RealmFacts,
@@ -30,6 +31,7 @@ pub struct View<'a> {
     moment: u64,
     caller: &'a Principal,
     policies: &'a [Compiled],
+    ceiling: &'a [Compiled],
     places: Places,
 }
 
@@ -57,6 +59,7 @@ impl<'a> Model for View<'a> {
 
     ghost invariant = { λ v. record {
       policies : v.policies.now ≡ callers_policies v.facts.now.identities v.caller.now;
+      ceiling : v.ceiling.now ≡ v.facts.now.ceiling;
       moment : v.moment < year_10000;
     } };
 }
@@ -80,9 +83,11 @@ impl<'a> View<'a> {
         moment: u64,
         caller: &'a Principal,
         policies: &'a [Compiled],
+        ceiling: &'a [Compiled],
         places: Places,
     ) -> View<'a>
         requires policies { policies.now ≡ callers_policies facts.now.identities caller.now }
+        requires ceiling { ceiling.now ≡ facts.now.ceiling }
         requires moment { moment < year_10000 }
         ensures { result ≡ record { facts = facts.now; keys = (replay rows.now).keys; aliases = (replay rows.now).aliases; grants = (replay rows.now).grants; place = length rows.now; bytes = bytes_in rows.now; moment = moment; caller = caller.now; places = places } }
     {
@@ -92,6 +97,7 @@ impl<'a> View<'a> {
             moment,
             caller,
             policies,
+            ceiling,
             places,
         }
     }
@@ -237,7 +243,7 @@ impl<'a> View<'a> {
         key_arn(alloc, &self.facts.account, self.facts.region.as_str(), key)
     }
 
-    /// Who asks, when and where, with the caller's own policies.
+    /// Who asks, when and where, with the caller's own policies and the account's ceiling.
     pub fn setting(&self) -> Setting<'a>
         ensures { result ≡ setting_of self.now }
     {
@@ -246,6 +252,7 @@ impl<'a> View<'a> {
             moment: self.moment,
             region: self.facts.region.as_str(),
             policies: self.policies,
+            ceiling: self.ceiling,
         }
     }
 
@@ -274,8 +281,8 @@ impl<'a> View<'a> {
         Ok(permitting.is_some())
     }
 
-    /// Whether the caller may do this on a key of this ARN, by a policy of the key, by the caller's own policies and by
-    /// the grants of the key, which are asked only where policies leave it to them.
+    /// Whether the caller may do this on a key of this ARN, by the account's ceiling, a policy of the key, the caller's own
+    /// policies and the grants of the key, which are asked only where policies leave it to them.
     pub fn may_on_key(
         &self,
         alloc: Global,
@@ -297,7 +304,7 @@ impl<'a> View<'a> {
         }
     }
 
-    // Whether the caller may do this on a resource that is no key, by the caller's own policies.
+    // Whether the caller may do this on a resource that is no key, by the account's ceiling and the caller's own policies.
     fn may_on_other(
         &self,
         alloc: Global,

@@ -1,5 +1,5 @@
 -- A question is allowed exactly where statements say so.
-use Rattle.std.proofs.Common.{◌≡◌, ◌⊎◌, inl, inr, ℕ, ◌<◌, length, get_or, Bool, true, false, not, ◌&&◌, List, Option, Some, None, refl, sym, subst, ◌∙◌, if◌then◌else◌}
+use Rattle.std.proofs.Common.{◌≡◌, ◌⊎◌, inl, inr, ℕ, ◌<◌, length, get_or, Bool, true, false, not, ◌&&◌, List, [], Option, Some, None, refl, sym, ap, subst, ◌∙◌, if◌then◌else◌}
 use Rattle.std.specs.Prelude.{◌↔◌, IsTrue, Any}
 use Rattle.std.proofs.lemmas.List.Folds.{Any-from_list_any, list_any-from_Any}
 use Rattle.cond_ops.specs.declared.facts.RequestFacts.{RequestFacts}
@@ -9,11 +9,17 @@ use Rattle.policy_doc.specs.declared.policies.PolicyKind.TheVariants.{Identity}
 use Rattle.policy_doc.specs.declared.policies.Statement.{Statement}
 use Rattle.policy_eval.specs.declared.verdicts.Verdict.{Verdict}
 use Rattle.policy_eval.specs.declared.verdicts.Verdict.TheVariants.{Deny, Direct, ByRoot, Silent}
+use Rattle.policy_eval.specs.declared.ceilings.CeilingVerdict.{CeilingVerdict}
+use Rattle.policy_eval.specs.declared.ceilings.CeilingVerdict.TheVariants.{Passes, Stops}
+use Rattle.policy_eval.specs.Ceiling.{Under}
+use Rattle.policy_eval.specs.CeilingOf.{ceiling_of, ceiling_of_lem}
+use Rattle.policy_eval.proofs.CeilingFacts.{none_stops}
 use Rattle.policy_eval.specs.Verdict.{IsAllow, IsDeny, SomeDenies, SomeAllowsCaller, SomeAllowsAccount, IsKeyVerdict, IsIdentityVerdict, IsVerdictOf}
 use Rattle.policy_eval.specs.VerdictOf.{verdict_of, verdict_of_lem}
+use Rattle.authority.specs.declared.standings.Standing.{Standing}
 use Rattle.authority.specs.Setting.{Setting, Asked, is_root}
 use Rattle.authority.specs.Facts.{request_of}
-use Rattle.authority.specs.Allowed.{is_deny, is_direct, some_deny, some_allow, identity_allows, own_standing, key_standing, standing_of, settled, is_allowed, IdentityDenies, IdentityAllows, May, IsKeyPolicy, AreIdentityPolicies, AllowedByStatements}
+use Rattle.authority.specs.Allowed.{is_deny, is_direct, some_deny, some_allow, identity_allows, own_standing, key_standing, standing, bounded, standing_of, settled, is_allowed, IdentityDenies, IdentityAllows, MayByPolicies, May, IsKeyPolicy, AreIdentityPolicies, AllowedByStatements, StandsByPoliciesAlone, AllowedByPoliciesAlone}
 
 module _ (request : RequestFacts) where
   abbrev Denies : Policy → Type 0
@@ -107,6 +113,11 @@ own_by : {P : Type 0} (a g : Bool) → IsTrue a ↔ P → IsTrue (settled (own_s
 own_by true g tells = tells
 own_by false g tells = tells
 
+-- under a ceiling
+under_by : {U M : Type 0} (v : CeilingVerdict) (s : Standing) (g : Bool) → (v ≡ Passes) ↔ U → IsTrue (settled s g) ↔ M → IsTrue (settled (bounded v s) g) ↔ (U × M)
+under_by Passes s g passes tells = (λ e. (passes.0 refl, tells.0 e), λ h. tells.1 h.1)
+under_by Stops s g passes tells = (λ e. cc, λ h. let bad : Stops ≡ Passes = passes.1 h.0 in cc)
+
 -- ---- the law
 
 module _ (setting : Setting) (asked : Asked) (kinds : AreIdentityPolicies setting.policies) where
@@ -118,14 +129,36 @@ module _ (setting : Setting) (asked : Asked) (kinds : AreIdentityPolicies settin
       identity_by (some_deny setting.policies request) (is_root setting.caller) (some_allow setting.policies request)
       (denies_of request setting.policies kinds) (denies_from request setting.policies kinds) (allows_of request setting.policies kinds) (allows_from request setting.policies kinds)
 
-  allowed_where : (policy : Option Policy) (granted : Bool) → IsKeyPolicy policy → IsTrue (is_allowed setting policy asked granted) ↔ May setting policy granted request
-  unfolding standing_of
-  allowed_where None granted kind = own_by (identity_allows setting.caller setting.policies request) granted identity_tells
-  allowed_where (Some policy) granted kind =
+  policies_tell : (policy : Option Policy) (granted : Bool) → IsKeyPolicy policy
+      → IsTrue (settled (standing setting.caller setting.policies policy request) granted) ↔ MayByPolicies setting policy granted request
+  policies_tell None granted kind = own_by (identity_allows setting.caller setting.policies request) granted identity_tells
+  policies_tell (Some policy) granted kind =
       key_by policy.statements request (verdict_of policy request)
       (subst (λ (k : PolicyKind). IsVerdictOf k policy.statements request (verdict_of policy request)) kind (verdict_of_lem policy request))
       (some_deny setting.policies request) (identity_allows setting.caller setting.policies request) granted
       (denies_of request setting.policies kinds) (denies_from request setting.policies kinds) identity_tells
 
+  allowed_where : (policy : Option Policy) (granted : Bool) → IsKeyPolicy policy → IsTrue (is_allowed setting policy asked granted) ↔ May setting policy granted request
+  unfolding standing_of
+  allowed_where policy granted kind =
+      under_by (ceiling_of setting.ceiling request) (standing setting.caller setting.policies policy request) granted (ceiling_of_lem setting.ceiling request)
+      (policies_tell policy granted kind)
+
 pub allowed_by : AllowedByStatements
 allowed_by setting policy asked granted kind kinds = allowed_where setting asked kinds policy granted kind
+
+-- ---- an account without a ceiling
+
+pub stands_alone : StandsByPoliciesAlone
+unfolding standing_of
+stands_alone setting policy asked none =
+    ap (λ (v : CeilingVerdict). bounded v (standing setting.caller setting.policies policy (request_of setting asked))) (none_stops setting.ceiling (request_of setting asked) none)
+
+pub may_alone : (setting : Setting) (policy : Option Policy) (granted : Bool) (request : RequestFacts) → setting.ceiling ≡ [] → May setting policy granted request ↔ MayByPolicies setting policy granted request
+may_alone setting policy granted request none = (λ h. h.1, λ h. (inl none, h))
+
+pub allowed_alone : AllowedByPoliciesAlone
+allowed_alone setting policy asked granted none kind kinds =
+    let may = allowed_by setting policy asked granted kind kinds in
+    let alone = may_alone setting policy granted (request_of setting asked) none in
+    (λ t. alone.0 (may.0 t), λ m. may.1 (alone.1 m))

@@ -7,10 +7,11 @@ use Rattle.policy_doc.specs.declared.policies.Policy.{Policy}
 use Rattle.policy_eval.specs.declared.verdicts.Verdict.{Verdict}
 use Rattle.policy_eval.specs.Verdict.{AskTheSame}
 use Rattle.policy_eval.specs.VerdictOf.{verdict_of}
+use Rattle.policy_eval.specs.CeilingOf.{ceiling_of, CeilingGoesByQuestion}
 use Rattle.policy_eval.specs.Laws.{HasOneVerdictByQuestion}
 use Rattle.authority.specs.Setting.{Setting, Asked, is_root}
 use Rattle.authority.specs.Facts.{request_of}
-use Rattle.authority.specs.Allowed.{is_deny, is_direct, some_deny, some_allow, identity_allows, own_standing, key_standing, standing, standing_of}
+use Rattle.authority.specs.Allowed.{is_deny, is_direct, some_deny, some_allow, identity_allows, own_standing, key_standing, standing, bounded, bounded_standing, standing_of}
 use Rattle.authority.specs.Questions.{GoByQuestions, KeyGoesByQuestion, SaysWhatIsAsked}
 
 module _ (a b : RequestFacts) (same : AskTheSame a b) where
@@ -38,9 +39,11 @@ module _ (a b : RequestFacts) (same : AskTheSame a b) where
       ∙ ap₂ (key_standing (verdict_of policy b)) (denies_same policies go) (identity_same caller policies go)
 
 pub one_answer : (setting : Setting) (asked : Asked) (policy : Option Policy) (wanted : Bool) (request : RequestFacts)
-    → (wanted ≡ false → KeyGoesByQuestion policy) → (wanted ≡ false → GoByQuestions setting.policies) → SaysWhatIsAsked setting asked wanted request
-    → standing setting.caller setting.policies policy request ≡ standing_of setting policy asked
+    → (wanted ≡ false → KeyGoesByQuestion policy) → (wanted ≡ false → GoByQuestions setting.policies) → (wanted ≡ false → CeilingGoesByQuestion setting.ceiling)
+    → SaysWhatIsAsked setting asked wanted request → bounded_standing setting policy request ≡ standing_of setting policy asked
 unfolding standing_of
-one_answer setting asked policy true request key own told = ap (standing setting.caller setting.policies policy) (told.facts refl)
-one_answer setting asked policy false request key own told =
-    question_same request (request_of setting asked) (told.caller, told.action, told.resource) setting.caller setting.policies policy (own refl) (key refl)
+one_answer setting asked policy true request key own bound told = ap (bounded_standing setting policy) (told.facts refl)
+one_answer setting asked policy false request key own bound told =
+    let same : AskTheSame request (request_of setting asked) = (told.caller, told.action, told.resource) in
+    ap₂ bounded (bound refl request (request_of setting asked) same)
+    (question_same request (request_of setting asked) same setting.caller setting.policies policy (own refl) (key refl))

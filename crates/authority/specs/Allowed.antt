@@ -1,5 +1,6 @@
--- Whether a request may be served (IAM User Guide, "Policy evaluation logic"; AWS KMS Developer Guide, "Key policies").
-use Rattle.std.specs.Prelude.{◌↔◌, ◌⊎◌, ◌≡◌, ◌&&◌, ◌||◌, Bool, true, false, not, IsTrue, List, All, Any, Option, Some, None, if◌then◌else◌}
+-- Whether a request may be served (IAM User Guide, "Policy evaluation logic"; AWS KMS Developer Guide, "Key policies"; AWS
+-- Organizations User Guide, "SCP evaluation").
+use Rattle.std.specs.Prelude.{◌↔◌, ◌⊎◌, ◌≡◌, ◌&&◌, ◌||◌, Bool, true, false, not, IsTrue, List, [], All, Any, Option, Some, None, if◌then◌else◌}
 use Rattle.std.specs.List.{list_any}
 use Rattle.kms_names.specs.declared.principals.Principal.{Principal}
 use Rattle.cond_ops.specs.declared.facts.RequestFacts.{RequestFacts}
@@ -7,6 +8,10 @@ use Rattle.policy_doc.specs.declared.policies.Policy.{Policy}
 use Rattle.policy_doc.specs.declared.policies.PolicyKind.TheVariants.{Key, Identity}
 use Rattle.policy_eval.specs.declared.verdicts.Verdict.{Verdict}
 use Rattle.policy_eval.specs.declared.verdicts.Verdict.TheVariants.{Deny, Direct, ByRoot, Silent}
+use Rattle.policy_eval.specs.declared.ceilings.CeilingVerdict.{CeilingVerdict}
+use Rattle.policy_eval.specs.declared.ceilings.CeilingVerdict.TheVariants.{Passes, Stops}
+use Rattle.policy_eval.specs.Ceiling.{Under}
+use Rattle.policy_eval.specs.CeilingOf.{ceiling_of}
 use Rattle.policy_eval.specs.Verdict.{IsAllow, IsDeny, SomeDenies, SomeAllowsCaller, SomeAllowsAccount}
 use Rattle.policy_eval.specs.VerdictOf.{verdict_of}
 use Rattle.authority.specs.declared.standings.Standing.{Standing}
@@ -66,9 +71,18 @@ abbrev pub standing : Principal → List Policy → Option Policy → RequestFac
 standing caller policies None request = own_standing (identity_allows caller policies request)
 standing caller policies (Some policy) request = key_standing (verdict_of policy request) (some_deny policies request) (identity_allows caller policies request)
 
+-- what a ceiling leaves of it
+abbrev pub bounded : CeilingVerdict → Standing → Standing
+bounded Passes standing = standing
+bounded Stops standing = Denied
+
+-- with the documents of the account's ceiling: what they stop is denied, whoever asks
+abbrev pub bounded_standing : Setting → Option Policy → RequestFacts → Standing
+bounded_standing setting policy request = bounded (ceiling_of setting.ceiling request) (standing setting.caller setting.policies policy request)
+
 -- what policies say of a question
 unfoldable pub standing_of : Setting → Option Policy → Asked → Standing
-standing_of setting policy asked = standing setting.caller setting.policies policy (request_of setting asked)
+standing_of setting policy asked = bounded_standing setting policy (request_of setting asked)
 
 -- whether it is allowed, where a live grant permits it or none does
 abbrev pub settled : Standing → Bool → Bool
@@ -99,9 +113,14 @@ MayOnKey setting policy granted request =
 abbrev pub MayWithoutKey : Setting → RequestFacts → Type 0
 MayWithoutKey setting request = ¬ (IdentityDenies setting request) × IdentityAllows setting request
 
+-- by the policies of the key, where the question is about one, and of the caller
+abbrev pub MayByPolicies : Setting → Option Policy → Bool → RequestFacts → Type 0
+MayByPolicies setting None granted request = MayWithoutKey setting request
+MayByPolicies setting (Some policy) granted request = MayOnKey setting policy granted request
+
+-- the account's ceiling lets it pass, and these policies allow it
 abbrev pub May : Setting → Option Policy → Bool → RequestFacts → Type 0
-May setting None granted request = MayWithoutKey setting request
-May setting (Some policy) granted request = MayOnKey setting policy granted request
+May setting policy granted request = Under setting.ceiling request × MayByPolicies setting policy granted request
 
 -- the policies have the kinds of what they are attached to
 abbrev pub IsKeyPolicy : Option Policy → Type 0
@@ -116,3 +135,17 @@ abbrev pub AllowedByStatements : Type 0
 AllowedByStatements =
     (setting : Setting) (policy : Option Policy) (asked : Asked) (granted : Bool) → IsKeyPolicy policy → AreIdentityPolicies setting.policies
     → IsTrue (is_allowed setting policy asked granted) ↔ May setting policy granted (request_of setting asked)
+
+-- ---- an account without a ceiling
+
+-- what policies say of a question is what the policies of the key and of the caller say
+abbrev pub StandsByPoliciesAlone : Type 0
+StandsByPoliciesAlone =
+    (setting : Setting) (policy : Option Policy) (asked : Asked) → setting.ceiling ≡ []
+    → standing_of setting policy asked ≡ standing setting.caller setting.policies policy (request_of setting asked)
+
+-- and a question is allowed exactly where their statements say so
+abbrev pub AllowedByPoliciesAlone : Type 0
+AllowedByPoliciesAlone =
+    (setting : Setting) (policy : Option Policy) (asked : Asked) (granted : Bool) → setting.ceiling ≡ [] → IsKeyPolicy policy → AreIdentityPolicies setting.policies
+    → IsTrue (is_allowed setting policy asked granted) ↔ MayByPolicies setting policy granted (request_of setting asked)

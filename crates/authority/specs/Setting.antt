@@ -13,12 +13,14 @@ use Rattle.grant_table.specs.declared.constraints.Constraint.{Constraint}
 use Rattle.policy_doc.specs.declared.policies.Policy.{Policy}
 use Rattle.authority.specs.declared.identities.Identity.{Identity}
 
--- the caller, the moment in seconds since 1970, the region of the service, and the caller's own policies
+-- the caller, the moment in seconds since 1970, the region of the service, the caller's own policies, and the documents of the
+-- account's ceiling, none where it has none
 pub record Setting : Type 0 where
   pub caller : Principal
   pub moment : ℕ
   pub region : List ℕ
   pub policies : List Policy
+  pub ceiling : List Policy
 
 -- what a request asks that a new grant be: its operations, its grantee, who may retire it, and its constraint
 pub record GrantSaid : Type 0 where

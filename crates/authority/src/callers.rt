@@ -32,17 +32,6 @@ impl Model for Callers {
     ghost view = { λ c. map (λ entry. (string_bytes entry.0, entry.1.items)) c.by_arn.entries };
 }
 
-// The policies of a list, ready to be asked.
-fn compiled(alloc: Global, policies: &PolicyList) -> Result<Vec<Compiled>, NoMemory>
-    ensures { IfOk result (λ v. v.items ≡ policies.now) }
-{
-    let mut all = Vec::new(alloc);
-    for policy in policies.as_slice() {
-        all.push(Compiled::new(alloc, policy)?)?;
-    }
-    Ok(all)
-}
-
 // Keeps the policies of an ARN, unless it has some already.
 fn keep(
     alloc: Global,
@@ -55,7 +44,7 @@ fn keep(
     if by_arn.get(arn).is_some() {
         return Ok(());
     }
-    let policies = compiled(alloc, policies)?;
+    let policies = policies.compile(alloc)?;
     let key = String::from_str(alloc, arn)?;
     by_arn.insert(key, policies)?;
     Ok(())

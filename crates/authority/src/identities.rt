@@ -2,6 +2,8 @@
 
 use kms_names::{NoMemory, Principal};
 use policy_doc::Policy;
+use policy_eval::Compiled;
+use std::alloc::Global;
 use std::marker::Model;
 
 /// A list of policies.
@@ -34,6 +36,17 @@ impl PolicyList {
         ensures { result.now ≡ self.now }
     {
         self.items.as_slice()
+    }
+
+    /// The same policies, ready to be asked.
+    pub fn compile(&self, alloc: Global) -> Result<Vec<Compiled>, NoMemory>
+        ensures { IfOk result (λ all. all.items ≡ self.now) }
+    {
+        let mut all = Vec::new(alloc);
+        for policy in &self.items {
+            all.push(Compiled::new(alloc, policy)?)?;
+        }
+        Ok(all)
     }
 
     /// A copy that equals its source.

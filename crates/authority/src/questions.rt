@@ -1,8 +1,9 @@
 //! Whether a request may do what it asks.
 ghost use Rattle.std.specs.Prelude.{◌≡◌, IfOk, option_map, true, false};
 ghost use Rattle.policy_eval.specs.VerdictOf.{verdict_of};
+ghost use Rattle.policy_eval.specs.CeilingOf.{CeilingGoesByQuestion};
 ghost use Rattle.authority.specs.Facts.{facts_of};
-ghost use Rattle.authority.specs.Allowed.{is_deny, is_direct, some_deny, some_allow, own_allow, identity_allows, key_standing, own_standing, standing, standing_of};
+ghost use Rattle.authority.specs.Allowed.{is_deny, is_direct, some_deny, some_allow, own_allow, identity_allows, key_standing, own_standing, standing, bounded_standing, standing_of};
 ghost use Rattle.authority.specs.Questions.{GoByQuestions, KeyGoesByQuestion, SaysWhatIsAsked};
 
 use crate::facts::facts_of;
@@ -11,7 +12,7 @@ use crate::settings::{Particulars, Setting};
 use crate::standings::Standing;
 use cond_ops::{FactList, RequestFacts};
 use kms_names::{Action, NoMemory, Principal, Text};
-use policy_eval::{Compiled, Verdict};
+use policy_eval::{CeilingVerdict, Compiled, Verdict, ceiling, ceiling_asks_facts};
 use std::alloc::Global;
 
 fn denies(policy: &Compiled, request: &RequestFacts) -> bool
@@ -125,11 +126,12 @@ fn key_asks(policy: Option<&Compiled>) -> bool
 }
 
 // Whether some policy that is asked has conditions.
-fn some_wants(policy: Option<&Compiled>, policies: &[Compiled]) -> bool
+fn some_wants(policy: Option<&Compiled>, policies: &[Compiled], ceiling: &[Compiled]) -> bool
     ensures key { result ≡ false → KeyGoesByQuestion (option_map (λ p. p.now) policy.entry) }
     ensures own { result ≡ false → GoByQuestions policies.now }
+    ensures bound { result ≡ false → CeilingGoesByQuestion ceiling.now }
 {
-    key_asks(policy) || some_ask(policies)
+    key_asks(policy) || some_ask(policies) || ceiling_asks_facts(ceiling)
 }
 
 fn compiled(policy: Option<&KeyPolicy>) -> Option<&Compiled>
@@ -181,8 +183,19 @@ impl Setting<'_> {
         })
     }
 
-    /// What policies say of this on a resource: the policy of a key, where the question is about one, and the caller's own.
-    /// Where some policy that is asked has conditions, the time grows with the number of the account's aliases.
+    // What policies say of the request. Where the ceiling stops it, no other is asked.
+    fn bounded_standing(&self, policy: Option<&Compiled>, request: &RequestFacts) -> Standing
+        ensures { result ≡ bounded_standing self.now (option_map (λ p. p.now) policy.entry) request.now }
+    {
+        match ceiling(self.ceiling, request) {
+            CeilingVerdict::Passes => standing(self.caller, self.policies, policy, request),
+            CeilingVerdict::Stops => Standing::Denied,
+        }
+    }
+
+    /// What policies say of this on a resource: the documents of the account's ceiling, then the policy of a key, where the
+    /// question is about one, and the caller's own. Where some policy that is asked has conditions, the time grows with
+    /// the number of the account's aliases.
     pub fn standing(
         &self,
         alloc: Global,
@@ -194,8 +207,8 @@ impl Setting<'_> {
         ensures { IfOk result (λ s. s ≡ standing_of self.now (option_map (λ p. p.now) policy.entry) (record { action = action; resource = resource.now; particulars = particulars.now })) }
     {
         let policy = compiled(policy);
-        let wanted = some_wants(policy, self.policies);
+        let wanted = some_wants(policy, self.policies, self.ceiling);
         let request = self.request(alloc, wanted, action, resource, particulars)?;
-        Ok(standing(self.caller, self.policies, policy, &request))
+        Ok(self.bounded_standing(policy, &request))
     }
 }

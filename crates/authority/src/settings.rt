@@ -10,7 +10,7 @@ use policy_eval::Compiled;
 use std::alloc::Global;
 use std::marker::Model;
 
-/// Who asks, when and where, and the policies of callers, lent.
+/// Who asks, when and where, the caller's policies and the account's ceiling, lent.
 #[derive(Drop)]
 pub struct Setting<'a> {
     /// Who asks.
@@ -21,6 +21,8 @@ pub struct Setting<'a> {
     pub region: &'a str,
     /// The caller's own policies; the root, which may do everything, has none.
     pub policies: &'a [Compiled],
+    /// The documents of the account's ceiling, which bound every caller, the root included; none where it has none.
+    pub ceiling: &'a [Compiled],
 }
 
 impl<'a> Model for Setting<'a> {
@@ -33,6 +35,7 @@ impl<'a> Model for Setting<'a> {
       moment = s.moment;
       region = s.region.now;
       policies = s.policies.now;
+      ceiling = s.ceiling.now;
     } };
 }
 

@@ -6,11 +6,11 @@ ghost use Rattle.authority.specs.Allowed.{settled};
 /// KMS"): a statement that denies it outweighs each that allows it, and a grant as well.
 #[derive(Clone, Copy)]
 pub enum Standing {
-    /// A statement denies it, or it is about no key and none allows it.
+    /// The account's ceiling stops it, or a statement denies it, or it is about no key and none allows it.
     Denied,
-    /// None denies it, and statements allow it.
+    /// The ceiling lets it pass, none denies it, and statements allow it.
     Allowed,
-    /// None denies it and none allows it: a live grant of its key may still permit it.
+    /// The ceiling lets it pass, none denies it and none allows it: a live grant of its key may still permit it.
     IfGranted,
 }
 

@@ -6,6 +6,7 @@ use Rattle.serde_json.specs.declared.value.Value.{Value}
 use Rattle.serde_json.specs.Data.{Data}
 use Rattle.policy_doc.specs.Paths.{member_path}
 use Rattle.policy_doc.specs.Reading.{Reads, ReadsNothing}
+use Rattle.policy_doc.specs.declared.policies.Policy.{Policy}
 use Rattle.authority.specs.declared.identities.Identity.{Identity}
 use Rattle.sigv4_check.specs.declared.credentials.Credential.{Credential}
 use Rattle.kms_config.specs.declared.faults.ConfigFault.{ConfigFault}
@@ -41,26 +42,33 @@ module _ (account region root : Option (List ℕ)) (boot : Option ℕ) where
   unfolding basics_by
   all_basics a r s n e f g k = rw (e, f, g, k) refl
 
-module _ (basics : Basics) (credentials : Result (List Credential) (List ℕ)) (identities : Result (List Identity) (List ℕ)) (unknown : Option (List ℕ)) where
-  pub no_credentials : (why : ConfigFault) → Answers credentials (Err why) → Answers {A = Config} (lists_by basics credentials identities unknown) (Err why)
+module _ (basics : Basics) (credentials : Result (List Credential) (List ℕ)) (identities : Result (List Identity) (List ℕ)) (ceiling : Result (List Policy) (List ℕ)) (unknown : Option (List ℕ)) where
+  pub no_credentials : (why : ConfigFault) → Answers credentials (Err why) → Answers {A = Config} (lists_by basics credentials identities ceiling unknown) (Err why)
   unfolding lists_by
   no_credentials (At text) h = rw h refl
   no_credentials NoMemory h = tt
 
-  pub no_identities : (cs : List Credential) (why : ConfigFault) → credentials ≡ Ok cs → Answers identities (Err why) → Answers {A = Config} (lists_by basics credentials identities unknown) (Err why)
+  pub no_identities : (cs : List Credential) (why : ConfigFault) → credentials ≡ Ok cs → Answers identities (Err why) → Answers {A = Config} (lists_by basics credentials identities ceiling unknown) (Err why)
   unfolding lists_by
   no_identities cs (At text) e h = rw (e, h) refl
   no_identities cs NoMemory e h = tt
 
-  pub has_other : (cs : List Credential) (is : List Identity) (name : List ℕ) (answer : Result Config ConfigFault) → credentials ≡ Ok cs → identities ≡ Ok is → unknown ≡ Some name
-      → Answers (Err (member_path [] name)) answer → Answers (lists_by basics credentials identities unknown) answer
+  pub no_ceiling : (cs : List Credential) (is : List Identity) (why : ConfigFault) → credentials ≡ Ok cs → identities ≡ Ok is → Answers ceiling (Err why)
+      → Answers {A = Config} (lists_by basics credentials identities ceiling unknown) (Err why)
   unfolding lists_by
-  has_other cs is name answer e f u h = rw (e, f, u) h
+  no_ceiling cs is (At text) e f h = rw (e, f, h) refl
+  no_ceiling cs is NoMemory e f h = tt
 
-  pub all_lists : (cs : List Credential) (is : List Identity) → credentials ≡ Ok cs → identities ≡ Ok is → unknown ≡ None
-      → lists_by basics credentials identities unknown ≡ Ok (record { facts = record { account = basics.account; region = basics.region; root = basics.root; boot = basics.boot; identities = is }; credentials = cs })
+  pub has_other : (cs : List Credential) (is : List Identity) (ds : List Policy) (name : List ℕ) (answer : Result Config ConfigFault) → credentials ≡ Ok cs → identities ≡ Ok is
+      → ceiling ≡ Ok ds → unknown ≡ Some name
+      → Answers (Err (member_path [] name)) answer → Answers (lists_by basics credentials identities ceiling unknown) answer
   unfolding lists_by
-  all_lists cs is e f u = rw (e, f, u) refl
+  has_other cs is ds name answer e f g u h = rw (e, f, g, u) h
+
+  pub all_lists : (cs : List Credential) (is : List Identity) (ds : List Policy) → credentials ≡ Ok cs → identities ≡ Ok is → ceiling ≡ Ok ds → unknown ≡ None
+      → lists_by basics credentials identities ceiling unknown ≡ Ok (record { facts = record { account = basics.account; region = basics.region; root = basics.root; boot = basics.boot; identities = is; ceiling = ds }; credentials = cs })
+  unfolding lists_by
+  all_lists cs is ds e f g u = rw (e, f, g, u) refl
 
 -- ---- the faults of bytes
 

@@ -1,5 +1,5 @@
 -- The policies of a configuration's principals are identity policies.
-use Rattle.std.proofs.Common.{◌≡◌, ◌+◌, ◌++◌, ℕ, List, [], ◌∷◌, Bool, true, false, cond, Option, Some, None, Result, Ok, Err, refl, subst, codes}
+use Rattle.std.proofs.Common.{◌≡◌, ◌+◌, ◌++◌, ℕ, List, [], ◌∷◌, Bool, true, false, cond, Option, Some, None, Result, Ok, Err, refl, subst, codes, option_and_then}
 use Rattle.std.specs.Prelude.{All, IfOk, find}
 use Rattle.std.specs.Str.{bytes_eq}
 use Rattle.std.proofs.lemmas.List.Elements.{All-nil, All-head, All-tail, All-push}
@@ -22,10 +22,11 @@ use Rattle.kms_config.specs.declared.faults.ConfigFault.{ConfigFault}
 use Rattle.kms_config.specs.declared.config.Basics.{Basics}
 use Rattle.kms_config.specs.declared.config.Config.{Config}
 use Rattle.kms_config.specs.Answers.{Answers, ◌>>=◌, at}
-use Rattle.kms_config.specs.Lists.{items_within, items_from}
+use Rattle.kms_config.specs.Lists.{if_any, items_within, items_from}
 use Rattle.kms_config.specs.Members.{members_in}
-use Rattle.kms_config.specs.Identities.{document_by, document_in, next_document, documents_in, identity_names, new_principal, policies_in, identity_by, identity_of, identity_in, next_identity, identities_in}
-use Rattle.kms_config.specs.Config.{config_names, pointer, basics_in, credentials_at, identities_at, lists_by, lists_in, config_of, config_in, IsConfigOf}
+use Rattle.kms_config.specs.Identities.{document_by, document_in, next_document, documents_in, ceiling_in, identity_names, new_principal, policies_in, identity_by, identity_of, identity_in, next_identity, identities_in}
+use Rattle.kms_config.specs.Config.{config_names, pointer, basics_in, credentials_at, identities_at, ceiling_at, lists_by, lists_in, config_of, config_in}
+use Rattle.kms_config.specs.Laws.{ConfiguredPoliciesAreOfIdentities}
 
 -- ---- one step after another
 
@@ -111,22 +112,30 @@ identities_kind account path value =
 
 -- ---- the configuration
 
-abbrev ConfigHas : Config → Type 0
-ConfigHas config = HaveIdentityPolicies config.facts.identities
+record ConfigHas (config : Config) : Type 0 where
+  identities : HaveIdentityPolicies config.facts.identities
+  ceiling : AreIdentityPolicies config.facts.ceiling
 
-lists_by_kind : (basics : Basics) (credentials : Result (List Credential) (List ℕ)) (identities : Result (List Identity) (List ℕ)) (unknown : Option (List ℕ)) → IfOk identities HaveIdentityPolicies
-    → IfOk (lists_by basics credentials identities unknown) ConfigHas
+ceiling_kind : (path : List ℕ) (value : Option Data) → IfOk (ceiling_in path value) AreIdentityPolicies
+ceiling_kind path None = All-nil IsIdentityPolicy
+ceiling_kind path (Some value) =
+    whatever (at path (option_and_then if_any (items_within 10 (Some value)))) (items_from (next_document path) [] 0) AreIdentityPolicies
+    (λ values. all_keep AreIdentityPolicies (next_document path) (next_document_kind path) values [] 0 (All-nil IsIdentityPolicy))
+
+lists_by_kind : (basics : Basics) (credentials : Result (List Credential) (List ℕ)) (identities : Result (List Identity) (List ℕ)) (ceiling : Result (List Policy) (List ℕ)) (unknown : Option (List ℕ))
+    → IfOk identities HaveIdentityPolicies → IfOk ceiling AreIdentityPolicies → IfOk (lists_by basics credentials identities ceiling unknown) ConfigHas
 unfolding lists_by
-lists_by_kind basics (Err why) identities unknown have = tt
-lists_by_kind basics (Ok credentials) (Err why) unknown have = tt
-lists_by_kind basics (Ok credentials) (Ok identities) (Some name) have = tt
-lists_by_kind basics (Ok credentials) (Ok identities) None have = have
+lists_by_kind basics (Err why) identities ceiling unknown have are = tt
+lists_by_kind basics (Ok credentials) (Err why) ceiling unknown have are = tt
+lists_by_kind basics (Ok credentials) (Ok identities) (Err why) unknown have are = tt
+lists_by_kind basics (Ok credentials) (Ok identities) (Ok ceiling) (Some name) have are = tt
+lists_by_kind basics (Ok credentials) (Ok identities) (Ok ceiling) None have are = record { identities = have; ceiling = are }
 
 lists_kind : (value : Data) (members : Members) (basics : Basics) → IfOk (lists_in value members basics) ConfigHas
 unfolding lists_in
 lists_kind value members basics =
-    lists_by_kind basics (credentials_at basics.account value) (identities_at basics.account value) (first_unknown config_names members)
-    (identities_kind basics.account (pointer (codes "policies")) (get (codes "policies") value))
+    lists_by_kind basics (credentials_at basics.account value) (identities_at basics.account value) (ceiling_at value) (first_unknown config_names members)
+    (identities_kind basics.account (pointer (codes "policies")) (get (codes "policies") value)) (ceiling_kind (pointer (codes "ceiling")) (get (codes "ceiling") value))
 
 config_kind : (value : Data) → IfOk (config_in value) ConfigHas
 config_kind value =
@@ -152,14 +161,22 @@ of_caller identities have (Root account) = All-nil IsIdentityPolicy
 of_caller identities have (User account name) = of_principal identities have (User account name)
 of_caller identities have (Role account name) = of_principal identities have (Role account name)
 
--- what a configuration that is answered holds for a caller
+-- what a configuration that is answered holds for a caller, and as the account's ceiling
 pub callers_kind : (value : Data) (answer : Result Config ConfigFault) → Answers (config_in value) answer
     → IfOk answer (λ (config : Config). (caller : Principal) → AreIdentityPolicies (callers_policies config.facts.identities caller))
 callers_kind value (Ok config) is =
     let have : ConfigHas config = subst (λ (r : Result Config (List ℕ)). IfOk r ConfigHas) is (config_kind value) in
-    of_caller config.facts.identities have
+    of_caller config.facts.identities have.identities
 callers_kind value (Err why) is = tt
 
+pub documents_of_ceiling : (value : Data) (answer : Result Config ConfigFault) → Answers (config_in value) answer → IfOk answer (λ (config : Config). AreIdentityPolicies config.facts.ceiling)
+documents_of_ceiling value (Ok config) is =
+    let have : ConfigHas config = subst (λ (r : Result Config (List ℕ)). IfOk r ConfigHas) is (config_kind value) in
+    have.ceiling
+documents_of_ceiling value (Err why) is = tt
+
 -- and so of every configuration
-pub configured_kind : (bytes : List ℕ) (config : Config) → IsConfigOf bytes config → (caller : Principal) → AreIdentityPolicies (callers_policies config.facts.identities caller)
-configured_kind bytes config is = of_caller config.facts.identities (subst (λ (r : Result Config (List ℕ)). IfOk r ConfigHas) is.is (config_kind is.value))
+pub configured_kind : ConfiguredPoliciesAreOfIdentities
+configured_kind bytes config is =
+    let have : ConfigHas config = subst (λ (r : Result Config (List ℕ)). IfOk r ConfigHas) is.is (config_kind is.value) in
+    (of_caller config.facts.identities have.identities, have.ceiling)

@@ -4,4 +4,4 @@ mod ItemFacts
 mod DocumentFacts
 mod IdentityFacts
 mod ConfigFacts
-mod KindFacts
+pub mod KindFacts

@@ -5,6 +5,7 @@ use Rattle.serde_json.specs.Find.{get}
 use Rattle.policy_doc.specs.Names.{first_unknown}
 use Rattle.policy_doc.specs.Paths.{member_path}
 use Rattle.policy_doc.specs.Reading.{Reads, ReadsNothing}
+use Rattle.policy_doc.specs.declared.policies.Policy.{Policy}
 use Rattle.authority.specs.declared.identities.Identity.{Identity}
 use Rattle.sigv4_check.specs.declared.credentials.Credential.{Credential}
 use Rattle.kms_config.specs.declared.faults.ConfigFault.{ConfigFault}
@@ -15,10 +16,10 @@ use Rattle.kms_config.specs.Answers.{◌>>=◌, at}
 use Rattle.kms_config.specs.Members.{members_in, none_other}
 use Rattle.kms_config.specs.Forms.{account_in, region_in, root_in, boot_in}
 use Rattle.kms_config.specs.Credentials.{credentials_in}
-use Rattle.kms_config.specs.Identities.{identities_in}
+use Rattle.kms_config.specs.Identities.{identities_in, ceiling_in}
 
 abbrev pub config_names : List (List ℕ)
-config_names = codes "account" ∷ codes "region" ∷ codes "root" ∷ codes "boot" ∷ codes "credentials" ∷ codes "policies" ∷ []
+config_names = codes "account" ∷ codes "region" ∷ codes "root" ∷ codes "boot" ∷ codes "credentials" ∷ codes "policies" ∷ codes "ceiling" ∷ []
 
 -- the pointer of a member of the configuration
 abbrev pub pointer : List ℕ → List ℕ
@@ -43,19 +44,23 @@ credentials_at account value = credentials_in account (pointer (codes "credentia
 abbrev pub identities_at : List ℕ → Data → Result (List Identity) (List ℕ)
 identities_at account value = identities_in account (pointer (codes "policies")) (get (codes "policies") value)
 
--- with these basics, the credentials, the principals' policies, and then no other member
-unfoldable pub lists_by : Basics → Result (List Credential) (List ℕ) → Result (List Identity) (List ℕ) → Option (List ℕ) → Result Config (List ℕ)
-lists_by basics credentials identities unknown = do
+abbrev pub ceiling_at : Data → Result (List Policy) (List ℕ)
+ceiling_at value = ceiling_in (pointer (codes "ceiling")) (get (codes "ceiling") value)
+
+-- with these basics, the credentials, the principals' policies, the account's ceiling, and then no other member
+unfoldable pub lists_by : Basics → Result (List Credential) (List ℕ) → Result (List Identity) (List ℕ) → Result (List Policy) (List ℕ) → Option (List ℕ) → Result Config (List ℕ)
+lists_by basics credentials identities ceiling unknown = do
   credentials ← credentials
   identities ← identities
+  ceiling ← ceiling
   named ← none_other [] unknown
   Ok (record {
-    facts = record { account = basics.account; region = basics.region; root = basics.root; boot = basics.boot; identities = identities };
+    facts = record { account = basics.account; region = basics.region; root = basics.root; boot = basics.boot; identities = identities; ceiling = ceiling };
     credentials = credentials;
   })
 
 unfoldable pub lists_in : Data → Members → Basics → Result Config (List ℕ)
-lists_in value members basics = lists_by basics (credentials_at basics.account value) (identities_at basics.account value) (first_unknown config_names members)
+lists_in value members basics = lists_by basics (credentials_at basics.account value) (identities_at basics.account value) (ceiling_at value) (first_unknown config_names members)
 
 -- what an object with these members configures
 abbrev pub config_of : Data → Members → Result Config (List ℕ)

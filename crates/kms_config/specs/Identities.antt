@@ -16,7 +16,7 @@ use Rattle.policy_doc.specs.declared.policies.Policy.{Policy}
 use Rattle.policy_doc.specs.declared.policies.PolicyKind.TheVariants as kind
 use Rattle.authority.specs.declared.identities.Identity.{Identity}
 use Rattle.kms_config.specs.Answers.{◌>>=◌, at}
-use Rattle.kms_config.specs.Lists.{items_within, items_from}
+use Rattle.kms_config.specs.Lists.{if_any, items_within, items_from}
 use Rattle.kms_config.specs.Members.{members_in, none_other}
 use Rattle.kms_config.specs.Forms.{principal_at, no_root}
 
@@ -45,6 +45,11 @@ next_document path policies index value = document_in (item_path path index) val
 -- a list of at most 10
 abbrev pub documents_in : List ℕ → Option Data → Result (List Policy) (List ℕ)
 documents_in path value = at path (items_within 10 value) >>= items_from (next_document path) [] 0
+
+-- the documents of the account's ceiling: none where it is left out, else a list of 1 to 10
+abbrev pub ceiling_in : List ℕ → Option Data → Result (List Policy) (List ℕ)
+ceiling_in path None = Ok []
+ceiling_in path (Some value) = at path (option_and_then if_any (items_within 10 (Some value))) >>= items_from (next_document path) [] 0
 
 -- ---- principals
 

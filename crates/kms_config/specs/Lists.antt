@@ -10,6 +10,10 @@ use Rattle.kms_config.specs.Answers.{◌>>=◌}
 abbrev pub if_few : ℕ → Items → Option Items
 if_few most values = some_if (nat_le (items_len values) most) values
 
+-- of which there is one at least
+abbrev pub if_any : Items → Option Items
+if_any values = some_if (nat_le 1 (items_len values)) values
+
 abbrev pub items_within : ℕ → Option Data → Option Items
 items_within most value = option_and_then (if_few most) (option_and_then as_array value)
 

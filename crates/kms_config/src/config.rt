@@ -6,15 +6,15 @@ ghost use Rattle.policy_doc.specs.Reading.{Reads, ReadsNothing};
 ghost use Rattle.authority.specs.Setting.{callers_policies};
 ghost use Rattle.authority.specs.Allowed.{AreIdentityPolicies};
 ghost use Rattle.kms_config.specs.Answers.{Answers};
-ghost use Rattle.kms_config.specs.Config.{basics_in, credentials_at, identities_at, lists_in, config_in, IsConfigOf, IsFaultOf};
+ghost use Rattle.kms_config.specs.Config.{basics_in, credentials_at, identities_at, ceiling_at, lists_in, config_in, IsConfigOf, IsFaultOf};
 
 use crate::credentials::credentials_in;
 use crate::faults::ConfigFault;
 use crate::forms::{account_in, boot_in, region_in, root_in};
-use crate::identities::identities_in;
+use crate::identities::{ceiling_in, identities_in};
 use crate::places::{refused, refused_behind};
 use account_steps::RealmFacts;
-use authority::IdentityList;
+use authority::{IdentityList, PolicyList};
 use kms_names::{AccountNumber, NoMemory, Text};
 use policy_doc::{Path, first_unknown, member};
 use serde_json::{Map, Value};
@@ -25,13 +25,14 @@ use std::alloc::Global;
 const LONGEST: usize = 4_194_304;
 
 // The names of a configuration's members.
-const NAMES: [&str; 6] = [
+const NAMES: [&str; 7] = [
     "account",
     "region",
     "root",
     "boot",
     "credentials",
     "policies",
+    "ceiling",
 ];
 
 /// What a service is configured with.
@@ -101,6 +102,14 @@ fn identities_at(
     identities_in(alloc, account, &place, member(value, "policies"))
 }
 
+fn ceiling_at(alloc: Global, value: &Value) -> Result<PolicyList, ConfigFault>
+    ensures { Answers (ceiling_at (view value.now)) result }
+{
+    let top = Path::Root;
+    let place = Path::Member(&top, "ceiling");
+    ceiling_in(alloc, &place, member(value, "ceiling"))
+}
+
 // The lists of an object with these members.
 fn lists_in(
     alloc: Global,
@@ -125,6 +134,10 @@ fn lists_in(
         Ok(identities) => identities,
         Err(why) => return Err(why),
     };
+    let ceiling = match ceiling_at(alloc, value) {
+        Ok(ceiling) => ceiling,
+        Err(why) => return Err(why),
+    };
     if let Some(name) = first_unknown(&NAMES, members) {
         return refused(alloc, &Path::Member(&top, name));
     }
@@ -135,6 +148,7 @@ fn lists_in(
             root,
             boot,
             identities,
+            ceiling,
         },
         credentials,
     })
@@ -165,7 +179,7 @@ fn read_json(alloc: Global, bytes: &[u8]) -> Result<Option<Value>, NoMemory>
 }
 
 /// The configuration that the bytes of a file are: a JSON object (RFC 8259) of at most 4,194,304 bytes
-/// with exactly these members.
+/// with exactly these members; `ceiling` may be left out.
 ///
 /// | Member | Value |
 /// |---|---|
@@ -175,9 +189,11 @@ fn read_json(alloc: Global, bytes: &[u8]) -> Result<Option<Value>, NoMemory>
 /// | `boot` | a whole number from 1 to 4294967295 |
 /// | `credentials` | a list of at most 1,000 objects of `accessKeyId` (1 to 128 letters and digits, distinct), `secret` (1 to 128 visible ASCII characters) and `principal` |
 /// | `policies` | a list of at most 1,000 objects of `principal` (distinct, and not the root) and `documents` (a list of at most 10 identity policies) |
+/// | `ceiling` | a list of 1 to 10 identity policies |
 ///
 /// A principal is the ARN of the account's root, of a user or of a role of the account. Whoever calls, the
-/// policies that the configuration's facts hold for the caller are then all of the kind `Identity`.
+/// policies that the configuration's facts hold for the caller are then all of the kind `Identity`, and so are the documents of
+/// the ceiling.
 ///
 /// Else the answer is the JSON pointer of the first fault: of the members in this order, of a list's
 /// length before its items, of the items in theirs, and of an object's members of other names last, in
@@ -187,6 +203,7 @@ pub fn read_config(alloc: Global, bytes: &[u8]) -> Result<Config, ConfigFault>
     ensures ok { IfOk result (IsConfigOf bytes.now) }
     ensures fault { IfErr result (IsFaultOf bytes.now) }
     ensures identity_policies { IfOk result (λ config. (caller : Principal) → AreIdentityPolicies (callers_policies config.facts.identities caller)) }
+    ensures ceiling_policies { IfOk result (λ config. AreIdentityPolicies config.facts.ceiling) }
 {
     if bytes.len() > LONGEST {
         return refused_behind(alloc, &Path::Root, "/");

@@ -1,13 +1,14 @@
 // The principals with policies of their own.
 ghost use Rattle.std.specs.Prelude.{◌≡◌, ◌++◌, ◌∷◌, [], IfOk, OnOk, option_map};
-ghost use Rattle.serde_json.specs.View.{view, members_view};
+ghost use Rattle.serde_json.specs.View.{view, items_view, members_view};
 ghost use Rattle.kms_config.specs.Answers.{Answers};
 ghost use Rattle.policy_doc.specs.Paths.{path_text};
-ghost use Rattle.kms_config.specs.Identities.{document_in, documents_in, is_same, has_principal, new_principal, policies_in, identity_of, identity_in, identities_in};
+ghost use Rattle.kms_config.specs.Lists.{items_from};
+ghost use Rattle.kms_config.specs.Identities.{document_in, next_document, documents_in, ceiling_in, is_same, has_principal, new_principal, policies_in, identity_of, identity_in, identities_in};
 
 use crate::faults::ConfigFault;
 use crate::forms::{no_root, principal_at};
-use crate::members::items_within;
+use crate::members::{items_within, some_within};
 use crate::places::{refused, refused_behind};
 use authority::{Identity, IdentityList, PolicyList};
 use kms_names::{AccountNumber, NoMemory, Principal};
@@ -18,7 +19,7 @@ use std::alloc::Global;
 // The most principals.
 const MOST: usize = 1_000;
 
-// The most documents of a principal.
+// The most documents of a principal, and of the account's ceiling.
 const MOST_DOCUMENTS: usize = 10;
 
 // The names of an item's members.
@@ -38,17 +39,10 @@ fn document_in(alloc: Global, place: &Path<'_>, value: &Value) -> Result<Policy,
     }
 }
 
-// A list of at most 10 identity policies.
-fn documents_in(
-    alloc: Global,
-    place: &Path<'_>,
-    value: Option<&Value>,
-) -> Result<PolicyList, ConfigFault>
-    ensures { Answers (documents_in (path_text place.now) (option_map (λ v. view v.now) value.entry)) result }
+// The identity policies that these values are.
+fn policies_of(alloc: Global, place: &Path<'_>, values: &[Value]) -> Result<PolicyList, ConfigFault>
+    ensures { Answers (items_from (next_document (path_text place.now)) [] 0 (items_view values.now)) result }
 {
-    let Some(values) = items_within(value, MOST_DOCUMENTS) else {
-        return refused(alloc, place);
-    };
     let mut policies = Vec::new(alloc);
     for (index, value) in values.iter().enumerate() {
         let item = Path::Item(&*place, index);
@@ -58,6 +52,37 @@ fn documents_in(
         }
     }
     Ok(PolicyList::new(policies))
+}
+
+// A list of at most 10 identity policies.
+fn documents_in(
+    alloc: Global,
+    place: &Path<'_>,
+    value: Option<&Value>,
+) -> Result<PolicyList, ConfigFault>
+    ensures { Answers (documents_in (path_text place.now) (option_map (λ v. view v.now) value.entry)) result }
+{
+    match items_within(value, MOST_DOCUMENTS) {
+        Some(values) => policies_of(alloc, place, values),
+        None => refused(alloc, place),
+    }
+}
+
+/// The documents of the account's ceiling: none where it is left out, else a list of 1 to 10 identity policies.
+pub fn ceiling_in(
+    alloc: Global,
+    place: &Path<'_>,
+    value: Option<&Value>,
+) -> Result<PolicyList, ConfigFault>
+    ensures { Answers (ceiling_in (path_text place.now) (option_map (λ v. view v.now) value.entry)) result }
+{
+    let Some(value) = value else {
+        return Ok(PolicyList::new(Vec::new(alloc)));
+    };
+    match some_within(Some(value), MOST_DOCUMENTS) {
+        Some(values) => policies_of(alloc, place, values),
+        None => refused(alloc, place),
+    }
 }
 
 fn add<T: Drop>(items: &mut Vec<T>, item: T) -> Result<(), NoMemory>

@@ -3,7 +3,7 @@ ghost use Rattle.std.specs.Prelude.{◌≡◌, nat_le, option_map, option_and_th
 ghost use Rattle.serde_json.specs.View.{view, items_view};
 ghost use Rattle.serde_json.specs.Find.{as_array};
 ghost use Rattle.policy_doc.specs.Texts.{items_len};
-ghost use Rattle.kms_config.specs.Lists.{items_within};
+ghost use Rattle.kms_config.specs.Lists.{if_any, items_within};
 ghost use Rattle.kms_config.specs.Members.{text_in};
 
 use serde_json::Value;
@@ -40,4 +40,23 @@ pub fn items_within<'a>(value: Option<&'a Value>, most: usize) -> Option<&'a [Va
     } else {
         None
     }
+}
+
+fn are_some(values: &[Value]) -> bool
+    ensures { result ≡ nat_le 1 (items_len (items_view values.now)) }
+{
+    1 <= values.len()
+}
+
+fn any_of(values: &[Value]) -> Option<&[Value]>
+    ensures { option_map (λ values. items_view values.now) result ≡ if_any (items_view values.now) }
+{
+    if are_some(values) { Some(values) } else { None }
+}
+
+/// The items of a list of one to so many.
+pub fn some_within<'a>(value: Option<&'a Value>, most: usize) -> Option<&'a [Value]>
+    ensures { option_map (λ values. items_view values.now) result ≡ option_and_then if_any (items_within most (option_map (λ v. view v.now) value.entry)) }
+{
+    any_of(items_within(value, most)?)
 }

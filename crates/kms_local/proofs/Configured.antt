@@ -8,6 +8,7 @@ use Rattle.serde_json.specs.Data.{Data, Items, no_items, item, Members}
 use Rattle.serde_json.specs.Find.{get}
 use Rattle.kms_names.specs.Reading.{some_if, principal_of}
 use Rattle.kms_names.specs.declared.principals.Principal.{Principal}
+use Rattle.policy_doc.specs.declared.policies.Policy.{Policy}
 use Rattle.authority.specs.declared.identities.Identity.{Identity}
 use Rattle.kms_names.specs.Principal.{account_of}
 use Rattle.sigv4_check.specs.SignedNames.{is_before}
@@ -85,14 +86,18 @@ module _ (account : List ℕ) where
       let next = step_is (next_credential account path had index value) (λ (new : List Credential). items_from (next_credential account path) new _ values) all is in
       items_of path next.0 all _ values (next_of path had next.0 index value of next.1) next.2
 
-listed_by : (basics : Basics) (credentials : Result (List Credential) (List ℕ)) (identities : Result (List Identity) (List ℕ)) (unknown : Option (List ℕ)) (config : Config)
-    → lists_by basics credentials identities unknown ≡ Ok config → (credentials ≡ Ok config.credentials) × (basics.account ≡ config.facts.account)
+listed_by : (basics : Basics) (credentials : Result (List Credential) (List ℕ)) (identities : Result (List Identity) (List ℕ)) (ceiling : Result (List Policy) (List ℕ)) (unknown : Option (List ℕ))
+    (config : Config) → lists_by basics credentials identities ceiling unknown ≡ Ok config → (credentials ≡ Ok config.credentials) × (basics.account ≡ config.facts.account)
 unfolding lists_by
-listed_by basics (Err path) identities unknown config is = cc
-listed_by basics (Ok cs) (Err path) unknown config is = cc
-listed_by basics (Ok cs) (Ok ps) (Some name) config is = cc
-listed_by basics (Ok cs) (Ok ps) None config is =
-    let made : Config = record { facts = record { account = basics.account; region = basics.region; root = basics.root; boot = basics.boot; identities = ps }; credentials = cs } in
+listed_by basics (Err path) identities ceiling unknown config is = cc
+listed_by basics (Ok cs) (Err path) ceiling unknown config is = cc
+listed_by basics (Ok cs) (Ok ps) (Err path) unknown config is = cc
+listed_by basics (Ok cs) (Ok ps) (Ok ds) (Some name) config is = cc
+listed_by basics (Ok cs) (Ok ps) (Ok ds) None config is =
+    let made : Config = record {
+      facts = record { account = basics.account; region = basics.region; root = basics.root; boot = basics.boot; identities = ps; ceiling = ds };
+      credentials = cs;
+    } in
     let same : made ≡ config = cc in
     (ap (λ (x : Config). Ok x.credentials) same, ap (λ (x : Config). x.facts.account) same)
 
@@ -100,7 +105,7 @@ listed_of : (value : Data) (members : Members) (basics : Basics) (config : Confi
     → All (λ (c : Credential). account_of c.principal ≡ config.facts.account) config.credentials
 unfolding lists_in
 listed_of value _ basics config is =
-    let listed = listed_by basics _ _ _ config is in
+    let listed = listed_by basics _ _ _ _ config is in
     let items = step_is _ (items_from (next_credential basics.account (pointer (codes "credentials"))) [] 0) config.credentials listed.0 in
     subst (λ (account : List ℕ). All (λ (c : Credential). account_of c.principal ≡ account) config.credentials) listed.1
     (items_of basics.account (pointer (codes "credentials")) [] config.credentials 0 items.0 (All-nil (IsOf basics.account)) items.2)

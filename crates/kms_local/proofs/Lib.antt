@@ -2,3 +2,4 @@ mod Callers
 mod Configured
 mod Programs
 mod Clocks
+mod Completing

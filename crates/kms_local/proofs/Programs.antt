@@ -17,6 +17,6 @@ refused_file file path status old new asks is (inr rests) = lacks rests (may_ask
 
 -- without a configuration, whatever is done with one
 pub widened : (file : List ℕ) (status : ℕ) (old new : Around) (Does : Config → Type 0) → WithFile file status old new (λ config. ⊥) → WithFile file status old new Does
-widened file status old new Does (configured config is asks none) = absurd none
+widened file status old new Does (configured config is policies asks none) = absurd none
 widened file status old new Does (not_configured none asks) = not_configured none asks
 widened file status old new Does (lacks rests asks) = lacks rests asks

@@ -3,6 +3,10 @@ use Rattle.std.specs.Prelude.{◌≡◌, ◌<◌, ⊤, ℕ, List, length, IfSome
 use Rattle.kms_io.specs.Shelf.{Shelf}
 use Rattle.kms_io.specs.Wire.{RoseBy}
 use Rattle.kms_io.specs.Files.{Asks, MayAsk}
+use Rattle.kms_names.specs.declared.principals.Principal.{Principal}
+use Rattle.authority.specs.Setting.{callers_policies}
+use Rattle.authority.specs.Allowed.{AreIdentityPolicies}
+use Rattle.account_steps.specs.declared.facts.RealmFacts.{RealmFacts}
 use Rattle.kms_config.specs.Config.{IsConfigOf, IsRefusedAt}
 use Rattle.kms_config.specs.declared.config.Config.{Config}
 use Rattle.kms_local.specs.declared.files.Loaded.{Loaded}
@@ -15,6 +19,11 @@ Holds shelf name bytes = IfSome (shelf.content name) (λ all. bytes ≡ all)
 -- the file is this configuration
 abbrev pub IsFileOf : Shelf → List ℕ → Config → Type 0
 IsFileOf shelf name config = (bytes : List ℕ) × Holds shelf name bytes × IsConfigOf bytes config
+
+-- whoever calls has policies of the kind Identity alone, and the account's ceiling is of such: what the laws of authority presume
+pub record HasIdentityPolicies (facts : RealmFacts) : Type 0 where
+  pub own : (caller : Principal) → AreIdentityPolicies (callers_policies facts.identities caller)
+  pub ceiling : AreIdentityPolicies facts.ceiling
 
 -- the first fault of the file's content stands at this path
 abbrev pub IsFileRefused : Shelf → List ℕ → List ℕ → Type 0

@@ -2,3 +2,4 @@ pub mod Settings
 pub mod Files
 pub mod Statuses
 pub mod Program
+pub mod Complete

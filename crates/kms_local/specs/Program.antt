@@ -21,7 +21,7 @@ use Rattle.kms_server.specs.Server.{Wanted, Surroundings, surroundings, ServesDo
 use Rattle.kms_workload.specs.Summary.{Summarizes}
 use Rattle.kms_words.specs.Words.{Command, RunValues, ServeValues, run, run_file, check, serve, load, command_of}
 use Rattle.kms_local.specs.Settings.{IsSettings, IsRefusedAt, IsConfigured, IsNobody}
-use Rattle.kms_local.specs.Files.{IsFileOf, IsFileRefused, IsFileTooLong}
+use Rattle.kms_local.specs.Files.{IsFileOf, HasIdentityPolicies, IsFileRefused, IsFileTooLong}
 
 -- what the link and the files show, and what the first clock tells
 pub record Around : Type 0 where
@@ -131,7 +131,7 @@ pub data Checks (config : Config) (status : ℕ) (old new : Around) : Type 0 whe
 
 -- what a command with a file does, where this is what it does with a configuration
 pub data WithFile (file : List ℕ) (status : ℕ) (old new : Around) (Does : Config → Type 0) : Type 0 where
-  configured : (config : Config) → IsFileOf old.shelf file config → Asks old.shelf file new.shelf → Does config → WithFile file status old new Does
+  configured : (config : Config) → IsFileOf old.shelf file config → HasIdentityPolicies config.facts → Asks old.shelf file new.shelf → Does config → WithFile file status old new Does
   not_configured : RunsNoFile file status old new → Asks old.shelf file new.shelf → WithFile file status old new Does
   lacks : Rests no_memory status old new → MayAsk old.shelf file new.shelf → WithFile file status old new Does
 
@@ -197,7 +197,8 @@ pub data ServesConfig (config : Config) (values : ServeValues) (status : ℕ) (o
 
 -- what `serve` does: the file was asked for, and then the door
 pub data ServesFile (values : ServeValues) (status : ℕ) (old new : Everything) : Type 0 where
-  configured : (config : Config) → IsFileOf old.shelf values.file config → Asks old.shelf values.file new.shelf → ServesConfig config values status old new → ServesFile values status old new
+  configured : (config : Config) → IsFileOf old.shelf values.file config → HasIdentityPolicies config.facts → Asks old.shelf values.file new.shelf → ServesConfig config values status old new
+      → ServesFile values status old new
   otherwise : WithFile values.file status (one_of old) (one_of new) (λ config. ⊥) → AsksNone old new → ServesFile values status old new
 
 -- ---- a workload

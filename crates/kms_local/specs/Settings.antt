@@ -42,7 +42,7 @@ pub record TrustsName (account text : List ℕ) (trust : Trust) : Type 0 where
   pub is : trust ≡ Word caller
   pub named : IsPrincipalOf account text caller
 
--- each value has its form, and stands for what it says; no caller has policies of its own
+-- each value has its form, and stands for what it says; no caller has policies of its own, and the account has no ceiling
 pub record IsSettings (values : RunValues) (settings : Settings) : Type 0 where
   pub account_form : IsAccountNumber values.account
   pub region_form : IsRegion values.region
@@ -52,6 +52,7 @@ pub record IsSettings (values : RunValues) (settings : Settings) : Type 0 where
   pub root : decode_of values.root ≡ Ok settings.facts.root
   pub boot : boot_of values.boot ≡ Some settings.facts.boot
   pub identities : settings.facts.identities ≡ []
+  pub ceiling : settings.facts.ceiling ≡ []
   pub caller : TrustsName values.account values.caller settings.trust
 
 -- the value of this option has not its form, and those before it have

@@ -4,7 +4,7 @@ ghost use Rattle.kms_io.specs.Shelf.{Shelf};
 ghost use Rattle.kms_io.specs.Files.{Asks};
 ghost use Rattle.kms_session.specs.Callers.{IsOfAccount};
 ghost use Rattle.kms_session.specs.declared.trust.Trust.TheVariants.{Signed};
-ghost use Rattle.kms_local.specs.Files.{IsFileOf};
+ghost use Rattle.kms_local.specs.Files.{IsFileOf, HasIdentityPolicies};
 ghost use Rattle.kms_local.specs.Program.{around, Refuses, WithFile};
 
 use crate::files::{Loaded, load_config};
@@ -34,6 +34,7 @@ pub fn obtain_config<F: Files, L: Link>(
 ) -> Result<Config, u8>
     ensures config { IfOk result (λ config. IsFileOf (F.shows files.old) file.now config × Asks (F.shows files.old) file.now (F.shows files.new) × (L.shows link.new ≡ L.shows link.old)) }
     ensures callers { IfOk result (λ config. IsOfAccount config.facts.account (Signed config.credentials)) }
+    ensures policies { IfOk result (λ config. HasIdentityPolicies config.facts) }
     ensures status { IfErr result (λ status. (clock : Option (List ℕ)) → WithFile file.now status (around (L.shows link.old) clock (F.shows files.old)) (around (L.shows link.new) clock (F.shows files.new)) (λ config. ⊥)) }
 {
     match load_config(alloc, files, file) {

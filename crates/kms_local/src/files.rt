@@ -1,7 +1,7 @@
 // The configuration's file.
 ghost use Rattle.kms_session.specs.Callers.{IsOfAccount};
 ghost use Rattle.kms_session.specs.declared.trust.Trust.TheVariants.{Signed};
-ghost use Rattle.kms_local.specs.Files.{IsLoaded, Loads, OnConfig};
+ghost use Rattle.kms_local.specs.Files.{IsLoaded, Loads, OnConfig, HasIdentityPolicies};
 
 use kms_config::{Config, ConfigFault, read_config};
 use kms_io::{FileAnswer, Files};
@@ -27,6 +27,7 @@ pub enum Loaded {
 fn read_bytes(alloc: Global, bytes: &[u8]) -> Loaded
     ensures is { IsLoaded bytes.now result }
     ensures callers { OnConfig result (λ config. IsOfAccount config.facts.account (Signed config.credentials)) }
+    ensures policies { OnConfig result (λ config. HasIdentityPolicies config.facts) }
 {
     match read_config(alloc, bytes) {
         Ok(config) => Loaded::Config(config),
@@ -39,6 +40,7 @@ fn read_bytes(alloc: Global, bytes: &[u8]) -> Loaded
 pub fn load_config<F: Files>(alloc: Global, files: &mut F, name: &str) -> Loaded
     ensures loads { Loads (F.shows files.old) name.now result (F.shows files.new) }
     ensures callers { OnConfig result (λ config. IsOfAccount config.facts.account (Signed config.credentials)) }
+    ensures policies { OnConfig result (λ config. HasIdentityPolicies config.facts) }
 {
     let mut room = Vec::new(alloc);
     match files.read_whole(name, &mut room) {

@@ -4,8 +4,9 @@ ghost use Rattle.kms_io.specs.Shelf.{Shelf};
 ghost use Rattle.published_account.specs.Rules.{Names};
 ghost use Rattle.kms_session.specs.Callers.{IsOfAccount};
 ghost use Rattle.kms_session.specs.declared.trust.Trust.TheVariants.{Signed};
-ghost use Rattle.kms_words.specs.Words.{values_in, shown};
-ghost use Rattle.kms_local.specs.Program.{around, everything, status_of_end, Serving, RunsValues, RunsConfig, Checks, WithFile, Does, Runs};
+ghost use Rattle.kms_words.specs.Words.{values_in, shown, command_of};
+ghost use Rattle.kms_local.specs.Program.{around, everything, one_of, status_of_end, Serving, RunsValues, RunsConfig, Checks, WithFile, Does, Runs};
+ghost use Rattle.kms_local.specs.Complete.{Completes};
 
 use crate::configs::obtain_config;
 use crate::lines::{say_refused, say_usage, tell_checked};
@@ -205,32 +206,8 @@ where
     }
 }
 
-/// Does all that the program does, and gives its status.
-///
-/// The words are one of these, with the options in any order, each `--name value` or `--name=value` and
-/// at most once. Each begins with an empty history.
-///
-/// * `run --account A --region R --root HEX --as ARN`, and perhaps `--boot N` (1): one session is served on
-///   the link, with the first clock. Whoever sends a message counts as the principal of the ARN.
-/// * `run --config FILE`: the same for the file's account. Messages are signed with one of its credentials;
-///   with `--as ARN` whoever sends a message counts as that principal of the account.
-/// * `check --config FILE`: writes how many credentials and how many principals with policies the file
-///   has.
-/// * `serve --config FILE --listen ADDRESS`, and perhaps `--workers W` (1 to 64, else 4) and
-///   `--connections K` (1 to 1,000,000,000, else as many): the door is opened once, at the address, and W
-///   workers take K connections each, one after another, with the first W clocks. Messages are signed. In
-///   the end a line tells how many connections were taken, and the most entries that a pass holds.
-/// * `load --seed N --requests M` (M from 1 to 100,000): the workload of the seed is served in memory, and
-///   five lines sum it up.
-///
-/// Status 2 is for other words (a usage line is written); 3 for a configuration that is refused, or the
-/// first value of `run` that has not its form (a line names the path, or `/` and the option); 4 for
-/// input that ended inside a message; 5 for a read that failed, of the link or of the file, for a door that
-/// couldn't be opened, and where the ear of a worker failed 16 times in a row; 6 for a write that failed; 7
-/// for want of memory (of `run` with nothing taken); and 0 otherwise. Where the line of status 2, 3 or 5
-/// can't be written whole the status stays. The files are asked for the file of `--config` alone, once, and
-/// the door is opened by `serve` alone.
-pub fn kms_main<
+// Does all that the program does, and gives its status.
+fn obey_words<
     W: Threads + Wait + Sync,
     F: Files,
     L: Link,
@@ -262,4 +239,63 @@ where
         }
         Err(NoMemory) => NO_MEMORY,
     }
+}
+
+/// Does all that the program does, and gives its status.
+///
+/// The words are one of these, with the options in any order, each `--name value` or `--name=value` and
+/// at most once. Each begins with an empty history.
+///
+/// * `run --account A --region R --root HEX --as ARN`, and perhaps `--boot N` (1): one session is served on
+///   the link, with the first clock. Whoever sends a message counts as the principal of the ARN.
+/// * `run --config FILE`: the same for the file's account. Messages are signed with one of its credentials;
+///   with `--as ARN` whoever sends a message counts as that principal of the account.
+/// * `check --config FILE`: writes how many credentials and how many principals with policies the file
+///   has.
+/// * `serve --config FILE --listen ADDRESS`, and perhaps `--workers W` (1 to 64, else 4) and
+///   `--connections K` (1 to 1,000,000,000, else as many): the door is opened once, at the address, and W
+///   workers take K connections each, one after another, with the first W clocks. Messages are signed. In
+///   the end a line tells how many connections were taken, and the most entries that a pass holds.
+/// * `load --seed N --requests M` (M from 1 to 100,000): the workload of the seed is served in memory, and
+///   five lines sum it up.
+///
+/// Status 2 is for other words (a usage line is written); 3 for a configuration that is refused, or the
+/// first value of `run` that has not its form (a line names the path, or `/` and the option); 4 for
+/// input that ended inside a message; 5 for a read that failed, of the link or of the file, for a door that
+/// couldn't be opened, and where the ear of a worker failed 16 times in a row; 6 for a write that failed; 7
+/// for want of memory (of `run` with nothing taken); and 0 otherwise. Where the line of status 2, 3 or 5
+/// can't be written whole the status stays. The files are asked for the file of `--config` alone, once, and
+/// the door is opened by `serve` alone.
+///
+/// Where no count of faults rises and the link has only whole messages to give, or some up to one that closes, `run` answers each
+/// of them, once and in order, writes nothing else, and ends with status 0; `check` and `load` write their lines whole, with status
+/// 0. Else the status is 3, for what is refused, or 7, for want of memory (`Completes`).
+pub fn kms_main<
+    W: Threads + Wait + Sync,
+    F: Files,
+    L: Link,
+    C: Clock + Send + Drop,
+    D: Door,
+    G: Gate + Sync,
+>(
+    rt: &W,
+    alloc: Global,
+    words: &[String],
+    files: &mut F,
+    link: &mut L,
+    clocks: &mut Vec<C>,
+    door: &mut D,
+    gate: &G,
+) -> u8
+where
+    <D::Listener as Ear>::Conn: Send,
+    requires { vec_len clocks.old ≡ 64 }
+    ensures runs { Runs (map string_bytes words.now) result
+        (everything (L.shows link.old) (F.shows files.old) (D.shows door.old) (map C.told clocks.old.items))
+        (everything (L.shows link.new) (F.shows files.new) (D.shows door.new) (map C.told clocks.new.items)) }
+    ensures completes { Completes (command_of (map string_bytes words.now)) result
+        (one_of (everything (L.shows link.old) (F.shows files.old) (D.shows door.old) (map C.told clocks.old.items)))
+        (one_of (everything (L.shows link.new) (F.shows files.new) (D.shows door.new) (map C.told clocks.new.items))) }
+{
+    obey_words(rt, alloc, words, files, link, clocks, door, gate)
 }

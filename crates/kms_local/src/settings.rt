@@ -10,7 +10,7 @@ ghost use Rattle.kms_words.specs.Words.{values_in};
 ghost use Rattle.kms_local.specs.Settings.{boot_of, IsSettings, IsConfigured, IsNobody, Names, UnlessMemory};
 
 use account_steps::RealmFacts;
-use authority::IdentityList;
+use authority::{IdentityList, PolicyList};
 use hex::FromHex;
 use kms_config::{Config, if_of_account};
 use kms_names::{AccountNumber, NameFault, NoMemory, Principal, Text, is_region, read_principal};
@@ -118,6 +118,7 @@ pub fn read_settings(alloc: Global, words: &RunWords<'_>) -> Result<Settings, Se
         root,
         boot,
         identities: IdentityList::new(Vec::new(alloc)),
+        ceiling: PolicyList::new(Vec::new(alloc)),
     };
     let trust = Trust::Word(caller);
     Ok(Settings { facts, trust })

@@ -4,3 +4,6 @@ mod Messages
 mod Runs
 mod ReplyLemmas
 pub mod Signers
+pub mod Cutting
+pub mod OneEnds
+pub mod Complete

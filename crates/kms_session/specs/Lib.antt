@@ -6,3 +6,4 @@ pub mod Run
 pub mod Pace
 pub mod Session
 pub mod Replying
+pub mod Complete

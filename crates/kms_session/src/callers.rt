@@ -9,14 +9,16 @@ use crate::trust::Trust;
 use http_front::Cut;
 use kms_json::Refusal;
 use kms_names::Principal;
-use sigv4_check::{AuthFault, check};
+use sigv4_check::{AuthFault, KeptKey, check_with};
 use std::alloc::Global;
 
 /// Who asks by a message of a service of this region, at this answer of the clock: the one who is
 /// trusted, or the one who signed it; else the first reason why nobody signed it. The buffer is the one
-/// in which the message was found.
+/// in which the message was found. The signing key is kept from one message to the next: no answer
+/// depends on what is kept.
 pub fn caller_in(
     alloc: Global,
+    kept: &mut KeptKey,
     trust: &Trust,
     region: &str,
     cut: &Cut,
@@ -28,7 +30,9 @@ pub fn caller_in(
 {
     match trust {
         Trust::Word(caller) => Ok(caller.copy()?),
-        Trust::Signed(list) => check(alloc, cut, buffer, list.as_slice(), region, now),
+        Trust::Signed(list) => {
+            check_with(alloc, kept, cut, buffer, list.as_slice(), region, now)
+        }
     }
 }
 

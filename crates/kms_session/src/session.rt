@@ -14,6 +14,7 @@ ghost use Rattle.kms_session.specs.Callers.{IsOfAccount};
 ghost use Rattle.http_front.specs.Message.{Message, CutsOff};
 ghost use Rattle.kms_session.specs.Replying.{Gives};
 ghost use Rattle.kms_session.specs.Session.{Outside, outside, Responds, RespondsShort, Serves, EndsBy, GoesOn};
+ghost use Rattle.kms_session.specs.Complete.{TellsTaken, IsOneEnd, IsComplete};
 
 use crate::asked::{After, after_of, asked_of};
 use crate::callers::{caller_in, refusal_by};
@@ -26,6 +27,7 @@ use kms_io::{Clock, Gate, Link, Point};
 use kms_json::{Ask, AskBody, JsonFault, Refusal, Reply};
 use kms_names::{NoMemory, Principal, Text};
 use publish_pass::{Answered, Pass, Realm, Service, Unread, answer_with};
+use sigv4_check::KeptKey;
 use std::alloc::Global;
 use std::sync::Wait;
 
@@ -227,6 +229,7 @@ fn answer_caller<W: Wait, R: Realm, G: Gate>(
 // Answers a message.
 fn answer_message<W: Wait, R: Realm, G: Gate>(
     host: &Facilities<'_, W, R, G>,
+    kept: &mut KeptKey,
     pass: &mut Pass<R>,
     cut: &Cut,
     buffer: &[u8],
@@ -239,7 +242,7 @@ fn answer_message<W: Wait, R: Realm, G: Gate>(
     ensures wants { (m : Message) → CutsOff buffer.now cut.now m → OnErr result (Wanting pass.old (plan_of host.now.trust.now pass.old.facts.region (whole m) now) pass.new) }
 {
     let region = region_of(host.service, pass);
-    match caller_in(host.alloc, host.trust, region, cut, buffer, now) {
+    match caller_in(host.alloc, kept, host.trust, region, cut, buffer, now) {
         Ok(caller) => answer_caller(host, pass, caller, cut, buffer, now),
         Err(fault) => match refusal_by(fault) {
             Some(refusal) => answer_refusal(host.alloc, pass, refusal),
@@ -251,6 +254,7 @@ fn answer_message<W: Wait, R: Realm, G: Gate>(
 // Answers a message on the link. It is false where the link failed.
 fn respond<W: Wait, R: Realm, L: Link, G: Gate>(
     host: &Facilities<'_, W, R, G>,
+    kept: &mut KeptKey,
     pass: &mut Pass<R>,
     link: &mut L,
     cut: &Cut,
@@ -265,7 +269,7 @@ fn respond<W: Wait, R: Realm, L: Link, G: Gate>(
         (Responds pass.old (plan_of host.now.trust.now pass.old.facts.region (whole m) now) now closes (L.shows link.old) (L.shows link.new) pass.new)
         (RespondsShort pass.old (plan_of host.now.trust.now pass.old.facts.region (whole m) now) now closes (L.shows link.old) (L.shows link.new) pass.new) }
 {
-    match answer_message(host, pass, cut, buffer, now) {
+    match answer_message(host, kept, pass, cut, buffer, now) {
         Ok(a) => send_reply(link, a.status, a.body.as_slice(), now, a.front, closes),
         Err(NoMemory) => send(link, FIVE_HUNDRED),
     }
@@ -304,6 +308,7 @@ fn closes_after(cut: &Cut, number: u64) -> bool
 // Awaits one message and answers it.
 fn serve_one<W: Wait, R: Realm, L: Link, C: Clock, G: Gate>(
     host: &Facilities<'_, W, R, G>,
+    kept: &mut KeptKey,
     pass: &mut Pass<R>,
     clock: &mut C,
     link: &mut L,
@@ -320,7 +325,7 @@ fn serve_one<W: Wait, R: Realm, L: Link, C: Clock, G: Gate>(
         Awaited::Message(cut) => {
             let closes = closes_after(&cut, number);
             let now = clock.now();
-            if !respond(host, pass, link, &cut, inbox.bytes(), now, closes) {
+            if !respond(host, kept, pass, link, &cut, inbox.bytes(), now, closes) {
                 return Some(SessionEnd::WriteFault);
             }
             host.gate.at(Point::AfterReply);
@@ -346,20 +351,8 @@ fn serve_one<W: Wait, R: Realm, L: Link, C: Clock, G: Gate>(
     }
 }
 
-/// Serves a connection to its end.
-///
-/// What is written is the replies of a run of turns over the messages into which the bytes taken are
-/// cut, in whatever pieces they come, and each end comes by its cause (`EndsBy`). Who asks by a message
-/// is judged before what it asks: under `Trust::Signed` a message that nobody signed for the service's
-/// region, by the clock's answer, is refused (`MissingAuthenticationTokenException`,
-/// `IncompleteSignatureException`, `UnrecognizedClientException`, `RequestExpired`,
-/// `InvalidSignatureException`, in this order), and asks nothing of the account. The condition is that
-/// whoever may be the caller is of the service's account. The clock is asked once for each message
-/// answered. The buffer of 147,456 bytes is reserved before the first byte is
-/// taken, and nothing is read while it holds a whole message. Where the service has one pass, each change finds
-/// the history that the pass held before it, and leaves exactly the pass's own entries. It makes at most 100,000 answers. The gate
-/// is called at `AfterReply` once each reply was written whole.
-pub fn serve_session<W: Wait, R: Realm, L: Link, C: Clock, G: Gate>(
+// Answers one message after another, to the end.
+fn serve_messages<W: Wait, R: Realm, L: Link, C: Clock, G: Gate>(
     rt: &W,
     alloc: Global,
     service: &Service<R>,
@@ -383,11 +376,50 @@ pub fn serve_session<W: Wait, R: Realm, L: Link, C: Clock, G: Gate>(
         trust,
         gate,
     };
+    let mut kept = KeptKey::new();
     for number in 0..MESSAGES {
-        match serve_one(&host, pass, clock, link, &mut inbox, number) {
+        match serve_one(&host, &mut kept, pass, clock, link, &mut inbox, number) {
             Some(end) => return end,
             None => {}
         }
     }
     SessionEnd::Closed
+}
+
+/// Serves a connection to its end.
+///
+/// What is written is the replies of a run of turns over the messages into which the bytes taken are
+/// cut, in whatever pieces they come, and each end comes by its cause (`EndsBy`). Who asks by a message
+/// is judged before what it asks: under `Trust::Signed` a message that nobody signed for the service's
+/// region, by the clock's answer, is refused (`MissingAuthenticationTokenException`,
+/// `IncompleteSignatureException`, `UnrecognizedClientException`, `RequestExpired`,
+/// `InvalidSignatureException`, in this order), and asks nothing of the account. The condition is that
+/// whoever may be the caller is of the service's account. The clock is asked once for each message
+/// answered. The buffer of 147,456 bytes is reserved before the first byte is
+/// taken, and nothing is read while it holds a whole message. The signing key of the last credential and day
+/// is kept for the connection, with that credential's secret (`KeptKey`); no answer depends on it. Where the service has one pass, each change finds
+/// the history that the pass held before it, and leaves exactly the pass's own entries. It makes at most 100,000 answers. The gate
+/// is called at `AfterReply` once each reply was written whole.
+///
+/// Where the link has only whole messages to give, or some up to one that closes, and its counts of faults don't rise, each is
+/// answered once and in order, nothing else is written, and the end is `Ended`, or `Closed` where the last one closes; or it is
+/// `NoMemory` with nothing taken (`IsComplete`). Where the bytes taken are told, no two of `Ended`, `Closed` and `CutOff` can hold,
+/// but of bytes that no head can come of or that have more than 64 headers (`IsOneEnd`).
+pub fn serve_session<W: Wait, R: Realm, L: Link, C: Clock, G: Gate>(
+    rt: &W,
+    alloc: Global,
+    service: &Service<R>,
+    pass: &mut Pass<R>,
+    trust: &Trust,
+    clock: &mut C,
+    link: &mut L,
+    gate: &G,
+) -> SessionEnd
+    requires { IsOfAccount pass.old.facts.account trust.now }
+    ensures ends { EndsBy trust.now result (outside (L.shows link.old) (C.told clock.old) pass.old) (outside (L.shows link.new) (C.told clock.new) pass.new) }
+    ensures complete { IsComplete trust.now result (outside (L.shows link.old) (C.told clock.old) pass.old) (outside (L.shows link.new) (C.told clock.new) pass.new) }
+    ensures one { TellsTaken (outside (L.shows link.old) (C.told clock.old) pass.old) (outside (L.shows link.new) (C.told clock.new) pass.new)
+        → IsOneEnd trust.now (outside (L.shows link.old) (C.told clock.old) pass.old) (outside (L.shows link.new) (C.told clock.new) pass.new) }
+{
+    serve_messages(rt, alloc, service, pass, trust, clock, link, gate)
 }

@@ -15,7 +15,7 @@ root_secret = replicate 32 0
 
 -- the facts of the account: nobody has policies of their own
 abbrev pub load_facts : RealmFacts
-load_facts = record { account = account_number; region = codes "us-east-1"; root = root_secret; boot = 1; identities = [] }
+load_facts = record { account = account_number; region = codes "us-east-1"; root = root_secret; boot = 1; identities = []; ceiling = [] }
 
 -- each message is the account's root's
 abbrev pub load_trust : Trust

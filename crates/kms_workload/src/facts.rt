@@ -3,7 +3,7 @@ ghost use Rattle.std.specs.Prelude.{◌≡◌, IfOk};
 ghost use Rattle.kms_workload.specs.Facts.{load_facts, load_trust, key_at};
 
 use account_steps::{RealmFacts, key_id_of};
-use authority::IdentityList;
+use authority::{IdentityList, PolicyList};
 use kms_names::{AccountNumber, KeyId, NoMemory, Principal, Text};
 use kms_session::Trust;
 use std::alloc::Global;
@@ -30,6 +30,7 @@ pub fn facts(alloc: Global) -> Result<RealmFacts, NoMemory>
         root: ROOT,
         boot: BOOT,
         identities: IdentityList::new(Vec::new(alloc)),
+        ceiling: PolicyList::new(Vec::new(alloc)),
     })
 }
 

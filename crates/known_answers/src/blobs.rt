@@ -2,8 +2,8 @@
 
 use crate::cases::Case;
 use crate::contexts::read_context;
-use blob_format::{Blob, read_blob, write_blob};
-use crypto_ops::{OpenFault, material, open_blob, seal_blob};
+use blob_format::{Blob, read_blob, write_blob, write_blob_two};
+use crypto_ops::{OpenFault, blob_key, commitment, material, open_blob, seal_blob, seal_blob_one};
 use kms_names::KeyId;
 
 /// How many bytes a text has at most.
@@ -16,45 +16,65 @@ pub fn blobs(case: &mut Case<'_>) {
             Some(blob) => put_blob(case, &blob),
             None => case.put("none"),
         },
-        "write_blob" => write(case),
+        "write_blob" => write(case, false),
+        "write_blob_two" => write(case, true),
         "material" => {
             let root = case.array();
             let key = KeyId::new(case.array());
             let version = case.number();
             case.put_bytes(&material(&root, &key, version));
         }
-        "seal_blob" => seal(case),
+        "blob_key" => {
+            let material = case.array();
+            let iv = case.array();
+            case.put_bytes(&blob_key(&material, &iv));
+        }
+        "commitment" => {
+            let key = case.array();
+            case.put_bytes(&commitment(&key));
+        }
+        "seal_blob" => seal(case, true),
+        "seal_blob_one" => seal(case, false),
         "open_blob" => open(case),
         _ => case.lose(),
     }
 }
 
-/// A key, a version, an initialization vector, the ciphertext's places and the tag.
+/// A form, a key, a version, an initialization vector, a commitment, the ciphertext's places and the tag.
 fn put_blob(case: &mut Case<'_>, blob: &Blob) {
+    case.put_number(u64::from(blob.form));
     case.put_bytes(blob.key.as_bytes());
     case.put_number(u64::from(blob.version));
     case.put_bytes(&blob.iv);
+    case.put_bytes(&blob.commitment);
     case.put_number(blob.text_from as u64);
     case.put_number(blob.text_to as u64);
     case.put_bytes(&blob.tag);
 }
 
-fn write(case: &mut Case<'_>) {
+/// Writes a blob, of form 2 or of form 1.
+fn write(case: &mut Case<'_>, two: bool) {
     let key = KeyId::new(case.array());
     let version = case.number();
     let iv = case.array();
+    let commitment = if two { case.array() } else { [0; 32] };
     let text = case.bytes();
     let tag = case.array();
     if version < 1 || text.is_empty() || text.len() > MAX_TEXT {
         case.lose();
     } else {
-        let blob = write_blob(case.alloc, &key, version, &iv, &text, &tag);
+        let blob = if two {
+            write_blob_two(case.alloc, &key, version, &iv, &commitment, &text, &tag)
+        } else {
+            write_blob(case.alloc, &key, version, &iv, &text, &tag)
+        };
         let blob = case.kept_bytes(blob);
         case.put_bytes(blob.as_slice());
     }
 }
 
-fn seal(case: &mut Case<'_>) {
+/// Seals a text into a blob, of form 2 or of form 1.
+fn seal(case: &mut Case<'_>, two: bool) {
     let root = case.array();
     let key = KeyId::new(case.array());
     let version = case.number();
@@ -64,7 +84,11 @@ fn seal(case: &mut Case<'_>) {
     if version < 1 || text.is_empty() || text.len() > MAX_TEXT {
         case.lose();
     } else if let Some(context) = context {
-        let blob = seal_blob(case.alloc, &root, &key, version, &iv, &context, &text);
+        let blob = if two {
+            seal_blob(case.alloc, &root, &key, version, &iv, &context, &text)
+        } else {
+            seal_blob_one(case.alloc, &root, &key, version, &iv, &context, &text)
+        };
         let blob = case.kept_bytes(blob);
         case.put_bytes(blob.as_slice());
     }

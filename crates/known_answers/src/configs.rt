@@ -36,8 +36,8 @@ fn answer(case: &mut Case<'_>, bytes: &[u8]) {
     }
 }
 
-// The facts; the credentials, each as its id, its secret and its principal's ARN; and the principals with policies,
-// each as its ARN and how many policies it has.
+// The facts; the credentials, each as its id, its secret and its principal's ARN; the principals with policies, each as
+// its ARN and how many policies it has; and of how many documents the ceiling is, if there is one.
 fn put_config(case: &mut Case<'_>, config: &Config) {
     let facts = &config.facts;
     case.put("ok");
@@ -63,5 +63,10 @@ fn put_config(case: &mut Case<'_>, config: &Config) {
     }
     if facts.identities.as_slice().is_empty() {
         case.put_after("; ", "-");
+    }
+    let documents = facts.ceiling.as_slice().len();
+    if documents != 0 {
+        case.put_after("; ", "ceiling");
+        case.put_number(documents as u64);
     }
 }

@@ -35,11 +35,12 @@ fn of_blobs() {
     enc_context::encodings_tell_contexts();
     enc_context::one_order();
     crypto_ops::opens_by_its_tag();
+    crypto_ops::opens_under_one_key();
     crypto_ops::sealed_is_a_blob();
     crypto_ops::sealed_opens_again();
 }
 
-/// The laws of conditions, of policy documents and of verdicts.
+/// The laws of conditions, of policy documents, of verdicts and of ceilings.
 fn of_policies() {
     cond_ops::moments_are_one();
     cond_ops::numbers_are_one();
@@ -48,6 +49,7 @@ fn of_policies() {
     policy_doc::first_fault_has_place();
     policy_doc::first_fault_in_byte_order();
     policy_doc::policy_of_reads();
+    policy_eval::ceiling_of_is_under();
     policy_eval::verdict_of_is_the_verdict();
     policy_eval::verdicts_are_one();
 }

@@ -2,8 +2,8 @@
 
 use crate::cases::Case;
 use http_front::{Step, next_message};
-use kms_names::{read_principal, write_principal};
-use sigv4_check::{AuthFault, Credential, CredentialList, check, signing_key};
+use kms_names::{Principal, read_principal, write_principal};
+use sigv4_check::{AuthFault, Credential, CredentialList, KeptKey, check, check_with, signing_key};
 
 /// What a call of signatures answers.
 pub fn signatures(case: &mut Case<'_>) {
@@ -17,12 +17,20 @@ pub fn signatures(case: &mut Case<'_>) {
             let key = case.kept_or(key, [0; 32]);
             case.put_bytes(&key);
         }
-        "check" => signer(case),
+        "check" => signer(case, None),
+        "check_with" => {
+            let messages: u8 = case.number();
+            let mut kept = KeptKey::new();
+            for _ in 0..messages {
+                signer(case, Some(&mut kept));
+            }
+        }
         _ => case.lose(),
     }
 }
 
-fn signer(case: &mut Case<'_>) {
+/// Who signed the message of the next columns, where this key is kept, if any is.
+fn signer(case: &mut Case<'_>, kept: Option<&mut KeptKey>) {
     let message = read_message(case);
     let credentials = read_credentials(case);
     let region = case.text();
@@ -30,11 +38,21 @@ fn signer(case: &mut Case<'_>) {
     let buffer = message.as_bytes();
     let list = credentials.as_slice();
     match next_message(buffer) {
-        Step::Message(cut) => match check(case.alloc, &cut, buffer, list, region, clock) {
-            Ok(signer) => case.put_made(" ", write_principal(case.alloc, &signer)),
-            Err(why) => put_fault(case, why),
-        },
+        Step::Message(cut) => {
+            let signer = match kept {
+                Some(kept) => check_with(case.alloc, kept, &cut, buffer, list, region, clock),
+                None => check(case.alloc, &cut, buffer, list, region, clock),
+            };
+            put_signer(case, signer);
+        }
         _ => case.lose(),
+    }
+}
+
+fn put_signer(case: &mut Case<'_>, signer: Result<Principal, AuthFault>) {
+    match signer {
+        Ok(signer) => case.put_made(" ", write_principal(case.alloc, &signer)),
+        Err(why) => put_fault(case, why),
     }
 }
 

@@ -35,7 +35,10 @@ pub fn hmac256(key: &[u8], message: &[u8]) -> [u8; 32]
 
 /// An HMAC in the making, of a message that is given in parts (FIPS 198-1, section 4).
 ///
-/// It keeps two running hashes and none of the parts.
+/// It keeps two running hashes and none of the parts. One of no parts so far may be kept beside its
+/// key and copied for each message under that key (FIPS 198-1, section 6): a copy hashes nothing,
+/// where `new` hashes two blocks. Who holds such a one can make the key's HMACs, as who holds the
+/// key.
 #[derive(Drop)]
 pub struct Mac {
     inner: Sha256,
@@ -52,6 +55,16 @@ impl Mac {
         Mac {
             inner: hasher_after(&xor_each(block, INNER_PAD)),
             outer: hasher_after(&xor_each(block, OUTER_PAD)),
+        }
+    }
+
+    /// The same HMAC once more, under the same key and of the same parts so far.
+    pub fn copy(&self) -> Mac
+        ensures { result ≡ self.now }
+    {
+        Mac {
+            inner: copy_of(&self.inner),
+            outer: copy_of(&self.outer),
         }
     }
 
@@ -74,6 +87,16 @@ impl Mac {
         let digest: [u8; 32] = inner.finalize();
         outer.update(digest.as_slice());
         outer.finalize()
+    }
+}
+
+/// A hash in the same state. Its `clone` takes no memory and never fails.
+fn copy_of(hasher: &Sha256) -> Sha256
+    ensures { result ≡ hasher.now }
+{
+    match hasher.clone() {
+        Ok(copy) => copy,
+        Err(_) => unreachable!(),
     }
 }
 

@@ -11,7 +11,7 @@ ghost use Rattle.std.specs.Prelude.{◌≡◌, ◌<◌, ◌≤◌, IfOk};
 ghost use Rattle.published_account.specs.Rules.{Names};
 
 use account_steps::RealmFacts;
-use authority::IdentityList;
+use authority::{IdentityList, PolicyList};
 use kms_names::{AccountNumber, NoMemory, Text};
 use publish_pass::{Opening, Realm, open_service};
 use requests::{Failure, Stage};
@@ -36,6 +36,7 @@ fn facts(alloc: Global) -> Result<Option<RealmFacts>, NoMemory> {
         root: [0; 32],
         boot: 1,
         identities: IdentityList::new(Vec::new(alloc)),
+        ceiling: PolicyList::new(Vec::new(alloc)),
     }))
 }
 

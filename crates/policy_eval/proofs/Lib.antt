@@ -3,3 +3,5 @@ pub mod MatchingFacts
 pub mod GroupFacts
 pub mod OrderFacts
 pub mod VerdictFacts
+pub mod CeilingFacts
+pub mod MaskFacts

@@ -17,7 +17,7 @@ use Rattle.policy_eval.specs.Laws.{HasOneVerdictByQuestion}
 use Rattle.policy_eval.specs.VerdictOf.{verdict_of, verdict_of_lem}
 
 module _ {X : Type 0} (P Q : X → Type 0) where
-  any_so : (xs : List X) → ((x : X) (k : ℕ) → k < length xs → get_or xs k x ≡ x → P x → Q x) → Any P xs → Any Q xs
+  pub any_so : (xs : List X) → ((x : X) (k : ℕ) → k < length xs → get_or xs k x ≡ x → P x → Q x) → Any P xs → Any Q xs
   any_so xs so (k, x, lt, at, p) = (k, x, lt, at, so x k lt at p)
 
 -- a statement without conditions
@@ -50,7 +50,7 @@ module _ (s : Statement) (none : s.conditions ≡ []) (a b : RequestFacts) (same
   unfolding AllowsAccount
   allows_account_too (allow, names) = (allow_too allow, subst (NamesAccount s.principals) same.0 names)
 
-turned : (a b : RequestFacts) → AskTheSame a b → AskTheSame b a
+pub turned : (a b : RequestFacts) → AskTheSame a b → AskTheSame b a
 turned a b same = (sym same.0, sym same.1, sym same.2)
 
 -- statements without conditions
@@ -64,10 +64,10 @@ module _ (ss : List Statement) (none : (s : Statement) (k : ℕ) → k < length 
   accounts_too : (a b : RequestFacts) → AskTheSame a b → SomeAllowsAccount ss a → SomeAllowsAccount ss b
   accounts_too a b same = any_so (λ s. AllowsAccount s a) (λ s. AllowsAccount s b) ss (λ s k lt at. allows_account_too s (none s k lt at) a b same)
 
-  some_deny_too : (a b : RequestFacts) → AskTheSame a b → Any (λ s. IsDeny s a) ss → Any (λ s. IsDeny s b) ss
+  pub some_deny_too : (a b : RequestFacts) → AskTheSame a b → Any (λ s. IsDeny s a) ss → Any (λ s. IsDeny s b) ss
   some_deny_too a b same = any_so (λ s. IsDeny s a) (λ s. IsDeny s b) ss (λ s k lt at. deny_too s (none s k lt at) a b same)
 
-  some_allow_too : (a b : RequestFacts) → AskTheSame a b → Any (λ s. IsAllow s a) ss → Any (λ s. IsAllow s b) ss
+  pub some_allow_too : (a b : RequestFacts) → AskTheSame a b → Any (λ s. IsAllow s a) ss → Any (λ s. IsAllow s b) ss
   some_allow_too a b same = any_so (λ s. IsAllow s a) (λ s. IsAllow s b) ss (λ s k lt at. allow_too s (none s k lt at) a b same)
 
   module _ (a b : RequestFacts) (same : AskTheSame a b) where
@@ -87,7 +87,7 @@ module _ (ss : List Statement) (none : (s : Statement) (k : ℕ) → k < length 
     verdict_too Key verdict h = key_too verdict h
     verdict_too Identity verdict h = identity_too verdict h
 
-no_conditions : (s : Statement) → ¬ (s.conditions ≢ []) → s.conditions ≡ []
+pub no_conditions : (s : Statement) → ¬ (s.conditions ≢ []) → s.conditions ≡ []
 no_conditions s h = empty s.conditions h
   where
     empty : {X : Type 0} (xs : List X) → ¬ (xs ≢ []) → xs ≡ []

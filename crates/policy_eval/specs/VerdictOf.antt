@@ -63,11 +63,11 @@ decided_account names caller = decided_contains same_named names (One (root_of c
 
 -- ---- statements of an effect
 
-decided_allow : (request : RequestFacts) (s : Statement) → Decided (IsAllow s request)
+pub decided_allow : (request : RequestFacts) (s : Statement) → Decided (IsAllow s request)
 unfolding IsAllow
 decided_allow request s = decided_both (decided_by_test _ (booleans_Decides s.allow true)) (decided_matches s request)
 
-decided_deny : (request : RequestFacts) (s : Statement) → Decided (IsDeny s request)
+pub decided_deny : (request : RequestFacts) (s : Statement) → Decided (IsDeny s request)
 unfolding IsDeny
 decided_deny request s = decided_both (decided_by_test _ (booleans_Decides s.allow false)) (decided_matches s request)
 

@@ -89,13 +89,15 @@ impl Compiled {
         self.allows.hits(Naming::Account, facts)
     }
 
-    fn some_denies_anyone(&self, facts: &RequestFacts) -> bool
+    // Whether some Deny statement matches, whomever it names.
+    pub(crate) fn some_denies_anyone(&self, facts: &RequestFacts) -> bool
         ensures { IsTrue result ↔ Any (λ s. IsDeny s facts.now) self.now.statements }
     {
         self.denies.hits(Naming::Anyone, facts)
     }
 
-    fn some_allows_anyone(&self, facts: &RequestFacts) -> bool
+    // Whether some Allow statement matches, whomever it names.
+    pub(crate) fn some_allows_anyone(&self, facts: &RequestFacts) -> bool
         ensures { IsTrue result ↔ Any (λ s. IsAllow s facts.now) self.now.statements }
     {
         self.allows.hits(Naming::Anyone, facts)

@@ -2,16 +2,20 @@
 //! policies").
 #![tactic(auto)]
 
+mod ceilings;
 mod compiled;
 mod elements;
 mod groups;
 mod laws;
+mod masks;
 mod naming;
 mod statements;
 mod threads;
 mod verdicts;
 
+pub use ceilings::{CeilingVerdict, ceiling, ceiling_asks_facts};
 pub use compiled::Compiled;
-pub use laws::{verdict_of_is_the_verdict, verdicts_are_one};
+pub use laws::{ceiling_of_is_under, verdict_of_is_the_verdict, verdicts_are_one};
+pub use masks::action_mask;
 pub use threads::compiled_crosses_threads;
 pub use verdicts::Verdict;

@@ -94,7 +94,8 @@ fn answer_at<R: Realm>(
     Some(Found { answered, prefix })
 }
 
-// Enters once, answers and leaves. It is None where the account was not entered, or is older than what is known.
+// Enters once, shares what is shown, leaves, and answers at that: a change waits for who is inside, and so for no answer
+// that takes long. It is None where the account was not entered or could not be shared, or is older than what is known.
 fn look<R: Realm>(
     window: Window,
     alloc: Global,
@@ -114,8 +115,12 @@ fn look<R: Realm>(
     match window.enter_as::<Sees>() {
         Err(window) => (window, None),
         Ok(reading) => {
-            let found = answer_at(reading.get(), alloc, known, ask, draws);
-            (reading.leave(), found)
+            let shown = reading.get().share();
+            let window = reading.leave();
+            match shown {
+                Ok(shown) => (window, answer_at(&shown, alloc, known, ask, draws)),
+                Err(_) => (window, None),
+            }
         }
     }
 }

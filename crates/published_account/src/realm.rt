@@ -22,7 +22,7 @@ impl Realm for Brand {
 
     ghost book = { record { number = 0; log_name = 0; cells_name = 0 } };
 
-    ghost facts = { record { account = []; region = []; root = []; boot = 0; identities = [] } };
+    ghost facts = { record { account = []; region = []; root = []; boot = 0; identities = []; ceiling = [] } };
 
     ghost passes = { 0 };
 }

@@ -10,7 +10,7 @@ pub const LOOK: &str =
 
 /// A text that is sealed under the first key is opened.
 pub const OPEN: &str =
-    "POST / HTTP/1.1\r\nContent-Type: application/x-amz-json-1.1\r\nHost: localhost\r\nX-Amz-Date: 20231114T221320Z\r\nX-Amz-Target: TrentService.Decrypt\r\nContent-Length: 93\r\nAuthorization: AWS4-HMAC-SHA256 Credential=AKIDEXAMPLE/20231114/us-east-1/kms/aws4_request, SignedHeaders=content-type;host;x-amz-date;x-amz-target, Signature=6f7e1f08cb404ebd661fa9cf48dd375f661ecf73cdd119882e353cf6084fdcf4\r\n\r\n{\"CiphertextBlob\":\"ARAoRzMFfCglrrQAAAAAAAAAAAABAAAAAQAJAAAAAAAA45Pl4qoeQzyvVtogU+NkLuDMWjtQ\"}";
+    "POST / HTTP/1.1\r\nContent-Type: application/x-amz-json-1.1\r\nHost: localhost\r\nX-Amz-Date: 20231114T221320Z\r\nX-Amz-Target: TrentService.Decrypt\r\nContent-Length: 137\r\nAuthorization: AWS4-HMAC-SHA256 Credential=AKIDEXAMPLE/20231114/us-east-1/kms/aws4_request, SignedHeaders=content-type;host;x-amz-date;x-amz-target, Signature=66f1a7686c2fef30d69620faf06fc0cc2a33d3fa7fc8b38def21bdebc4d439cf\r\n\r\n{\"CiphertextBlob\":\"AhAoRzMFfCglrrQAAAAAAAAAAAABAAAAAQAJAAAAAAAAuIv/bHGBVtzsYI3a0H0dAEAb2wPiqPPQvVEXJuZfh40WSisLuqy7NEwUBQXaRfx9kM1b4b0=\"}";
 
 /// The first key is to be rotated each 90 days.
 pub const TURN: &str =

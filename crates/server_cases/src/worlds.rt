@@ -3,7 +3,7 @@ ghost use Rattle.std.specs.Prelude.{◌≡◌, IfOk, vec_len};
 ghost use Rattle.kms_session.specs.Callers.{IsOfAccount};
 
 use account_steps::RealmFacts;
-use authority::IdentityList;
+use authority::{IdentityList, PolicyList};
 use kms_io::{Door, Ear, Gate, MemoryClock};
 use kms_names::{AccountNumber, NoMemory, Principal, Text};
 use kms_server::{Order, Outcome, serve};
@@ -89,6 +89,7 @@ impl<'a, W: Wait> World<'a, W> {
             root: [0; 32],
             boot: 1,
             identities: IdentityList::new(Vec::new(alloc)),
+            ceiling: PolicyList::new(Vec::new(alloc)),
         };
         Ok(World { rt, alloc, facts })
     }

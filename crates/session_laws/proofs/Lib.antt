@@ -1,5 +1,3 @@
 mod OneCut
-mod OneEnd
-mod Complete
 mod LawfulRuns
 mod GrowingRuns

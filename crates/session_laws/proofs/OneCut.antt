@@ -1,25 +1,12 @@
 -- A stream is cut in one way.
-use Rattle.std.proofs.Common.{◌≡◌, ◌⊎◌, inl, inr, ℕ, List, [], ◌∷◌, ◌++◌, length, Bool, false, refl, sym, ap, subst, ◌∙◌, length-append, arith}
+use Rattle.std.proofs.Common.{◌≡◌, ◌⊎◌, inl, inr, ℕ, List, [], ◌∷◌, ◌++◌, length, Bool, refl, sym, ap, subst, ◌∙◌, length-append, arith}
 use Rattle.httparse.specs.Grammar.{NeverHasRequest}
 use Rattle.http_front.specs.declared.judge.HttpFault.{HttpFault}
-use Rattle.http_front.specs.Message.{Message, IsMessage, IsRefused}
+use Rattle.http_front.specs.Message.{Message, IsRefused}
 use Rattle.http_front.proofs.Answering.{same_message, one_answer_lem}
 use Rattle.kms_session.specs.Run.{Item, whole, fault, Cuts, nothing, message, no_message}
+use Rattle.kms_session.proofs.Cutting.{not_both, one_cut_open}
 use Rattle.session_laws.specs.Laws.{AreAlike, same_items, two_names}
-
--- bytes that begin with a message, and are the same as others, are not refused
-pub not_both : {m : Message} {text rest last : List ℕ} {why : HttpFault} (more : List ℕ) → IsMessage m text → rest ≡ text ++ more → last ≡ rest → IsRefused last why → ⊥
-not_both {m} {text} {rest} {last} {why} more is split same refused = (one_answer_lem last).not_message_and_refused why (m, text, more, is, same ∙ split) refused
-
--- two cuts into messages
-pub one_cut_open : {stream : List ℕ} {items others : List Item} {rest last : List ℕ} → Cuts stream false items rest → Cuts stream false others last → length items ≡ length others → (items ≡ others) × (rest ≡ last)
-one_cut_open nothing nothing h = (refl, refl)
-one_cut_open nothing (message {items} c s is cl) h = absurd (omega (arith, simp length-append at h))
-one_cut_open (message {items} c s is cl) nothing h = absurd (omega (arith, simp length-append at h))
-one_cut_open (message {items} {rest} {text} {more} {m} c s is cl) (message {items = items'} {rest = rest'} {text = text'} {more = more'} {m = m'} c' s' is' cl') h =
-    let both = one_cut_open c c' (omega (arith, simp length-append at h)) in
-    let same = same_message m m' text text' more more' is is' (sym s ∙ both.1 ∙ s') in
-    (ap (λ (front : List Item). front ++ whole m ∷ []) both.0 ∙ ap (λ (n : Message). items' ++ whole n ∷ []) same.0, same.2)
 
 names : (rest : List ℕ) (front items : List Item) (why other : HttpFault) → items ≡ front → (why ≡ other) ⊎ NeverHasRequest rest → AreAlike rest (items ++ fault why ∷ []) (front ++ fault other ∷ [])
 names rest front items why other e (inl same) = same_items (ap (λ (all : List Item). all ++ fault why ∷ []) e ∙ ap (λ (w : HttpFault). front ++ fault w ∷ []) same)

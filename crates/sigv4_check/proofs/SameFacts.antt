@@ -1,8 +1,10 @@
 -- Equal bytes, one after another.
-use Rattle.std.proofs.Common.{◌≡◌, ◌≢◌, ℕ, zero, suc, ◌+◌, ◌<◌, ◌≤◌, List, [], ◌∷◌, length, take, get_or, Bool, true, false, ◌&&◌, eqb, refl, sym, ap, ap₂, ◌∙◌, arith}
-use Rattle.std.proofs.lemmas.Bool.{eqb-true}
+use Rattle.std.proofs.Common.{◌≡◌, ◌≢◌, ℕ, zero, suc, ◌+◌, ◌<◌, ◌≤◌, List, [], ◌∷◌, length, take, get_or, Bool, true, false, ◌&&◌, eqb, bit_or, bit_xor, refl, sym, ap, ap₂, ◌∙◌, arith}
+use Rattle.std.proofs.lemmas.Bool.{eqb-true, eqb-false}
 use Rattle.std.proofs.lemmas.Bool.Decides.{nat_tests}
 use Rattle.std.proofs.lemmas.List.{take_all}
+use Rattle.std.proofs.lemmas.Nat.{le_or_l, le_or_r}
+use Rattle.std.specs.Int.Bits.{or_zero_l, xor_assoc, xor_self, xor_zero_l, xor_zero_r}
 use Rattle.std.specs.Str.{bytes_eq}
 
 and_true : (b : Bool) → b ≡ (b && true)
@@ -31,6 +33,29 @@ pub same_more : (a b : List ℕ) (i : ℕ) → i < length a → i < length b
 same_more a b i h k =
     let e : suc i ≡ i + 1 = omega arith in
     same_suc a b i h k ∙ ap (λ (n : ℕ). bytes_eq (take n a) (take n b)) e
+
+-- ---- differences that are joined
+
+same_of_xor : (x y : ℕ) → bit_xor x y ≡ 0 → x ≡ y
+same_of_xor x y e = sym (xor_zero_r x) ∙ ap (bit_xor x) (sym (xor_self y)) ∙ sym (xor_assoc x y y) ∙ ap (λ (d : ℕ). bit_xor d y) e ∙ xor_zero_l y
+
+xor_of_same : (x y : ℕ) → x ≡ y → bit_xor x y ≡ 0
+xor_of_same x y e = ap (λ (z : ℕ). bit_xor z y) e ∙ xor_self y
+
+or_of_zeros : (d e : ℕ) → d ≡ 0 → e ≡ 0 → bit_or d e ≡ 0
+or_of_zeros d e p q = ap₂ bit_or p q ∙ or_zero_l 0
+
+no_difference_by : (d x y : ℕ) (s t u : Bool) → eqb d 0 ≡ s → eqb x y ≡ t → eqb (bit_or d (bit_xor x y)) 0 ≡ u → u ≡ (s && t)
+no_difference_by d x y true true true p q r = refl
+no_difference_by d x y true true false p q r = absurd (eqb-false (bit_or d (bit_xor x y)) 0 r (or_of_zeros d (bit_xor x y) (eqb-true d 0 p) (xor_of_same x y (eqb-true x y q))))
+no_difference_by d x y true false true p q r = absurd (eqb-false x y q (same_of_xor x y (omega (arith, le_or_r d (bit_xor x y), eqb-true (bit_or d (bit_xor x y)) 0 r))))
+no_difference_by d x y true false false p q r = refl
+no_difference_by d x y false t true p q r = absurd (eqb-false d 0 p (omega (arith, le_or_l d (bit_xor x y), eqb-true (bit_or d (bit_xor x y)) 0 r)))
+no_difference_by d x y false t false p q r = refl
+
+-- no difference so far, and none between two more
+pub no_difference : (d x y : ℕ) → eqb (bit_or d (bit_xor x y)) 0 ≡ (eqb d 0 && eqb x y)
+no_difference d x y = no_difference_by d x y (eqb d 0) (eqb x y) (eqb (bit_or d (bit_xor x y)) 0) refl refl refl
 
 pub same_all : (a b : List ℕ) (n : ℕ) → length a ≤ n → length b ≤ n → bytes_eq (take n a) (take n b) ≡ bytes_eq a b
 same_all a b n h k = ap (λ (x : List ℕ). bytes_eq x (take n b)) (take_all n a h) ∙ ap (bytes_eq a) (take_all n b k)

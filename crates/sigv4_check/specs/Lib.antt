@@ -6,5 +6,6 @@ pub mod Dates
 pub mod SignedNames
 pub mod Canonical
 pub mod Signing
+pub mod Kept
 pub mod Credentials
 pub mod Signer

@@ -7,6 +7,7 @@ mod credentials;
 mod dates;
 mod faults;
 mod fields;
+mod kept;
 mod parts;
 mod signed_names;
 mod signers;
@@ -15,6 +16,7 @@ mod threads;
 
 pub use credentials::{Credential, CredentialList, are_distinct};
 pub use faults::AuthFault;
-pub use signers::check;
+pub use kept::KeptKey;
+pub use signers::{check, check_with};
 pub use signing::signing_key;
 pub use threads::credentials_cross_threads;

@@ -16,9 +16,10 @@ use crate::credentials::{Credential, find};
 use crate::dates::second_of;
 use crate::faults::AuthFault;
 use crate::fields::value_at;
+use crate::kept::KeptKey;
 use crate::parts::front;
 use crate::signed_names::are_signed_names;
-use crate::signing::{are_digits, signature, signing_key_of};
+use crate::signing::{are_digits, signature};
 use http_front::Cut;
 use kms_names::{NoMemory, Principal};
 use std::alloc::Global;
@@ -99,6 +100,7 @@ fn is_far(second: u64, clock: u64) -> bool
 #[tactic(auto, unfolding(crate::specs::Signer::signature_under))]
 fn is_signed_by(
     alloc: Global,
+    kept: &mut KeptKey,
     secret: &str,
     claim: &Claim,
     cut: &Cut,
@@ -108,9 +110,9 @@ fn is_signed_by(
     ensures { IfOk result (λ is. is ≡ bytes_eq (signature_under secret.now (shown_claim claim.now) (fields_in buffer.now cut.now) (body_in buffer.now cut.now)) claim.now.claims.signature.now) }
 {
     let claims = &claim.claims;
-    let key = signing_key_of(alloc, secret, claims.date, claims.region, b"kms")?;
+    let mac = kept.mac_under(alloc, secret, claims.date, claims.region)?;
     let hash = canonical_hash(cut, buffer, claims.names);
-    let digits = signature(&key, claim.stamp, claims.date, claims.region, &hash);
+    let digits = signature(mac, claim.stamp, claims.date, claims.region, &hash);
     Ok(are_digits(&digits, claims.signature))
 }
 
@@ -118,6 +120,7 @@ fn is_signed_by(
 #[tactic(auto, unfolding(crate::specs::Signer::signer_in))]
 fn signer(
     alloc: Global,
+    kept: &mut KeptKey,
     cut: &Cut,
     buffer: &[u8],
     creds: &[Credential],
@@ -138,7 +141,7 @@ fn signer(
     if is_far(claim.second, clock) {
         return Err(AuthFault::Expired);
     }
-    if !is_signed_by(alloc, credential.secret.as_str(), &claim, cut, buffer)? {
+    if !is_signed_by(alloc, kept, credential.secret.as_str(), &claim, cut, buffer)? {
         return Err(AuthFault::BadSignature);
     }
     Ok(credential.principal.copy()?)
@@ -150,8 +153,27 @@ fn signer(
 /// of `AuthFault`. `moment` is the clock's answer, in seconds since 1970, and the buffer is the one
 /// in which the message was found.
 ///
-/// It takes memory for the first key and for the answer alone. The body is hashed once, the canonical
-/// request once, part by part, and there are five HMACs.
+/// The signing key is taken from `kept` where it is the one that is held there, and is held there
+/// after; the answer is the same whatever is held. Then it takes memory for the answer alone, and
+/// makes one HMAC; else it takes memory for the first key and for what is kept too, and makes five.
+/// The body is hashed once, the canonical request once, part by part.
+pub fn check_with(
+    alloc: Global,
+    kept: &mut KeptKey,
+    cut: &Cut,
+    buffer: &[u8],
+    creds: &[Credential],
+    region: &str,
+    moment: u64,
+) -> Result<Principal, AuthFault>
+    requires found { (m : Message) × CutsOff buffer.now cut.now m }
+    requires distinct { AreDistinct creds.now }
+    ensures { (m : Message) → CutsOff buffer.now cut.now m → IsOrNoMemory (signer_of m creds.now region.now moment) result }
+{
+    signer(alloc, kept, cut, buffer, creds, region, moment)
+}
+
+/// The same of one message alone: no key is kept from it or for it.
 pub fn check(
     alloc: Global,
     cut: &Cut,
@@ -164,5 +186,6 @@ pub fn check(
     requires distinct { AreDistinct creds.now }
     ensures { (m : Message) → CutsOff buffer.now cut.now m → IsOrNoMemory (signer_of m creds.now region.now moment) result }
 {
-    signer(alloc, cut, buffer, creds, region, moment)
+    let mut kept = KeptKey::new();
+    check_with(alloc, &mut kept, cut, buffer, creds, region, moment)
 }

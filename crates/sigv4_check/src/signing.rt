@@ -1,7 +1,8 @@
 // The string to sign, the signing key and the signature.
-ghost use Rattle.std.specs.Prelude.{◌≡◌, ◌++◌, ℕ, List, codes, IfOk, string_bytes};
+ghost use Rattle.std.specs.Prelude.{◌≡◌, ◌++◌, [], ℕ, List, codes, IfOk, string_bytes};
 ghost use Rattle.std.specs.Str.{bytes_eq};
 ghost use Rattle.sha2.specs.Sha256.{sha256};
+ghost use Rattle.mac_sha.specs.Running.{IsMac};
 ghost use Rattle.sigv4_check.specs.Signing.{signing_key_of, string_to_sign, signature_of};
 
 use crate::canonical::hex_of;
@@ -61,18 +62,18 @@ pub fn signing_key_of(
     Ok(hmac256(&subject, b"aws4_request"))
 }
 
-/// The signature of the string to sign, from the hash of the canonical request.
+/// The signature of the string to sign, from an HMAC of no parts so far under the signing key and
+/// the hash of the canonical request.
 #[tactic(auto, unfolding(crate::specs::Signing::string_to_sign, crate::specs::Signing::signature_of))]
 pub fn signature(
-    key: &[u8; 32],
+    mut mac: Mac,
     stamp: &[u8],
     date: &[u8],
     region: &[u8],
     hash: &[u8; 32],
 ) -> [u8; 64]
-    ensures { (canonical : List ℕ) → hash.now ≡ sha256 canonical → result ≡ signature_of key.now (string_to_sign stamp.now date.now region.now canonical) }
+    ensures { (key canonical : List ℕ) → IsMac mac key [] → hash.now ≡ sha256 canonical → result ≡ signature_of key (string_to_sign stamp.now date.now region.now canonical) }
 {
-    let mut mac = Mac::new(key);
     mac.add(b"AWS4-HMAC-SHA256\n");
     mac.add(stamp);
     mac.add(b"\n");
@@ -84,16 +85,17 @@ pub fn signature(
     hex_of(&mac.end())
 }
 
-/// Whether a text is these digits. Each of 64 digits is compared, whatever stands before it.
+/// Whether a text is these digits. The differences of all 64 digits are joined before the one test,
+/// whatever stands before a digit that differs.
 pub fn are_digits(digits: &[u8; 64], text: &[u8]) -> bool
     ensures { result ≡ bytes_eq digits.now text.now }
 {
     if text.len() != 64 {
         return false;
     }
-    let mut same = true;
+    let mut difference = 0;
     for i in 0..64 {
-        same &= digits[i] == text[i];
+        difference |= digits[i] ^ text[i];
     }
-    same
+    difference == 0
 }

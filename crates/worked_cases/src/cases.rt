@@ -59,7 +59,7 @@ impl<'a> Case<'a> {
         let has_asked = self.requests != 0;
         match *line {
             Line::Clock { .. } | Line::FailingRead(_) | Line::FailingWrite(_) => {}
-            Line::Policy { .. } => return !has_asked,
+            Line::Policy { .. } | Line::Ceiling(_) => return !has_asked,
             Line::Credential { .. } => {
                 self.has_credentials = true;
                 return !has_asked;

@@ -1,4 +1,4 @@
-// The principals of a case with their own policies.
+// The principals of a case with their own policies, and the ceiling of its account.
 use crate::cases::Case;
 use crate::failures::Failure;
 use crate::lines::Line;
@@ -56,4 +56,15 @@ pub fn identities_of(alloc: Global, case: &Case<'_>) -> Result<IdentityList, Fai
         }
     }
     Ok(IdentityList::new(identities))
+}
+
+/// The documents of the account's ceiling in a case.
+pub fn ceiling_of(alloc: Global, case: &Case<'_>) -> Result<PolicyList, Failure> {
+    let mut documents = Vec::new(alloc);
+    for line in case.lines {
+        if let Line::Ceiling(text) = line {
+            documents.push(read_policy(alloc, PolicyKind::Identity, text.as_bytes())?)?;
+        }
+    }
+    Ok(PolicyList::new(documents))
 }

@@ -47,6 +47,7 @@ pub enum Line<'a> {
         principal: &'a str,
         text: &'a str,
     },
+    Ceiling(&'a str),
     Credential {
         id: &'a str,
         secret: &'a str,
@@ -198,6 +199,7 @@ fn read_setting<'a>(word: &str, words: &mut Words<'a>) -> Line<'a> {
             principal: words.word(),
             text: words.rest,
         },
+        "ceiling" => Line::Ceiling(words.rest),
         "credential" => Line::Credential {
             id: words.word(),
             secret: words.word(),

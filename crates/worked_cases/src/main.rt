@@ -26,19 +26,21 @@ use std::{fs, io, rt};
 use texts::expanded;
 
 // The scripts, each with the cases that show one thing.
-const SCRIPTS: [&str; 20] = [
+const SCRIPTS: [&str; 22] = [
     "first_path.txt",
     "pieces.txt",
     "faults.txt",
     "heads.txt",
     "entries_asked_for.txt",
     "sealing.txt",
+    "forms.txt",
     "draws.txt",
     "refusals_in_order.txt",
     "bodies.txt",
     "sizes.txt",
     "limits.txt",
     "authority.txt",
+    "ceilings.txt",
     "signed.txt",
     "key_policies.txt",
     "key_states.txt",

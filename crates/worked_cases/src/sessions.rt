@@ -7,7 +7,7 @@ ghost use Rattle.kms_session.specs.Callers.{IsOfAccount};
 use crate::callers::trust_of;
 use crate::cases::Case;
 use crate::failures::Failure;
-use crate::identities::identities_of;
+use crate::identities::{ceiling_of, identities_of};
 use crate::lines::{Line, Span};
 use crate::replies::{input, is_all, is_front, reply_texts};
 use account_steps::RealmFacts;
@@ -68,8 +68,8 @@ pub fn account_number() -> Option<AccountNumber> {
     AccountNumber::read("111122223333")
 }
 
-/// The facts of a case: its account, region us-east-1, a root secret of zeros, and the principals of
-/// the case with their policies.
+/// The facts of a case: its account, region us-east-1, a root secret of zeros, the principals of the
+/// case with their policies, and the ceiling of its account.
 pub fn facts_of(
     alloc: Global,
     account: AccountNumber,
@@ -84,6 +84,7 @@ pub fn facts_of(
         root: [0; 32],
         boot: case.boot,
         identities: identities_of(alloc, case)?,
+        ceiling: ceiling_of(alloc, case)?,
     })
 }
 

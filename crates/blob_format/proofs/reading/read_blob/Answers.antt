@@ -1,38 +1,45 @@
--- A blob has its size, its first byte and its version, and bytes with these are a blob.
-use Rattle.std.proofs.Common.{rules, ◌≡◌, ◌-◌, ◌∙◌, ap, refl, length, arith, w32}
-use Rattle.std.specs.Int.{from_be_bytes}
-use Rattle.std.proofs.lemmas.Nat.{be_bytes_4}
-use Rattle.blob_format.proofs.BlobFacts.{told, is_blob, part_size, version_told}
+-- What begins with another byte, or is too short for its commitment, is no blob.
+use Rattle.std.proofs.Common.{◌≡◌, ◌⊎◌, inl, inr, ◌<◌, ◌∙◌, sym, subst, length, ℕ, List, [], Some, arith}
+use Rattle.std.specs.Prelude.{slice_get}
+use Rattle.std.proofs.lemmas.Option.{slice_get-get_or, get_or_from_slice_get}
+use Rattle.blob_format.specs.Blob.{Form, form_one, form_two, form_byte, text_at, IsBlobText}
+use Rattle.blob_format.specs.Reading.{Reads}
+use Rattle.blob_format.proofs.BlobFacts.{told, same_place}
 use Rattle.blob_format.proofs.reading.read_blob.Goals as goal
-use Rattle.blob_format.proofs.reading.read_blob.Goals.{then-size-lt-SMALLEST-via-then-size-lt-SMALLEST, then-size-lt-SMALLEST-via-else-size-lt-SMALLEST+then-size-gt-LARGEST, then-size-lt-SMALLEST-via-else-size-lt-SMALLEST+else-size-gt-LARGEST+then-bytes-ne-FORMAT}
 
-pub returns-then-size-lt-SMALLEST : goal.returns-then-size-lt-SMALLEST
-returns-then-size-lt-SMALLEST c key version iv text tag is =
-    let blob = told c.args.bytes.now key version iv text tag is in
-    elim c.then-size-lt-SMALLEST.branch [
-      | then-size-lt-SMALLEST-via-then-size-lt-SMALLEST w ↦ omega (arith, blob.size, is.text_given)
-      | then-size-lt-SMALLEST-via-else-size-lt-SMALLEST+then-size-gt-LARGEST w ↦ omega (arith, blob.size, is.text_fits)
-      | then-size-lt-SMALLEST-via-else-size-lt-SMALLEST+else-size-gt-LARGEST+then-bytes-ne-FORMAT w ↦
-          w.if-bytes-ne-FORMAT.true blob.format
+-- a blob has a first byte
+begins : (bytes : List ℕ) (form : Form) (key : List ℕ) (version : ℕ) (iv text tag : List ℕ) → IsBlobText bytes form key version iv text tag
+    → slice_get bytes 0 ≡ Some (form_byte form)
+begins bytes form key version iv text tag is =
+    let parts = told bytes form key version iv text tag is in
+    let some : 0 < length bytes = omega (arith, parts.size) in
+    subst (λ (byte : ℕ). slice_get bytes 0 ≡ Some byte) parts.first_is (slice_get-get_or bytes 0 0 some)
+
+one_or_two : (form : Form) (byte : ℕ) → form_byte form ≡ byte → (byte ≡ 1) ⊎ (byte ≡ 2)
+one_or_two form_one byte is = inl (sym is)
+one_or_two (form_two commitment) byte is = inr (sym is)
+
+pub returns-in_err-first : goal.returns-in_err-first
+returns-in_err-first c =
+    subst (Reads c.args.bytes.now) (sym c.from_residual.ensures) (λ form key version iv text tag is.
+    let first = begins c.args.bytes.now form key version iv text tag is in
+    let none = c.in_err-first.ensures.value in
+    cc)
+
+pub returns-in_err-commitment_at-in-2 : goal.returns-in_err-commitment_at-in-2
+returns-in_err-commitment_at-in-2 c =
+    subst (Reads c.args.bytes.now) (sym c.from_residual-in_err-commitment_at-in-2.ensures) (λ form key version iv text tag is.
+    let parts = told c.args.bytes.now form key version iv text tag is in
+    let first = get_or_from_slice_get c.args.bytes.now 0 c.in_ok-first.field-0.now 0 (sym c.in_ok-first.ensures.value) in
+    let two : form_byte form ≡ 2 = sym parts.first_is ∙ first ∙ omega arith in
+    let place : text_at form ≡ 65 = same_place form (form_two []) two in
+    c.in_err-commitment_at-in-2.ensures (omega (arith, parts.size, place)))
+
+pub returns-in_default : goal.returns-in_default
+returns-in_default c form key version iv text tag is =
+    let parts = told c.args.bytes.now form key version iv text tag is in
+    let first = get_or_from_slice_get c.args.bytes.now 0 c.in_ok-first.field-0.now 0 (sym c.in_ok-first.ensures.value) in
+    elim (one_or_two form c.in_ok-first.field-0.now (sym parts.first_is ∙ first)) [
+      | inl one ↦ omega (arith, one)
+      | inr two ↦ omega (arith, two)
     ]
-
-pub returns-then-version-lt-FIRST_VERSION : goal.returns-then-version-lt-FIRST_VERSION
-returns-then-version-lt-FIRST_VERSION c key version iv text tag is =
-    let told_version : c.from_be_bytes-version.result ≡ version =
-    c.from_be_bytes-version.ensures ∙ ap (from_be_bytes w32) c.array_at.ensures
-    ∙ version_told c.args.bytes.now key version iv text tag is in
-    omega (arith, told_version, is.version_from_one)
-
-pub returns : goal.returns
-returns c =
-    let size : length c.array_at.result ≡ 4 = ap length c.array_at.ensures ∙ part_size c.args.bytes.now 17 21 (omega arith) in
-    let version_is = be_bytes_4 c.array_at.result c.from_be_bytes-version.result size (search rules) c.from_be_bytes-version.ensures in
-    record {
-      text_from = refl;
-      text_to = omega arith;
-      form =
-          is_blob c.args.bytes.now c.new.result c.from_be_bytes-version.result c.array_at-3.result c.array_at-4.result
-          (length c.args.bytes.now - 16) (omega arith) (omega arith) (omega arith) c.if-bytes-ne-FORMAT.false
-          (c.new.ensures ∙ c.array_at-2.ensures) (version_is ∙ c.array_at.ensures) c.array_at-3.ensures c.array_at-4.ensures
-          (omega arith) (omega arith);
-    }

@@ -1,7 +1,8 @@
 use Rattle.std.proofs.Common.{◌≡◌, List, ℕ, length, drop, ◌∙◌, subst}
 use Rattle.std.specs.Prelude.{IfOk}
 use Rattle.std.proofs.lemmas.List.{take_at}
-use Rattle.crypto_ops.proofs.OpeningFacts.{sealed_written}
+use Rattle.blob_format.specs.Blob.{form_two}
+use Rattle.crypto_ops.proofs.OpeningFacts.{sealed_written, sealed_two_is}
 use Rattle.crypto_ops.proofs.sealing.seal_blob.Goals as goal
 
 pub returns : goal.returns
@@ -10,9 +11,12 @@ returns c =
     let size : length ciphertext ≡ c.in_ok-text.text.len = c.seal-tag.auto.text ∙ c.deref_mut.ensures.len in
     let written : c.deref-2.result.now ≡ ciphertext =
     c.deref-2.ensures.value ∙ take_at ciphertext (drop (length ciphertext) c.in_ok-text.text.items) c.in_ok-text.text.len size in
-    subst (λ (x : List ℕ). IfOk c.write_blob.result (λ bytes. bytes ≡ x))
-    (sealed_written c.args.root.now c.args.key.now c.args.version c.args.iv.now c.args.context.now c.args.text.now c.material.result c.deref.result.now
-    c.deref_mut.result.now ciphertext c.deref-2.result.now c.seal-tag.result c.material.ensures
-    (c.deref.ensures.value ∙ c.in_ok-additional.ensures.written) (c.deref_mut.ensures.value ∙ c.in_ok-text.ensures.items)
-    c.seal-tag.ensures.ciphertext written c.seal-tag.ensures.tag)
-    c.write_blob.ensures.written
+    subst (λ (x : List ℕ). IfOk c.write_blob_two.result (λ bytes. bytes ≡ x))
+    (sealed_written (form_two c.commitment-commitment.result) c.blob_key-data_key.result c.args.key.now c.args.version c.args.iv.now c.args.context.now c.args.text.now
+    c.in_ok-additional.additional.items c.push_head_two.new.bytes.items c.encode_into.new.out.items c.deref.result.now
+    c.deref_mut.result.now ciphertext c.deref-2.result.now c.seal-tag.result
+    c.in_ok-additional.ensures.items c.in_ok-push_head_two.ensures.written c.in_ok-encode_into.ensures.written c.deref.ensures.value
+    (c.deref_mut.ensures.value ∙ c.in_ok-text.ensures.items) c.seal-tag.ensures.ciphertext written c.seal-tag.ensures.tag
+    ∙ sealed_two_is c.args.root.now c.args.key.now c.args.version c.args.iv.now c.args.context.now c.args.text.now c.material.result c.blob_key-data_key.result
+    c.commitment-commitment.result c.material.ensures c.blob_key-data_key.ensures c.commitment-commitment.ensures)
+    c.write_blob_two.ensures.written

@@ -1,12 +1,10 @@
-use Rattle.std.proofs.Common.{false, subst, sym, arith, refl, ◌∙◌}
-use Rattle.kms_session.specs.Session.{Serves}
-use Rattle.kms_session.proofs.Runs.{serves_nothing}
+use Rattle.kms_session.specs.Session.{outside}
+use Rattle.kms_session.proofs.Complete.{each_is_answered}
+use Rattle.kms_session.proofs.OneEnds.{one_end}
 use Rattle.kms_session.proofs.session.serve_session.Goals as goal
 
-pub loop-number-init : goal.loop-number-init
-loop-number-init g c = record { serves = subst (Serves c.args.trust.now _ _ false 0) (sym c.in-Ok.ensures) (serves_nothing c.args.trust.now _); few = omega arith; facts = refl }
+pub returns-clause-complete : goal.returns-clause-complete
+returns-clause-complete g c = each_is_answered c.args.trust.now c.serve_messages.result _ _ c.serve_messages.ensures
 
-pub loop-number-preserved : goal.loop-number-preserved
-loop-number-preserved g c =
-    let goes = c.in-None.ensures.goes _ c.loop-number.invariant.serves in
-    record { serves = goes.0; few = goes.1; facts = c.in-None.ensures.facts ∙ c.loop-number.invariant.facts }
+pub returns-clause-one : goal.returns-clause-one
+returns-clause-one g c = one_end c.args.trust.now _ _

@@ -12,9 +12,8 @@ joined stamp date region digits = simp append_assoc
 
 pub returns : goal.returns
 unfolding string_to_sign signature_of
-returns c = λ canonical is.
-    let key = c.args.key.now in
-    let one = c.add.ensures key [] c.new-mac.ensures in
+returns c = λ key canonical keyed is.
+    let one = c.add.ensures key [] keyed in
     let two = c.add-2.ensures key _ one in
     let three = c.add-3.ensures key _ two in
     let four = c.add-4.ensures key _ three in

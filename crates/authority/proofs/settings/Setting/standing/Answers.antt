@@ -1,6 +1,7 @@
 use Rattle.std.proofs.Common.{◌∙◌, ap, subst}
+use Rattle.policy_eval.specs.CeilingOf.{CeilingGoesByQuestion}
 use Rattle.authority.specs.Setting.{Setting, Asked}
-use Rattle.authority.specs.Allowed.{standing}
+use Rattle.authority.specs.Allowed.{bounded_standing}
 use Rattle.authority.specs.Questions.{GoByQuestions, KeyGoesByQuestion}
 use Rattle.authority.proofs.QuestionFacts.{one_answer}
 use Rattle.authority.proofs.settings.Setting.standing.Goals as goal
@@ -10,9 +11,9 @@ returns c =
     let setting : Setting = c.args.self.now in
     let asked : Asked = record { action = c.args.action; resource = c.args.resource.now; particulars = c.args.particulars.now } in
     let seen = c.self.view_is in
-    let policies = ap (λ (s : Setting). s.policies) seen in
-    c.standing.ensures
-    ∙ (λ i. standing (seen i).caller (seen i).policies (c.compiled-policy.ensures i) c.in_ok-request.request)
+    c.bounded_standing.ensures
+    ∙ ap (λ policy. bounded_standing setting policy c.in_ok-request.request) c.compiled-policy.ensures
     ∙ one_answer setting asked _ c.some_wants-wanted.result c.in_ok-request.request
     (λ none. subst KeyGoesByQuestion c.compiled-policy.ensures (c.some_wants-wanted.ensures.key none))
-    (λ none. subst GoByQuestions policies (c.some_wants-wanted.ensures.own none)) c.in_ok-request.ensures
+    (λ none. subst GoByQuestions (ap (λ (s : Setting). s.policies) seen) (c.some_wants-wanted.ensures.own none))
+    (λ none. subst CeilingGoesByQuestion (ap (λ (s : Setting). s.ceiling) seen) (c.some_wants-wanted.ensures.bound none)) c.in_ok-request.ensures

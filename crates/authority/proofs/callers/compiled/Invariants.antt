@@ -1,5 +1,0 @@
-use Rattle.std.proofs.Common.{◌≡◌, take}
-use Rattle.authority.proofs.callers.compiled.Given as goal
-
-abbrev pub invariant-loop-policy : goal.invariant-loop-policy
-invariant-loop-policy l = l.all.items ≡ take l.policy-index l.policy-items
