@@ -5,15 +5,15 @@ ghost use Rattle.kms_config.specs.Answers.{Answers, IsFaultAt};
 
 use crate::faults::ConfigFault;
 use kms_names::{NoMemory, Text};
-use policy_doc::{Path, push_path};
+use policy_doc::{Path, pointer};
 use std::alloc::Global;
 
 // The JSON pointer of a place, and what follows it.
-fn pointer(alloc: Global, place: &Path<'_>, behind: &str) -> Result<Text, NoMemory>
+fn pointer_behind(alloc: Global, place: &Path<'_>, behind: &str) -> Result<Text, NoMemory>
     ensures { IfOk result (λ text. text ≡ path_text place.now ++ behind.now) }
 {
     let mut text = String::new(alloc);
-    push_path(&mut text, place)?;
+    text.push_str(pointer(alloc, place)?.as_str())?;
     text.push_str(behind)?;
     Ok(Text::from_string(text))
 }
@@ -21,7 +21,7 @@ fn pointer(alloc: Global, place: &Path<'_>, behind: &str) -> Result<Text, NoMemo
 fn fault_behind(alloc: Global, place: &Path<'_>, behind: &str) -> ConfigFault
     ensures { IsFaultAt (path_text place.now ++ behind.now) result }
 {
-    match pointer(alloc, place, behind) {
+    match pointer_behind(alloc, place, behind) {
         Ok(text) => ConfigFault::At(text),
         Err(NoMemory) => ConfigFault::NoMemory,
     }

@@ -1,3 +1,5 @@
 mod Kept
 mod Again
 mod Rests
+pub mod CallFacts
+mod EventFacts

@@ -1,2 +1,4 @@
 pub mod Machine
 pub mod House
+pub mod Calls
+pub mod Events

@@ -1,5 +1,7 @@
 //! What holds of every run of events, of which each call of a pass is one or more.
 
+ghost use Rattle.pass_laws.specs.Calls.{FrontsNeverFall, CallsKeepLawful, DroppedStaysAwayFromPasses, NoVectorOfOnePassTwice, NoVectorOfTwoPasses, NoVectorOfTwoBoots};
+ghost use Rattle.pass_laws.specs.Events.{CallsAreEvents, PassesAreTheMachine};
 ghost use Rattle.pass_laws.specs.House.{OwesNothingMore};
 ghost use Rattle.pass_laws.specs.Machine.{HoldsAlways, SealedStaysReadable, DroppedStaysAway, NoVectorTwice, NoVectorShared, NoVectorOverBoots};
 
@@ -27,6 +29,36 @@ pub fn machine_law()
 {
     times_never_fall();
     sealed_is_decrypted_again();
+    dropped_grants_stay_away();
+    one_pass_repeats_no_iv();
+    passes_share_no_iv();
+    boots_share_no_iv();
+}
+
+/// Each call of a pass, as its contract has it, is a list of events of that pass: a request that was read or
+/// changed the account, one for which memory lacked, a published account that was missed, housekeeping, learning,
+/// and what is done at the desk. The events lead to what the pass then holds, and leave what the machine has of
+/// every other pass. And in whatever order the passes of a service make their calls, they are one run of the
+/// machine, of which all holds that [`machine_law`] says.
+pub fn calls_are_events()
+    ensures events { CallsAreEvents }
+    ensures run { PassesAreTheMachine }
+{
+    times_never_fall();
+}
+
+/// Of passes, whatever calls they make: the number of entries that a pass holds never falls, and its history
+/// stays lawful. A pass that holds the drop of a grant is answered at no history where a grant has its id. Two
+/// texts that passes of one service sealed, one pass or two, have different initialization vectors; and so have
+/// two texts of two services whose boots differ.
+pub fn passes_law()
+    ensures fronts { FrontsNeverFall }
+    ensures lawful { CallsKeepLawful }
+    ensures dropped { DroppedStaysAwayFromPasses }
+    ensures vectors { NoVectorOfOnePassTwice }
+    ensures shared { NoVectorOfTwoPasses }
+    ensures boots { NoVectorOfTwoBoots }
+{
     dropped_grants_stay_away();
     one_pass_repeats_no_iv();
     passes_share_no_iv();

@@ -3,4 +3,4 @@
 
 mod laws;
 
-pub use laws::{house_owes_nothing_more, machine_law};
+pub use laws::{calls_are_events, house_owes_nothing_more, machine_law, passes_law};

@@ -26,6 +26,6 @@ pub use documents::{read_policy, read_policy_value};
 pub use faults::PolicyFault;
 pub use laws::{first_fault_has_place, first_fault_in_byte_order, policy_of_reads};
 pub use members::{first_unknown, is_known, member};
-pub use paths::{Path, push_path};
+pub use paths::{Path, pointer};
 pub use policies::{Named, NamedList, Policy, PolicyKind, Statement, StatementList};
 pub use threads::policies_cross_threads;

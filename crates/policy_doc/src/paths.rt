@@ -36,8 +36,8 @@ fn push_escaped(text: &mut String, name: &str) -> Result<(), NoMemory>
     Ok(())
 }
 
-/// Appends the JSON pointer of a place (RFC 6901), which is empty at the root.
-pub fn push_path(text: &mut String, path: &Path<'_>) -> Result<(), NoMemory>
+// Appends the pointer of a place.
+fn push_path(text: &mut String, path: &Path<'_>) -> Result<(), NoMemory>
     ensures { OnOk result (string_bytes text.new ≡ string_bytes text.old ++ path_text path.now) }
 {
     match path {
@@ -55,7 +55,8 @@ pub fn push_path(text: &mut String, path: &Path<'_>) -> Result<(), NoMemory>
     }
 }
 
-fn pointer(alloc: Global, path: &Path<'_>) -> Result<Text, NoMemory>
+/// The JSON pointer of a place (RFC 6901), which is empty at the root, or want of memory.
+pub fn pointer(alloc: Global, path: &Path<'_>) -> Result<Text, NoMemory>
     ensures { IfOk result (λ text. text ≡ path_text path.now) }
 {
     let mut text = String::new(alloc);

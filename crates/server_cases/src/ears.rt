@@ -7,6 +7,9 @@ use kms_io::{MemoryEar, MemoryLink};
 use kms_names::NoMemory;
 use std::alloc::Global;
 
+// More calls than are made of an ear.
+const CALLS: u64 = 64;
+
 // The bytes of these messages.
 fn bytes_of(alloc: Global, messages: &[&str]) -> Result<Vec<u8>, NoMemory> {
     let mut bytes = Vec::new(alloc);
@@ -16,19 +19,37 @@ fn bytes_of(alloc: Global, messages: &[&str]) -> Result<Vec<u8>, NoMemory> {
     Ok(bytes)
 }
 
-/// An ear that fails so often and then gives one connection, on which these messages come one by one.
-pub fn ear_of(alloc: Global, messages: &[&str], failures: u64) -> Result<MemoryEar, NoMemory>
+/// A connection on which these messages come one by one, and whose first write fails where that is wanted.
+pub fn link_of(
+    alloc: Global,
+    messages: &[&str],
+    fails_to_write: bool,
+) -> Result<MemoryLink, NoMemory> {
+    let input = bytes_of(alloc, messages)?;
+    let pieces = messages.iter().map(|message| message.len()).collect(alloc)?;
+    let mut failing = Vec::new(alloc);
+    if fails_to_write {
+        failing.push(0)?;
+    }
+    Ok(MemoryLink::new(alloc, input, pieces, Vec::new(alloc), failing))
+}
+
+/// An ear that gives these connections in order, and fails so often before each.
+pub fn ear_of(
+    alloc: Global,
+    connections: Vec<MemoryLink>,
+    failures: u8,
+) -> Result<MemoryEar, NoMemory>
     ensures { IfOk result (λ ear. listening_of ear ≡ record {
       faults = 0;
       is_out = false;
       given_back = Some [];
     }) }
 {
-    let input = bytes_of(alloc, messages)?;
-    let pieces = messages.iter().map(|message| message.len()).collect(alloc)?;
-    let failing = (0..failures).collect(alloc)?;
-    let mut connections = Vec::new(alloc);
-    connections.push(MemoryLink::new(alloc, input, pieces, Vec::new(alloc), Vec::new(alloc)))?;
+    let failures = u64::from(failures);
+    let failing = (0..CALLS)
+        .filter(|call| *call % (failures + 1) < failures)
+        .collect(alloc)?;
     Ok(MemoryEar::new(alloc, connections, failing))
 }
 

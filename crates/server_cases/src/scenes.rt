@@ -1,7 +1,7 @@
 // What is shown: of two workers beside one another, and of one worker.
 ghost use Rattle.std.specs.Prelude.{◌≡◌};
 
-use crate::ears::{ear_of, replies_in};
+use crate::ears::{ear_of, link_of, replies_in};
 use crate::late::LateDoor;
 use crate::messages::{LIST, LOOK, MAKE, NOTHING, OPEN, TURN};
 use crate::stage::Stage;
@@ -134,7 +134,9 @@ fn add_ear<'a, W: Wait + Clock>(
     stage: &'a Stage<'a, W>,
     sent: &Sent<'_>,
 ) -> Result<(), NoMemory> {
-    door.add(ear_of(alloc, sent.messages, 0)?, stage, sent.after)
+    let mut links = Vec::new(alloc);
+    links.push(link_of(alloc, sent.messages, false)?)?;
+    door.add(ear_of(alloc, links, 0)?, stage, sent.after)
 }
 
 // Shows what each of two workers answered, and what came of it.
@@ -179,9 +181,12 @@ pub fn beside<W: rt::Runtime + Threads + Wait + Sync>(world: &World<'_, W>) -> R
 #[derive(Clone, Copy)]
 struct Single<'a> {
     what: &'a str,
-    // How often the ear fails before its one connection comes, on which these messages do.
-    failures: u64,
+    // How many connections come, on each of which these messages do, and how often the ear fails before each.
+    coming: u16,
+    failures: u8,
     messages: &'a [&'a str],
+    // Whether the first write on each fails.
+    fails_to_write: bool,
     // How many connections the worker is to take.
     connections: u16,
     // The third answer of the clock.
@@ -193,8 +198,10 @@ struct Single<'a> {
 
 const ONE_KEY: Single<'static> = Single {
     what: "a key",
+    coming: 1,
     failures: 0,
     messages: &[MAKE],
+    fails_to_write: false,
     connections: 1,
     later: NOW,
     is_shut: false,
@@ -219,6 +226,21 @@ const SECOND_LACKS: Single<'static> = Single {
 const FAILS_15: Single<'static> = Single {
     what: "an ear that fails 15 times",
     failures: 15,
+    ..ONE_KEY
+};
+
+const FAILS_15_TWICE: Single<'static> = Single {
+    what: "an ear that fails 15 times before each of two connections, with a key made on each",
+    coming: 2,
+    failures: 15,
+    connections: 2,
+    ..ONE_KEY
+};
+
+// The pass holds the key's entry, so it is counted.
+const UNWRITTEN: Single<'static> = Single {
+    what: "a key whose reply can't be written",
+    fails_to_write: true,
     ..ONE_KEY
 };
 
@@ -247,7 +269,11 @@ fn door_of(alloc: Global, scene: &Single<'_>) -> Result<MemoryDoor, NoMemory> {
         failing.push(0)?;
     }
     let mut ears = Vec::new(alloc);
-    ears.push(ear_of(alloc, scene.messages, scene.failures)?)?;
+    let mut links = Vec::new(alloc);
+    for _ in 0..scene.coming {
+        links.push(link_of(alloc, scene.messages, scene.fails_to_write)?)?;
+    }
+    ears.push(ear_of(alloc, links, scene.failures)?)?;
     Ok(MemoryDoor::new(alloc, ears, failing))
 }
 
@@ -272,6 +298,8 @@ pub fn alone<W: rt::Runtime + Threads + Wait + Sync>(world: &World<'_, W>) -> Re
         ROTATED,
         SECOND_LACKS,
         FAILS_15,
+        FAILS_15_TWICE,
+        UNWRITTEN,
         FAILS_16,
         SHUT,
         FEWER_EARS,

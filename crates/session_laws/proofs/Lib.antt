@@ -1,3 +1,3 @@
 mod OneCut
-mod LawfulRuns
+mod SessionCalls
 mod GrowingRuns

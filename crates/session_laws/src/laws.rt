@@ -1,4 +1,5 @@
 // What follows from the definitions alone.
+ghost use Rattle.session_laws.specs.Calls.{TurnsAreCalls, RunsAreCalls, SessionsAreCalls, WorkersAreCalls, ServersAreCalls};
 ghost use Rattle.session_laws.specs.Laws.{OneCut, OneEnd, EachMessageIsAnswered, RunsKeepLawful, TurnsGoOn, RunsGoOn, OneSessionRepeatsNoIv};
 
 /// A stream is cut into messages in one way: two cuts into as many items have the same rest and the same items,
@@ -40,4 +41,16 @@ pub fn histories_only_grow()
 /// that want memory, stand between two of them.
 pub fn one_session_repeats_no_iv()
     ensures { OneSessionRepeatsNoIv }
+{}
+
+/// What sessions and workers do is calls of their passes, of which `pass_laws` says that they are events of one
+/// machine, and what follows for all that they are answered: a turn is no call or one, a run of turns is their
+/// calls in order, and so is a session, however it ends, a worker over all its connections, and each worker of a
+/// server from its new pass on.
+pub fn sessions_are_calls()
+    ensures turns { TurnsAreCalls }
+    ensures runs { RunsAreCalls }
+    ensures sessions { SessionsAreCalls }
+    ensures workers { WorkersAreCalls }
+    ensures servers { ServersAreCalls }
 {}

@@ -5,5 +5,5 @@ mod laws;
 
 pub use laws::{
     each_message_is_answered, histories_only_grow, one_cut, one_end, one_session_repeats_no_iv,
-    runs_keep_lawful,
+    runs_keep_lawful, sessions_are_calls,
 };

@@ -1,0 +1,331 @@
+-- What calls of a pass leave: a history that goes on and stays lawful, and places that go on.
+use Rattle.std.proofs.Common.{◌≡◌, ◌≢◌, ◌⊎◌, inl, inr, ℕ, ◌^◌, ◌<◌, List, [], ◌∷◌, ◌++◌, true, Option, Some, None, refl, sym, ap, ◌∙◌, subst, append_assoc}
+use mathlib.Core.List.{IsPrefix}
+use Rattle.std.proofs.lemmas.List.{map-append}
+use Rattle.kms_names.specs.Moment.{year_10000}
+use Rattle.kms_json.specs.declared.asks.Ask.{Ask}
+use Rattle.kms_json.specs.declared.replies.Reply.{Reply}
+use Rattle.kms_json.specs.Asks.{changes_account}
+use Rattle.account_steps.specs.declared.facts.RealmFacts.{RealmFacts}
+use Rattle.account_steps.specs.History.{Entry, housekeeping_of}
+use Rattle.account_steps.specs.declared.places.Places.{Places}
+use Rattle.account_steps.specs.Places.{IsUpTo, no_places}
+use Rattle.account_rows.specs.declared.entries.What.TheVariants as what
+use Rattle.account_rows.specs.History.{replay}
+use Rattle.grant_table.specs.Grants.{grant_with}
+use Rattle.account_core.specs.Decide.{decide, IsProper, IsNext, appended, kept, IsLawful, empty, longer}
+use Rattle.account_core.proofs.GoingOn.{same_entry, decide_goes_on}
+use Rattle.account_laws.specs.Laws.{Sealing, HasSealed, PassGoesOn, no_request, one_more as one_request, wants_memory, OnePassRepeatsNoIv, PassesShareNoIv, BootsShareNoIv, DroppedGrantsStayAway}
+use Rattle.published_account.specs.Pairs.{entries_of}
+use Rattle.published_account.proofs.Lists.{entries_of-push, prefix_self, prefix_push, prefix_trans}
+use Rattle.publish_pass.specs.Pass.{Pass, Meets, Learns, Reads, Changes, Decides, making_any, keeping_house, at_places, fresh_pass}
+use Rattle.pass_laws.specs.Calls.{Call, read, wanted_to_read, missed, changed, wanted_to_change, kept_house, wanted_to_keep_house, learnt, changed_at_desk, kept_house_at_desk, Calls, no_call, one_more, FrontsNeverFall, CallsKeepLawful, AnswersAt, at_front, at_desk, DroppedStaysAwayFromPasses, Seals, NoVectorOfOnePassTwice, NoVectorOfTwoPasses, NoVectorOfTwoBoots}
+
+-- ---- the history goes on
+
+abbrev On : Pass → Pass → Type 0
+On s t = IsPrefix s.history t.history
+
+on_same : (s t : Pass) → t ≡ s → On s t
+on_same s t same = subst (On s) (sym same) (prefix_self s.history)
+
+on_trans : (s t u : Pass) → On s t → On t u → On s u
+on_trans s t u a b = prefix_trans s.history t.history u.history a b
+
+making_on : (s : Pass) (made : Option Entry) → On s (making_any s made)
+making_on s None = prefix_self s.history
+making_on s (Some entry) = prefix_push s.history (entry, s.number)
+
+house_on : (s : Pass) (clock : ℕ) → On s (keeping_house s clock)
+house_on s clock = making_on s (housekeeping_of (entries_of s.history) clock)
+
+left_on : (met t : Pass) (clock : ℕ) → (t ≡ met) ⊎ (t ≡ keeping_house met clock) → On met t
+left_on met t clock (inl same) = on_same met t same
+left_on met t clock (inr house) = subst (On met) (sym house) (house_on met clock)
+
+-- the history stays where only the places change
+same_on : (s met t : Pass) → On s met → t.history ≡ met.history → On s t
+same_on s met t on same = subst (IsPrefix s.history) (sym same) on
+
+decides_on : (s : Pass) (x : Ask) (reply : Reply) (t : Pass) → Decides (keeping_house s x.moment) x reply t → On s t
+decides_on s x reply t h =
+    let house : Pass = keeping_house s x.moment in
+    on_trans s house t (house_on s x.moment) (subst (On house) (sym h.made) (making_on house (decide house.facts (entries_of house.history) x house.places).entry))
+
+call_on : (old : Pass) (met : List (Entry × ℕ)) (new : Pass) → Call old met new → On old new
+call_on old met new (read x reply proper reading h is) = same_on old h.met new h.seen.history (ap (λ (p : Pass). p.history) h.used)
+call_on old met new (wanted_to_read x proper reading h is) = same_on old h.met new h.seen.history (ap (λ (p : Pass). p.history) h.used)
+call_on old met new (missed h is) = same_on old old new (prefix_self old.history) (ap (λ (p : Pass). p.history) h.others)
+call_on old met new (changed x reply proper changing h is) = on_trans old h.met new h.seen.history (decides_on h.met x reply new h.decides)
+call_on old met new (wanted_to_change x proper h is) = on_trans old h.met new h.seen.history (left_on h.met new x.moment h.left)
+call_on old met new (kept_house clock before h is) = on_trans old h.met new h.seen.history (left_on h.met new clock (inr h.kept))
+call_on old met new (wanted_to_keep_house clock before h is) = on_trans old h.met new h.seen.history (left_on h.met new clock h.left)
+call_on old met new (learnt h is) = h.history
+call_on old met new (changed_at_desk x reply proper changing h is) = decides_on old x reply new h
+call_on old met new (kept_house_at_desk clock before h is) = left_on old new clock h
+
+pub fronts : FrontsNeverFall
+fronts first last no_call = prefix_self first.history
+fronts first last (one_more {old = old} met calls call) = on_trans first old last (fronts first old calls) (call_on old met last call)
+
+-- ---- the facts stay
+
+any_facts : (s : Pass) (made : Option Entry) → (making_any s made).facts ≡ s.facts
+any_facts s None = refl
+any_facts s (Some entry) = refl
+
+left_facts : (met t : Pass) (clock : ℕ) → (t ≡ met) ⊎ (t ≡ keeping_house met clock) → t.facts ≡ met.facts
+left_facts met t clock (inl same) = ap (λ (p : Pass). p.facts) same
+left_facts met t clock (inr house) = ap (λ (p : Pass). p.facts) house ∙ any_facts met (housekeeping_of (entries_of met.history) clock)
+
+decided_facts : (s : Pass) (x : Ask) (reply : Reply) (t : Pass) → Decides (keeping_house s x.moment) x reply t → t.facts ≡ s.facts
+decided_facts s x reply t h =
+    let house : Pass = keeping_house s x.moment in
+    ap (λ (p : Pass). p.facts) h.made ∙ any_facts house (decide house.facts (entries_of house.history) x house.places).entry
+    ∙ any_facts s (housekeeping_of (entries_of s.history) x.moment)
+
+call_facts : (old : Pass) (met : List (Entry × ℕ)) (new : Pass) → Call old met new → new.facts ≡ old.facts
+call_facts old met new (read x reply proper reading h is) = ap (λ (p : Pass). p.facts) h.used ∙ ap (λ (p : Pass). p.facts) h.seen.others
+call_facts old met new (wanted_to_read x proper reading h is) = ap (λ (p : Pass). p.facts) h.used ∙ ap (λ (p : Pass). p.facts) h.seen.others
+call_facts old met new (missed h is) = ap (λ (p : Pass). p.facts) h.others
+call_facts old met new (changed x reply proper changing h is) = decided_facts h.met x reply new h.decides ∙ ap (λ (p : Pass). p.facts) h.seen.others
+call_facts old met new (wanted_to_change x proper h is) = left_facts h.met new x.moment h.left ∙ ap (λ (p : Pass). p.facts) h.seen.others
+call_facts old met new (kept_house clock before h is) = left_facts h.met new clock (inr h.kept) ∙ ap (λ (p : Pass). p.facts) h.seen.others
+call_facts old met new (wanted_to_keep_house clock before h is) = left_facts h.met new clock h.left ∙ ap (λ (p : Pass). p.facts) h.seen.others
+call_facts old met new (learnt h is) = ap (λ (p : Pass). p.facts) h.others
+call_facts old met new (changed_at_desk x reply proper changing h is) = decided_facts old x reply new h
+call_facts old met new (kept_house_at_desk clock before h is) = left_facts old new clock h
+
+pub calls_facts : (first last : Pass) → Calls first last → last.facts ≡ first.facts
+calls_facts first last no_call = refl
+calls_facts first last (one_more {old = old} met calls call) = call_facts old met last call ∙ calls_facts first old calls
+
+pub calls_append : (first mid last : Pass) → Calls first mid → Calls mid last → Calls first last
+calls_append first mid last calls no_call = calls
+calls_append first mid last calls (one_more {old = old} met more call) = one_more met (calls_append first mid old calls more) call
+
+-- ---- and stays lawful
+
+abbrev HasLawful : RealmFacts → Pass → Type 0
+HasLawful facts s = (s.facts ≡ facts) × IsLawful facts (entries_of s.history)
+
+makes_lawful : (facts : RealmFacts) (s : Pass) (made : Option Entry) → HasLawful facts s → ((entry : Entry) → made ≡ Some entry → IsNext facts (entries_of s.history) entry)
+    → HasLawful facts (making_any s made)
+makes_lawful facts s None is next = is
+makes_lawful facts s (Some entry) is next =
+    (is.0, subst (IsLawful facts) (sym (entries_of-push s.history (entry, s.number))) (longer entry is.1 (next entry refl)))
+
+house_lawful : (facts : RealmFacts) (s : Pass) (clock : ℕ) → clock < year_10000 → HasLawful facts s → HasLawful facts (keeping_house s clock)
+house_lawful facts s clock before is = makes_lawful facts s (housekeeping_of (entries_of s.history) clock) is (λ entry e. kept clock before e)
+
+same_pass : (facts : RealmFacts) (s t : Pass) → t ≡ s → HasLawful facts s → HasLawful facts t
+same_pass facts s t same is = subst (HasLawful facts) (sym same) is
+
+met_lawful : (facts : RealmFacts) (s u : Pass) → u.facts ≡ s.facts → (IsLawful s.facts (entries_of s.history) → IsLawful u.facts (entries_of u.history)) → HasLawful facts s → HasLawful facts u
+met_lawful facts s u same lawful is =
+    let here : IsLawful s.facts (entries_of s.history) = subst (λ (f : RealmFacts). IsLawful f (entries_of s.history)) (sym is.0) is.1 in
+    (same ∙ is.0, subst (λ (f : RealmFacts). IsLawful f (entries_of u.history)) (same ∙ is.0) (lawful here))
+
+read_lawful : (facts : RealmFacts) (s u : Pass) → Meets s u → HasLawful facts s → HasLawful facts u
+read_lawful facts s u met is = met_lawful facts s u (ap (λ (p : Pass). p.facts) met.others) met.lawful is
+
+learnt_lawful : (facts : RealmFacts) (s u : Pass) → Learns s u → HasLawful facts s → HasLawful facts u
+learnt_lawful facts s u met is = met_lawful facts s u (ap (λ (p : Pass). p.facts) met.others) met.lawful is
+
+left_lawful : (facts : RealmFacts) (met t : Pass) (clock : ℕ) → clock < year_10000 → HasLawful facts met → (t ≡ met) ⊎ (t ≡ keeping_house met clock) → HasLawful facts t
+left_lawful facts met t clock before is (inl same) = same_pass facts met t same is
+left_lawful facts met t clock before is (inr house) = same_pass facts (keeping_house met clock) t house (house_lawful facts met clock before is)
+
+decides_lawful : (facts : RealmFacts) (s : Pass) (x : Ask) (reply : Reply) (t : Pass) → IsProper facts x → changes_account x.body ≡ true → HasLawful facts s
+    → Decides (keeping_house s x.moment) x reply t → HasLawful facts t
+decides_lawful facts s x reply t proper changing is h =
+    let house : Pass = keeping_house s x.moment in
+    let there = house_lawful facts s x.moment proper.moment is in
+    let next : (entry : Entry) → (decide house.facts (entries_of house.history) x house.places).entry ≡ Some entry → IsNext facts (entries_of house.history) entry =
+    λ (entry : Entry) e. appended x proper
+    (same_entry facts (entries_of house.history) x no_places house.places changing ∙ ap (λ (f : RealmFacts). (decide f (entries_of house.history) x house.places).entry) (sym there.0) ∙ e) in
+    same_pass facts (making_any house (decide house.facts (entries_of house.history) x house.places).entry) t h.made (makes_lawful facts house _ there next)
+
+-- ---- where a call leaves the pass
+
+record Steps (facts : RealmFacts) (s t : Pass) : Type 0 where
+  lawful : HasLawful facts t
+  on : PassGoesOn facts s.places t.places
+
+any_places : (s : Pass) (made : Option Entry) → (making_any s made).places ≡ s.places
+any_places s None = refl
+any_places s (Some entry) = refl
+
+house_places : (s : Pass) (clock : ℕ) → (keeping_house s clock).places ≡ s.places
+house_places s clock = any_places s (housekeeping_of (entries_of s.history) clock)
+
+left_places : (met t : Pass) (clock : ℕ) → (t ≡ met) ⊎ (t ≡ keeping_house met clock) → t.places ≡ met.places
+left_places met t clock (inl same) = ap (λ (p : Pass). p.places) same
+left_places met t clock (inr house) = ap (λ (p : Pass). p.places) house ∙ house_places met clock
+
+decided_places : (s : Pass) (x : Ask) (reply : Reply) (t : Pass) → Decides (keeping_house s x.moment) x reply t → t.places ≡ s.places
+decided_places s x reply t h =
+    let house : Pass = keeping_house s x.moment in
+    ap (λ (p : Pass). p.places) h.made ∙ any_places house (decide house.facts (entries_of house.history) x house.places).entry ∙ house_places s x.moment
+
+module _ (facts : RealmFacts) where
+  stays : (s t : Pass) → t.places ≡ s.places → PassGoesOn facts s.places t.places
+  stays s t same = subst (PassGoesOn facts s.places) (sym same) (no_request s.places)
+
+  reading_steps : (s met t : Pass) (left : Places) → Meets s met → t ≡ at_places met left → HasLawful facts s → PassGoesOn facts met.places left → Steps facts s t
+  reading_steps s met t left seen used is on =
+      let there = read_lawful facts s met seen is in
+      record {
+        lawful = subst (HasLawful facts) (sym used) there;
+        on = subst (λ (p : Places). PassGoesOn facts p t.places) (ap (λ (p : Pass). p.places) seen.others) (subst (PassGoesOn facts met.places) (sym (ap (λ (p : Pass). p.places) used)) on);
+      }
+
+  learning_steps : (s met t : Pass) → Learns s met → HasLawful facts t → t.places ≡ met.places → Steps facts s t
+  learning_steps s met t seen lawful same = record { lawful = lawful; on = stays s t (same ∙ ap (λ (p : Pass). p.places) seen.others) }
+
+  proper_here : (s : Pass) (x : Ask) → HasLawful facts s → IsProper s.facts x → IsProper facts x
+  proper_here s x is proper = subst (λ (f : RealmFacts). IsProper f x) is.0 proper
+
+  call_steps : (old : Pass) (met : List (Entry × ℕ)) (new : Pass) → HasLawful facts old → Call old met new → Steps facts old new
+  call_steps old met new is (read x reply proper reading h met_is) =
+      let there = read_lawful facts old h.met h.seen is in
+      let decided : PassGoesOn facts h.met.places (decide h.met.facts (entries_of h.met.history) x h.met.places).places =
+      subst (λ (f : RealmFacts). PassGoesOn facts h.met.places (decide f (entries_of h.met.history) x h.met.places).places) (sym there.0)
+      (one_request (entries_of h.met.history) x (no_request h.met.places)) in
+      reading_steps old h.met new _ h.seen h.used is decided
+  call_steps old met new is (wanted_to_read x proper reading h met_is) =
+      let there = read_lawful facts old h.met h.seen is in
+      let at_most = subst (λ (f : RealmFacts). IsUpTo h.met.places h.places (decide f (entries_of h.met.history) x h.met.places).places) there.0 h.at_most in
+      reading_steps old h.met new h.places h.seen h.used is (wants_memory (entries_of h.met.history) x h.places (no_request h.met.places) at_most)
+  call_steps old met new is (missed h met_is) =
+      record { lawful = subst (HasLawful facts) (sym h.others) is; on = stays old new (ap (λ (p : Pass). p.places) h.others) }
+  call_steps old met new is (changed x reply proper changing h met_is) =
+      learning_steps old h.met new h.seen
+      (decides_lawful facts h.met x reply new (proper_here old x is proper) changing (learnt_lawful facts old h.met h.seen is) h.decides)
+      (decided_places h.met x reply new h.decides)
+  call_steps old met new is (wanted_to_change x proper h met_is) =
+      learning_steps old h.met new h.seen (left_lawful facts h.met new x.moment proper.moment (learnt_lawful facts old h.met h.seen is) h.left) (left_places h.met new x.moment h.left)
+  call_steps old met new is (kept_house clock before h met_is) =
+      learning_steps old h.met new h.seen (left_lawful facts h.met new clock before (learnt_lawful facts old h.met h.seen is) (inr h.kept)) (left_places h.met new clock (inr h.kept))
+  call_steps old met new is (wanted_to_keep_house clock before h met_is) =
+      learning_steps old h.met new h.seen (left_lawful facts h.met new clock before (learnt_lawful facts old h.met h.seen is) h.left) (left_places h.met new clock h.left)
+  call_steps old met new is (learnt h met_is) = learning_steps old new new h (learnt_lawful facts old new h is) refl
+  call_steps old met new is (changed_at_desk x reply proper changing h met_is) =
+      record { lawful = decides_lawful facts old x reply new (proper_here old x is proper) changing is h; on = stays old new (decided_places old x reply new h) }
+  call_steps old met new is (kept_house_at_desk clock before h met_is) =
+      record { lawful = left_lawful facts old new clock before is h; on = stays old new (left_places old new clock h) }
+
+  goes_after : (from to last : Places) → PassGoesOn facts from to → PassGoesOn facts to last → PassGoesOn facts from last
+  goes_after from to last on (no_request places) = on
+  goes_after from to last on (one_request history x more) = one_request history x (goes_after from to _ on more)
+  goes_after from to last on (wants_memory history x left more within) = wants_memory history x left (goes_after from to _ on more) within
+
+  calls_steps : (first last : Pass) → HasLawful facts first → Calls first last → Steps facts first last
+  calls_steps first last is no_call = record { lawful = is; on = no_request first.places }
+  calls_steps first last is (one_more {old = old} met calls call) =
+      let so_far = calls_steps first old is calls in
+      let here = call_steps old met last so_far.lawful call in
+      record { lawful = here.lawful; on = goes_after first.places old.places last.places so_far.on here.on }
+
+  same_number : (from to : Places) → PassGoesOn facts from to → to.number ≡ from.number
+  same_number from to (no_request places) = refl
+  same_number from to (one_request {to = mid} history x on) = (decide_goes_on facts history x mid).number ∙ same_number from mid on
+  same_number from to (wants_memory {to = mid} history x left on within) = within.number ∙ same_number from mid on
+
+pub calls_lawful : CallsKeepLawful
+calls_lawful first last calls lawful =
+    let steps = calls_steps first.facts first last (refl, lawful) calls in
+    (steps.lawful.0, subst (λ (f : RealmFacts). IsLawful f (entries_of last.history)) (sym steps.lawful.0) steps.lawful.1)
+
+-- ---- initialization vectors
+
+-- where a call that sealed stood, and where it left the pass
+record Stands (facts : RealmFacts) (s t : Pass) (sealing : Sealing) : Type 0 where
+  history : List Entry
+  request : Ask
+  sealed : HasSealed facts history request s.places sealing
+  lawful : IsLawful facts history
+  leaves : t.places ≡ (decide facts history request s.places).places
+  after : HasLawful facts t
+
+stands : (facts : RealmFacts) (s t : Pass) (sealing : Sealing) → HasLawful facts s → Seals s t sealing → Stands facts s t sealing
+stands facts s t sealing is h =
+    let met = h.reads.met in
+    let there = read_lawful facts s met h.reads.seen is in
+    let at : met.places ≡ s.places = ap (λ (p : Pass). p.places) h.reads.seen.others in
+    let sealed : HasSealed facts (entries_of met.history) h.request met.places sealing =
+    subst (λ (f : RealmFacts). HasSealed f (entries_of met.history) h.request met.places sealing) there.0 h.sealed in
+    record {
+      history = entries_of met.history;
+      request = h.request;
+      sealed = subst (λ (p : Places). HasSealed facts (entries_of met.history) h.request p sealing) at sealed;
+      lawful = there.1;
+      leaves = ap (λ (p : Pass). p.places) h.reads.used ∙ ap (λ (f : RealmFacts). (decide f (entries_of met.history) h.request met.places).places) there.0
+          ∙ ap (λ (p : Places). (decide facts (entries_of met.history) h.request p).places) at;
+      after = subst (HasLawful facts) (sym h.reads.used) there;
+    }
+
+pub not_twice : OnePassRepeatsNoIv → NoVectorOfOnePassTwice
+not_twice law s t u v one other lawful seals calls again =
+    let facts : RealmFacts = s.facts in
+    let here = stands facts s t one (refl, lawful) seals in
+    let steps = calls_steps facts t u here.after calls in
+    let later = stands facts u v other steps.lawful again in
+    law facts here.history later.history here.request later.request s.places u.places one other here.lawful later.lawful here.sealed later.sealed
+    (subst (λ (p : Places). PassGoesOn facts p u.places) here.leaves steps.on)
+
+-- a pass that began anew, and what it seals
+module _ (facts : RealmFacts) (p n : ℕ) (s t : Pass) (sealing : Sealing) (calls : Calls (fresh_pass facts p n) s) (seals : Seals s t sealing) where
+  begun : Steps facts (fresh_pass facts p n) s
+  begun = calls_steps facts (fresh_pass facts p n) s (refl, empty) calls
+
+  began : Stands facts s t sealing
+  began = stands facts s t sealing begun.lawful seals
+
+  numbered : s.places.number ≡ n
+  numbered = same_number facts (fresh_pass facts p n).places s.places begun.on
+
+pub not_of_two : PassesShareNoIv → NoVectorOfTwoPasses
+not_of_two law facts p n m s t u v one other fits fits_too apart calls seals more again =
+    let here = began facts p n s t one calls seals in
+    let there = began facts p m u v other more again in
+    let first = numbered facts p n s t one calls seals in
+    let second = numbered facts p m u v other more again in
+    law facts here.history there.history here.request there.request s.places u.places one other here.lawful there.lawful here.sealed there.sealed
+    (subst (λ (i : ℕ). i < 2 ^ 16) (sym first) fits) (subst (λ (i : ℕ). i < 2 ^ 16) (sym second) fits_too) (λ same. apart (sym first ∙ same ∙ second))
+
+pub not_over_boots : BootsShareNoIv → NoVectorOfTwoBoots
+not_over_boots law facts later_facts p q n m s t u v one other fits fits_too apart calls seals more again =
+    let here = began facts p n s t one calls seals in
+    let there = began later_facts q m u v other more again in
+    law facts later_facts here.history there.history here.request there.request s.places u.places one other here.lawful there.lawful here.sealed there.sealed fits fits_too apart
+
+-- ---- dropped grants
+
+prefix_entries : (xs ys : List (Entry × ℕ)) → IsPrefix xs ys → IsPrefix (entries_of xs) (entries_of ys)
+prefix_entries xs ys (more, is) = (entries_of more, sym (map-append (λ (made : Entry × ℕ). made.0) xs more) ∙ ap entries_of is)
+
+module _ (law : DroppedGrantsStayAway) (first : Pass) (history more : List Entry) (entry : Entry) (grant : List ℕ)
+    (seen : entries_of first.history ≡ (history ++ entry ∷ []) ++ more) (drops : entry.what ≡ what.GrantDrop grant) where
+  away : (s : Pass) → On first s → HasLawful first.facts s → grant_with (replay (entries_of s.history)).grants grant ≡ None
+  away s on is =
+      let begins = prefix_entries first.history s.history on in
+      let same : (history ++ entry ∷ []) ++ (more ++ begins.0) ≡ entries_of s.history =
+      sym (append_assoc (history ++ entry ∷ []) more begins.0) ∙ ap (λ (h : List Entry). h ++ begins.0) (sym seen) ∙ begins.1 in
+      subst (λ (h : List Entry). grant_with (replay h).grants grant ≡ None) same (law first.facts history (more ++ begins.0) entry grant (subst (IsLawful first.facts) (sym same) is.1) drops)
+
+  away_at : (old new : Pass) (answered : List Entry) → On first old → HasLawful first.facts old → AnswersAt old answered new → grant_with (replay answered).grants grant ≡ None
+  away_at old new answered on is (at_front x reply h at) =
+      subst (λ (entries : List Entry). grant_with (replay entries).grants grant ≡ None) (sym at)
+      (away h.met (on_trans first old h.met on h.seen.history) (read_lawful first.facts old h.met h.seen is))
+  away_at old new answered on is (at_desk x reply proper h at) =
+      let house : Pass = keeping_house h.met x.moment in
+      subst (λ (entries : List Entry). grant_with (replay entries).grants grant ≡ None) (sym at)
+      (away house (on_trans first old house on (on_trans old h.met house h.seen.history (house_on h.met x.moment)))
+      (house_lawful first.facts h.met x.moment proper.moment (learnt_lawful first.facts old h.met h.seen is)))
+
+pub stays_away : DroppedGrantsStayAway → DroppedStaysAwayFromPasses
+stays_away law first old new history more answered entry grant lawful seen drops calls =
+    let on = fronts first old calls in
+    let is = (calls_steps first.facts first old (refl, lawful) calls).lawful in
+    (away law first history more entry grant seen drops old on is, λ at. away_at law first history more entry grant seen drops old new answered on is at)

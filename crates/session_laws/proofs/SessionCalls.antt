@@ -1,0 +1,178 @@
+-- What sessions and workers do is calls of their passes; so what holds of calls holds of a run.
+use Rattle.std.proofs.Common.{◌≡◌, ◌<◌, ℕ, List, [], ◌∷◌, ◌++◌, Bool, map, All, Result, Ok, Err, refl, sym, ap, ◌∙◌, subst, zero, suc, true}
+use Rattle.std.proofs.lemmas.List.Elements.{All-append}
+use Rattle.kms_names.specs.Moment.{year_10000}
+use Rattle.kms_names.specs.Principal.{account_of}
+use Rattle.kms_names.specs.declared.principals.Principal.{Principal}
+use Rattle.kms_json.specs.declared.asks.Ask.{Ask}
+use Rattle.kms_json.specs.declared.asks.AskBody.{AskBody}
+use Rattle.kms_json.specs.declared.refusals.Refusal.{Refusal}
+use Rattle.account_steps.specs.declared.facts.RealmFacts.{RealmFacts}
+use Rattle.account_steps.specs.History.{Entry}
+use Rattle.account_core.specs.Decide.{IsProper}
+use Rattle.account_laws.proofs.LawFacts.{no_iv_again as account_law}
+use Rattle.http_front.specs.Heading.{values_of}
+use Rattle.http_front.specs.Message.{Message}
+use Rattle.std.proofs.Common.{codes}
+use Rattle.sigv4_check.specs.declared.faults.AuthFault.{AuthFault}
+use Rattle.published_account.specs.Answers.{Answer}
+use Rattle.publish_pass.specs.Pass.{Pass, Learns, fresh_pass, fresh_passes}
+use Rattle.pass_laws.specs.Calls.{Call, read, wanted_to_read, changed, wanted_to_change, wanted_to_keep_house, learnt, Calls, no_call, one_more}
+use Rattle.pass_laws.proofs.CallFacts.{calls_facts, calls_append, calls_lawful, not_twice}
+use Rattle.kms_session.specs.Asked.{asked_once, asked_in, after_in}
+use Rattle.kms_session.specs.declared.asked.After.{After}
+use Rattle.kms_session.specs.declared.asked.After.TheVariants.{Entries, Malformed}
+use Rattle.kms_session.specs.declared.trust.Trust.{Trust}
+use Rattle.kms_session.specs.declared.session.SessionEnd.{SessionEnd}
+use Rattle.kms_session.specs.declared.session.SessionEnd.TheVariants.{Ended, Closed, CutOff, ReadFault, WriteFault, NoMemory}
+use Rattle.kms_session.specs.Callers.{caller_of, IsOfAccount}
+use Rattle.kms_session.specs.Run.{Item, whole, fault, asks, planned, planned_by, plan_of, Answers, early, reads, changes, Wanting, wants_nothing, wants_read, wants_change, Replies, answers, wants_memory, SessionRun, begins, goes_on}
+use Rattle.kms_session.specs.Session.{Outside, EndsBy}
+use Rattle.kms_session.proofs.AskedLemmas.{once_asked}
+use Rattle.kms_session.proofs.Signers.{caller_is_of}
+use Rattle.kms_server.specs.Work.{WorkerState, Attends, TakesOne, WorkerRun, begins as starts, goes_on as takes, Works, takes_all, gives_up}
+use Rattle.kms_server.specs.Crew.{Pairwise, none, both, Settles}
+use Rattle.session_laws.specs.Calls.{TurnsAreCalls, RunsAreCalls, SessionsAreCalls, WorkersAreCalls, ServersAreCalls}
+use Rattle.session_laws.specs.Laws.{RunsKeepLawful, OneSessionRepeatsNoIv}
+
+-- ---- a request of a session is proper
+
+module _ (facts : RealmFacts) (c : ℕ) (before : c < year_10000) (x : Ask) where
+  proper_of : (caller : Principal) → account_of caller ≡ facts.account → (values : List (List ℕ)) (text : List ℕ) (r : Result AskBody Refusal) (after : After)
+      → asked_once values text ≡ r → planned caller c r after ≡ asks x → IsProper facts x
+  proper_of caller of values text (Ok body) (Entries after) is e =
+      let same : ◌≡◌ {A = Ask} (record { body = body; caller = caller; moment = c; after = after }) x = cc in
+      let target = once_asked values text body is in
+      subst (IsProper facts) same (record { target = target.0; text = text; body = target.1; caller = of; moment = before })
+  proper_of caller of values text (Ok body) Malformed is e = cc
+  proper_of caller of values text (Err refusal) after is e = cc
+
+  proper_by : (trust : Trust) (region : List ℕ) (m : Message) (r : Result Principal AuthFault) → IsOfAccount facts.account trust → caller_of trust region m c ≡ r
+      → planned_by r m c ≡ asks x → IsProper facts x
+  proper_by trust region m (Ok caller) of is e =
+      proper_of caller (caller_is_of facts.account trust region m c caller of is) (values_of (codes "X-Amz-Target") m.head) m.body (asked_in m) (after_in m) refl e
+  proper_by trust region m (Err why) of is e = cc
+
+  proper_item : (trust : Trust) (region : List ℕ) (item : Item) → IsOfAccount facts.account trust → plan_of trust region item c ≡ asks x → IsProper facts x
+  proper_item trust region (whole m) of e = proper_by trust region m (caller_of trust region m c) of refl e
+  proper_item trust region (fault why) of e = cc
+
+-- ---- a turn
+
+one_call : (s t : Pass) (met : List (Entry × ℕ)) → Call s met t → Calls s t
+one_call s t met call = one_more met no_call call
+
+stays : (s t : Pass) → t ≡ s → Calls s t
+stays s t same = subst (Calls s) (sym same) no_call
+
+learns : (s t : Pass) → Learns s t → Calls s t
+learns s t is = one_call s t t.history (learnt is refl)
+
+module _ (trust : Trust) (item : Item) (c : ℕ) (before : c < year_10000) (s : Pass) (of : IsOfAccount s.facts.account trust) where
+  proper_here : (x : Ask) → plan_of trust s.facts.region item c ≡ asks x → IsProper s.facts x
+  proper_here x plan = proper_item s.facts c before x trust s.facts.region item of plan
+
+  answer_calls : (answer : Answer) (t : Pass) → Answers s (plan_of trust s.facts.region item c) answer t → Calls s t
+  answer_calls answer t (early plan same) = stays s t same
+  answer_calls answer t (reads x reply plan which h gives) = one_call s t h.met.history (read x reply (proper_here x plan) which h refl)
+  answer_calls answer t (changes x reply plan which h gives) = one_call s t h.met.history (changed x reply (proper_here x plan) which h refl)
+
+  wanting_calls : (t : Pass) → Wanting s (plan_of trust s.facts.region item c) t → Calls s t
+  wanting_calls t (wants_nothing same) = stays s t same
+  wanting_calls t (wants_read x plan which h) = one_call s t h.met.history (wanted_to_read x (proper_here x plan) which h refl)
+  wanting_calls t (wants_change x plan which h) = one_call s t h.met.history (wanted_to_change x (proper_here x plan) h refl)
+
+  turn_calls : (closes : Bool) (text : List ℕ) (t : Pass) → Replies s (plan_of trust s.facts.region item c) c closes text t → Calls s t
+  turn_calls closes text t (answers answer h is) = answer_calls answer t h
+  turn_calls closes text t (wants_memory h is) = wanting_calls t h
+
+pub turns_are_calls : TurnsAreCalls
+turns_are_calls trust item c closes text s t of before turn = turn_calls trust item c before s of closes text t turn
+
+-- ---- a run, a session
+
+still_of : (trust : Trust) (s t : Pass) → IsOfAccount s.facts.account trust → t.facts ≡ s.facts → IsOfAccount t.facts.account trust
+still_of trust s t of same = subst (λ (f : RealmFacts). IsOfAccount f.account trust) (sym same) of
+
+run_calls : (trust : Trust) (start end : Pass) (items : List Item) (clocks text : List ℕ) → IsOfAccount start.facts.account trust → SessionRun start trust end items clocks text → Calls start end
+run_calls trust start end items clocks text of begins = no_call
+run_calls trust start end items clocks text of (goes_on {old = old} item c before run turn) =
+    let so_far = run_calls trust start old _ _ _ of run in
+    calls_append start old end so_far (turn_calls trust item c before old (still_of trust start old of (calls_facts start old so_far)) _ _ end turn)
+
+pub runs_are_calls : RunsAreCalls
+runs_are_calls trust start end items clocks text of run = run_calls trust start end items clocks text of run
+
+pub sessions_are_calls : SessionsAreCalls
+sessions_are_calls trust Ended old new of is = run_calls trust old.pass new.pass _ _ _ of is.serves.run
+sessions_are_calls trust Closed old new of is = run_calls trust old.pass new.pass _ _ _ of is.serves.run
+sessions_are_calls trust CutOff old new of is = run_calls trust old.pass new.pass _ _ _ of is.serves.run
+sessions_are_calls trust ReadFault old new of is = run_calls trust old.pass new.pass _ _ _ of is.serves.run
+sessions_are_calls trust WriteFault old new of is =
+    let so_far = run_calls trust old.pass is.so_far.pass _ _ _ of is.serves.run in
+    calls_append old.pass is.so_far.pass new.pass so_far
+    (turn_calls trust is.item is.c is.before_year_10000 is.so_far.pass (still_of trust old.pass is.so_far.pass of (calls_facts old.pass is.so_far.pass so_far)) _ _ new.pass is.turn)
+sessions_are_calls trust NoMemory old new of is = stays old.pass new.pass (ap (λ (o : Outside). o.pass) is)
+
+-- ---- a worker
+
+attends_calls : (trust : Trust) (old new : WorkerState) (wire : _) → IsOfAccount old.pass.facts.account trust → Attends trust old wire new → Calls old.pass new.pass
+attends_calls trust old new wire of is =
+    let first = learns old.pass is.met is.learns in
+    let session = sessions_are_calls trust is.end _ _ (still_of trust old.pass is.met of (calls_facts old.pass is.met first)) is.ends in
+    calls_append old.pass is.left new.pass (calls_append old.pass is.met is.left first session)
+    (one_call is.left new.pass is.house.met.history (wanted_to_keep_house is.moment is.before_year_10000 is.house refl))
+
+takes_calls : (trust : Trust) (old new : WorkerState) → IsOfAccount old.pass.facts.account trust → TakesOne trust old new → Calls old.pass new.pass
+takes_calls trust old new of is = subst (λ (w : WorkerState). Calls old.pass w.pass) (sym is.one_more) (attends_calls trust _ is.served is.wire of is.attends)
+
+worker_calls : (trust : Trust) (start end : WorkerState) → IsOfAccount start.pass.facts.account trust → WorkerRun trust start end → Calls start.pass end.pass
+worker_calls trust start end of starts = no_call
+worker_calls trust start end of (takes {old = old} run one) =
+    let so_far = worker_calls trust start old of run in
+    calls_append start.pass old.pass end.pass so_far (takes_calls trust old end (still_of trust start.pass old.pass of (calls_facts start.pass old.pass so_far)) one)
+
+pub workers_are_calls : WorkersAreCalls
+workers_are_calls trust connections start end of (takes_all run size back) = worker_calls trust start end of run
+workers_are_calls trust connections start end of (gives_up {last = last} run size up) =
+    subst (λ (w : WorkerState). Calls start.pass w.pass) (sym up.others) (worker_calls trust start last of run)
+
+-- ---- a server
+
+same_facts : (facts : RealmFacts) (passes n : ℕ) → All (λ (pass : Pass). pass.facts ≡ facts) (fresh_passes facts passes n)
+same_facts facts passes zero = tt
+same_facts facts passes (suc n) = All-append (λ (pass : Pass). pass.facts ≡ facts) (fresh_passes facts passes n) (fresh_pass facts passes (suc n) ∷ []) (same_facts facts passes n) (refl, tt)
+
+module _ (facts : RealmFacts) (trust : Trust) (connections : ℕ) (of : IsOfAccount facts.account trust) where
+  abbrev Did : Pass → WorkerState → Type 0
+  Did first worker = Calls first worker.pass
+
+  crew_calls : (crew ends last : List WorkerState) → All (λ (pass : Pass). pass.facts ≡ facts) (map (λ (w : WorkerState). w.pass) crew) → Pairwise (Works trust connections) crew ends
+      → Pairwise Settles ends last → Pairwise Did (map (λ (w : WorkerState). w.pass) crew) last
+  crew_calls crew ends last same none none = none
+  crew_calls crew ends last same (both {x = first} {y = end} work works) (both {y = settled} settles all) =
+      let here : IsOfAccount first.pass.facts.account trust = subst (λ (f : RealmFacts). IsOfAccount f.account trust) (sym same.0) of in
+      both (calls_append first.pass end.pass settled.pass (workers_are_calls trust connections first end here work) (learns end.pass settled.pass settles.learns))
+      (crew_calls _ _ _ same.1 works all)
+
+pub servers_are_calls : ServersAreCalls
+servers_are_calls facts trust wanted served old new of is =
+    let are = is.is_crew.passes_are in
+    let fresh : List Pass = fresh_passes facts wanted.workers wanted.workers in
+    let same : All (λ (pass : Pass). pass.facts ≡ facts) (map (λ (w : WorkerState). w.pass) is.crew) =
+    subst (All (λ (pass : Pass). pass.facts ≡ facts)) (sym are) (same_facts facts wanted.workers wanted.workers) in
+    subst (λ (passes : List Pass). Pairwise (λ (first : Pass) (worker : WorkerState). Calls first worker.pass) passes is.finishes.last) are
+    (crew_calls facts trust wanted.connections of is.crew is.ends is.finishes.last same is.work is.finishes.settles)
+
+-- ---- what holds of calls
+
+pub keeps_lawful : RunsKeepLawful
+keeps_lawful trust start end items clocks text run of lawful = calls_lawful start end (run_calls trust start end items clocks text of run) lawful
+
+pub no_iv_again : OneSessionRepeatsNoIv
+no_iv_again trust s t u v first second c d items clocks text one other of lawful seals run again =
+    let facts_are : t.facts ≡ s.facts = ap (λ (p : Pass). p.facts) seals.reads.used ∙ ap (λ (p : Pass). p.facts) seals.reads.seen.others in
+    not_twice account_law s t u v one other lawful
+    (record { request = seals.request; reply = seals.reply; reads = seals.reads; sealed = seals.sealed })
+    (run_calls trust t u items clocks text (still_of trust s t of facts_are) run)
+    (record { request = again.request; reply = again.reply; reads = again.reads; sealed = again.sealed })
