@@ -86,7 +86,7 @@ where
     work_each(host, crew);
 }
 
-// Lets a worker's pass learn the whole history.
+// Lets a worker's pass learn what the desk holds.
 fn settle<W: Wait, R: Realm, E: Ear, C: Clock + Drop>(
     rt: &W,
     service: &Service<R>,
@@ -97,7 +97,7 @@ fn settle<W: Wait, R: Realm, E: Ear, C: Clock + Drop>(
     worker.pass.settle(rt, service);
 }
 
-/// Lets each worker's pass learn the whole history.
+/// Lets each worker's pass learn what the desk holds.
 pub fn settle_all<W: Wait, R: Realm, E: Ear, C: Clock + Drop>(
     rt: &W,
     service: &Service<R>,

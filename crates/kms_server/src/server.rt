@@ -51,7 +51,7 @@ pub enum Outcome {
     NoMemory,
 }
 
-// Ends the work of a crew: its passes learn the whole history, and its ears and clocks are put before those that
+// Ends the work of a crew: its passes learn what the desk holds, the first what the others hold, and its ears and clocks are put before those that
 // there are.
 fn finish<W: Wait, R: Realm, E: Ear, C: Clock + Drop>(
     rt: &W,

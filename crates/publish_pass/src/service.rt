@@ -189,8 +189,12 @@ impl<R: Realm> Pass<R> {
         unreachable!()
     }
 
-    /// Learns the whole published history, which is that of the desk. Where the service has one pass, it held
-    /// that before, and made all its entries. It takes no memory.
+    /// Learns what the desk holds. The pass then holds more of the history, or as much, and nothing else of it
+    /// changes. Where the service has one pass, there was nothing to learn, and it made all entries. It takes no
+    /// memory.
+    ///
+    /// That a pass among several then holds all that was published is said by no clause, since others may publish
+    /// more as soon as the desk's lock is left.
     pub fn settle<W: Wait>(&mut self, rt: &W, service: &Service<R>)
         ensures all { LearnsAll self.old self.new }
         ensures passes { self.new.passes ≡ R.passes }
@@ -203,12 +207,14 @@ impl<R: Realm> Pass<R> {
         unreachable!()
     }
 
-    /// Leaves what this pass knows on the board. It takes no memory.
+    /// Leaves what this pass knows on the board, for passes that catch up. The pass stays as it is; what lies on
+    /// the board is said by no clause. It takes no memory.
     pub fn post<W: Wait>(&self, rt: &W, service: &Service<R>) {
         service.board.lock(rt).add(&self.tell());
     }
 
-    /// Learns what the board holds. It takes no memory.
+    /// Learns what lies on the board. The pass then holds more of the history, or as much, and nothing else of it
+    /// changes; how much more is said by no clause. It takes no memory.
     pub fn catch_up<W: Wait>(&mut self, rt: &W, service: &Service<R>)
         ensures { Learns self.old self.new }
     {

@@ -1,7 +1,0 @@
-use Rattle.std.proofs.Common.{List, ℕ, ◌∙◌, subst}
-use Rattle.kms_local.specs.Program.{SaysLine}
-use Rattle.kms_local.proofs.lines.say_refused_at.Goals as goal
-
-pub returns-clause-said : goal.returns-clause-said
-returns-clause-said g c =
-    subst (λ (line : List ℕ). SaysLine line (g.L.Link.shows c.args.link.now) (g.L.Link.shows c.say.new.link)) (c.as_bytes.ensures.value ∙ c.in_ok-line.ensures) c.say.ensures

@@ -1,0 +1,71 @@
+-- What the program comes to where nothing disturbs it.
+use Rattle.std.specs.Prelude.{◌≡◌, ℕ, List, Bool, Option, None, Some, length}
+use Rattle.kms_io.specs.Wire.{Wire, RoseBy}
+use Rattle.kms_config.specs.declared.config.Config.{Config}
+use Rattle.kms_session.specs.Run.{Item}
+use Rattle.kms_session.specs.Session.{outside, SendsWhole}
+use Rattle.kms_session.specs.Complete.{IsAsked, AnswersEach}
+use Rattle.kms_words.specs.Words.{Command, run, run_file, check, serve, load}
+use Rattle.publish_pass.specs.Pass.{Pass, fresh_pass}
+use Rattle.kms_workload.specs.Summary.{Summarizes}
+use Rattle.kms_program.specs.declared.settings.Settings.{Settings}
+use Rattle.kms_program.specs.Settings.{IsSettings, IsConfigured}
+use Rattle.kms_program.specs.Files.{IsFileOf}
+use Rattle.kms_program.specs.Statuses.{well, refused, no_memory}
+use Rattle.kms_program.specs.Program.{Around, Everything, one_of, checked_line}
+
+-- neither count of the link's faults rises, nor that of the files'
+pub record IsCalm (old new : Around) : Type 0 where
+  pub reads : ¬ (RoseBy 1 old.wire.read_faults new.wire.read_faults)
+  pub writes : ¬ (RoseBy 1 old.wire.write_faults new.wire.write_faults)
+  pub files : ¬ (RoseBy 1 old.shelf.faults new.shelf.faults)
+
+-- A session was served with these settings from an empty history, each of these messages was answered, once and in order, and nothing
+-- else was written. The status is 0.
+pub record ServesEach (items : List Item) (settings : Settings) (status : ℕ) (old new : Around) : Type 0 where
+  pub pass : Pass
+  pub each : AnswersEach settings.trust items (outside old.wire old.clock (fresh_pass settings.facts 1 1)) (outside new.wire new.clock pass)
+  pub status_is : status ≡ well
+
+-- so it is with the right settings; or the configuration, or a value, was refused; or memory was wanting, and nothing was taken from the
+-- link or written
+pub data ComesTo (IsRight : Settings → Type 0) (items : List Item) (status : ℕ) (old new : Around) : Type 0 where
+  serves_each : (settings : Settings) → IsRight settings → ServesEach items settings status old new → ComesTo IsRight items status old new
+  is_refused : status ≡ refused → ComesTo IsRight items status old new
+  is_starved : status ≡ no_memory → new.wire ≡ old.wire → ComesTo IsRight items status old new
+
+-- whatever whole messages the link has to give, or some up to one that closes
+abbrev pub RunCompletes : (Settings → Type 0) → ℕ → Around → Around → Type 0
+RunCompletes IsRight status old new =
+    (input : List ℕ) (closes : Bool) (items : List Item) → IsCalm old new → old.wire.left ≡ Some input → IsAsked input closes items → ComesTo IsRight items status old new
+
+-- the settings of a file, with the caller who is told
+pub record IsOfFile (old : Around) (file : List ℕ) (caller : Option (List ℕ)) (settings : Settings) : Type 0 where
+  pub config : Config
+  pub is : IsFileOf old.shelf file config
+  pub configured : IsConfigured config caller settings
+
+-- `check` writes the line of the file's numbers whole
+pub record TellsNumbers (old : Around) (file : List ℕ) (before after : Wire) : Type 0 where
+  pub config : Config
+  pub is : IsFileOf old.shelf file config
+  pub tells : SendsWhole before after (checked_line (length config.credentials) (length config.facts.identities))
+
+pub data CheckComesTo (file : List ℕ) (status : ℕ) (old new : Around) : Type 0 where
+  tells_numbers : TellsNumbers old file old.wire new.wire → status ≡ well → CheckComesTo file status old new
+  is_no_config : status ≡ refused → CheckComesTo file status old new
+  has_no_memory : status ≡ no_memory → CheckComesTo file status old new
+
+-- `load` writes its lines whole
+pub data LoadComesTo (seed requests status : ℕ) (old new : Wire) : Type 0 where
+  sums_up : (lines : List ℕ) → Summarizes seed requests lines → SendsWhole old new lines → status ≡ well → LoadComesTo seed requests status old new
+  lacks_memory : status ≡ no_memory → LoadComesTo seed requests status old new
+
+-- what a command comes to; of a server each connection says it
+abbrev pub Completes : Option Command → ℕ → Around → Around → Type 0
+Completes None status old new = Unit {0}
+Completes (Some (run values)) status old new = RunCompletes (IsSettings values) status old new
+Completes (Some (run_file file caller)) status old new = RunCompletes (IsOfFile old file caller) status old new
+Completes (Some (check file)) status old new = IsCalm old new → CheckComesTo file status old new
+Completes (Some (serve values)) status old new = Unit {0}
+Completes (Some (load seed requests)) status old new = IsCalm old new → LoadComesTo seed requests status old.wire new.wire

@@ -1,0 +1,14 @@
+//! All that the program `kms_local` does, over traits for its connections, clocks, files and door.
+#![tactic(auto)]
+
+mod configs;
+mod files;
+mod lines;
+mod loading;
+mod program;
+mod serving;
+mod settings;
+mod statuses;
+
+pub use program::kms_main;
+pub use statuses::NO_MEMORY;
