@@ -3,3 +3,4 @@ pub mod Parts
 pub mod Heads
 pub mod Answering
 pub mod ManyLines
+pub mod OneHead

@@ -3,6 +3,7 @@ use Rattle.std.specs.Prelude.{◌≡◌, ◌≢◌, ◌⊎◌, ◌<◌, ◌==◌
 use Rattle.httparse.specs.Grammar.{RequestHead, NeverHasRequest}
 use Rattle.http_front.specs.declared.judge.HttpFault.{HttpFault}
 use Rattle.http_front.specs.Heading.{heading_of}
+use Rattle.http_front.specs.Head.{IsHead}
 use Rattle.http_front.specs.Judge.{judged}
 use Rattle.http_front.specs.Message.{Message, HasHead, IsMessage, Awaits, IsOpen, IsRefused, IsCrowded}
 
@@ -69,3 +70,9 @@ OneFault =
 
 abbrev pub OneAnswer : Type 0
 OneAnswer = (bytes : List ℕ) → IsOneAnswer bytes
+
+-- ---- one head
+
+-- a status, the size of a body, a second, a number of entries, and whether the connection closes have one head
+abbrev pub OneHead : Type 0
+OneHead = (status size second front : ℕ) (closes : Bool) (text other : List ℕ) → IsHead status size second front closes text → IsHead status size second front closes other → text ≡ other

@@ -1,5 +1,5 @@
 // What follows from the definitions alone.
-ghost use Rattle.http_front.specs.Laws.{OneMessage, OneAnswer, OneFault, StillAwaited, CrowdedHasManyLines};
+ghost use Rattle.http_front.specs.Laws.{OneMessage, OneAnswer, OneFault, StillAwaited, CrowdedHasManyLines, OneHead};
 
 /// No message begins another: bytes begin with one message at most, and a stream is cut in one way.
 pub fn one_message()
@@ -27,4 +27,10 @@ pub fn one_fault()
 /// of one more that isn't empty: a request line and more than 64 headers.
 pub fn crowded_has_many_lines()
     ensures { CrowdedHasManyLines }
+{}
+
+/// A status, the size of a body, a second, a number of entries, and whether the connection closes have one head:
+/// two texts that are the head of the same are one.
+pub fn one_head()
+    ensures { OneHead }
 {}

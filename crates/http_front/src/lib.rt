@@ -11,5 +11,7 @@ mod parsed;
 
 pub use head::{Head, write_head};
 pub use judge::HttpFault;
-pub use laws::{crowded_has_many_lines, one_answer, one_fault, one_message, still_awaited};
+pub use laws::{
+    crowded_has_many_lines, one_answer, one_fault, one_head, one_message, still_awaited,
+};
 pub use message::{Cut, Step, next_message};

@@ -119,6 +119,7 @@ const SCENES: &[Scene<'static>] = &[
 
 // What comes on the link, and what is to be answered, in two parts each: the messages and the replies of CreateKey
 // and of DescribeKey.
+#[derive(Drop)]
 struct Exchange {
     make: String,
     look: String,

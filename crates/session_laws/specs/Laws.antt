@@ -7,7 +7,9 @@ use Rattle.kms_json.specs.declared.asks.Ask.{Ask}
 use Rattle.kms_json.specs.declared.replies.Reply.{Reply}
 use Rattle.account_core.specs.Decide.{IsLawful}
 use Rattle.account_laws.specs.Laws.{Sealing, HasSealed, iv_in}
+use Rattle.published_account.specs.Answers.{Answer}
 use Rattle.published_account.specs.Pairs.{entries_of}
+use Rattle.kms_session.specs.Answers.{IsReplyText}
 use Rattle.publish_pass.specs.Pass.{Pass, Reads}
 use Rattle.kms_session.specs.declared.session.SessionEnd.{SessionEnd}
 use Rattle.kms_session.specs.Run.{Item, fault, Cuts, Turn, SessionRun, plan_of, asks}
@@ -65,3 +67,7 @@ OneSessionRepeatsNoIv =
     → IsOfAccount s.facts.account trust → IsLawful s.facts (entries_of s.history)
     → SealsAt trust first c s t one → SessionRun t trust u items clocks text → SealsAt trust second d u v other
     → iv_in one.blob ≢ iv_in other.blob
+
+-- an answer at a second and a number of entries has one text
+abbrev pub OneReplyText : Type 0
+OneReplyText = (answer : Answer) (second front : ℕ) (closes : Bool) (text other : List ℕ) → IsReplyText answer second front closes text → IsReplyText answer second front closes other → text ≡ other

@@ -1,11 +1,17 @@
 // What follows from the definitions alone.
 ghost use Rattle.session_laws.specs.Calls.{TurnsAreCalls, RunsAreCalls, SessionsAreCalls, WorkersAreCalls, ServersAreCalls};
-ghost use Rattle.session_laws.specs.Laws.{OneCut, OneEnd, EachMessageIsAnswered, RunsKeepLawful, TurnsGoOn, RunsGoOn, OneSessionRepeatsNoIv};
+ghost use Rattle.session_laws.specs.Laws.{OneCut, OneEnd, OneReplyText, EachMessageIsAnswered, RunsKeepLawful, TurnsGoOn, RunsGoOn, OneSessionRepeatsNoIv};
 
 /// A stream is cut into messages in one way: two cuts into as many items have the same rest and the same items,
 /// but that bytes of which no head can come may bear another fault.
 pub fn one_cut()
     ensures { OneCut }
+{}
+
+/// A reply has one text: an answer, a second, a number of entries, and whether the connection closes, determine each
+/// of its bytes. So a turn that is answered is answered with that text alone.
+pub fn one_reply_text()
+    ensures { OneReplyText }
 {}
 
 /// Of the ends Ended, Closed and CutOff no two can hold of one session whose link tells the bytes
