@@ -5,3 +5,10 @@ mod DocumentFacts
 mod IdentityFacts
 mod ConfigFacts
 pub mod KindFacts
+mod JudgedFacts
+mod LeafFacts
+mod OrderFacts
+mod PartsJudged
+mod CredentialsJudged
+mod IdentitiesJudged
+mod ConfigJudged

@@ -5,4 +5,7 @@ pub mod Forms
 pub mod Credentials
 pub mod Identities
 pub mod Config
+pub mod Grammar
+pub mod Places
+pub mod Configurations
 pub mod Laws

@@ -7,6 +7,7 @@ ghost use Rattle.authority.specs.Setting.{callers_policies};
 ghost use Rattle.authority.specs.Allowed.{AreIdentityPolicies};
 ghost use Rattle.kms_config.specs.Answers.{Answers};
 ghost use Rattle.kms_config.specs.Config.{basics_in, credentials_at, identities_at, ceiling_at, lists_in, config_in, IsConfigOf, IsFaultOf};
+ghost use Rattle.kms_config.specs.Configurations.{IsConfiguration, IsFaultyBy, IsTaken, IsRefused};
 
 use crate::credentials::credentials_in;
 use crate::faults::ConfigFault;
@@ -204,6 +205,11 @@ pub fn read_config(alloc: Global, bytes: &[u8]) -> Result<Config, ConfigFault>
     ensures fault { IfErr result (IsFaultOf bytes.now) }
     ensures identity_policies { IfOk result (λ config. (caller : Principal) → AreIdentityPolicies (callers_policies config.facts.identities caller)) }
     ensures ceiling_policies { IfOk result (λ config. AreIdentityPolicies config.facts.ceiling) }
+    // The same by the grammar: what it answers is so, and what is so it answers where there is memory.
+    ensures configuration { IfOk result (IsConfiguration bytes.now) }
+    ensures first_fault { IfErr result (IsFaultyBy bytes.now) }
+    ensures taken { IsTaken bytes.now result }
+    ensures refused { IsRefused bytes.now result }
 {
     if bytes.len() > LONGEST {
         return refused_behind(alloc, &Path::Root, "/");

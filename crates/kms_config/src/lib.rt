@@ -13,4 +13,7 @@ mod places;
 pub use config::{Config, read_config};
 pub use faults::ConfigFault;
 pub use forms::if_of_account;
-pub use laws::configured_policies_are_of_identities;
+pub use laws::{
+    configurations_are_read, configured_policies_are_of_identities, other_members_in_byte_order,
+    values_are_judged_once,
+};
