@@ -13,6 +13,7 @@ mod configs;
 mod contexts;
 mod draws;
 mod globs;
+mod groups;
 mod keys;
 mod laws;
 mod macs;

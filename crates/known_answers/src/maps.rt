@@ -14,6 +14,7 @@ pub fn maps(case: &mut Case<'_>) {
     match case.word() {
         "made" => made(case),
         "changed" => changed(case),
+        "behind" => behind(case),
         "nested" => nested(case),
         _ => case.lose(),
     }
@@ -21,13 +22,15 @@ pub fn maps(case: &mut Case<'_>) {
 
 /// How many keys there are, and in which order they come.
 #[derive(Clone, Copy)]
-struct Order {
-    count: u64,
-    step: u64,
+pub struct Order {
+    /// How many there are.
+    pub count: u64,
+    /// How far each is from the one before it.
+    pub step: u64,
 }
 
 /// The order of the next two columns.
-fn read_order(case: &mut Case<'_>) -> Order {
+pub fn read_order(case: &mut Case<'_>) -> Order {
     let count = case.number();
     let step = case.number();
     Order { count, step }
@@ -35,7 +38,7 @@ fn read_order(case: &mut Case<'_>) -> Order {
 
 impl Order {
     /// The key at a place: an odd number.
-    fn key(self, place: u64) -> u64 {
+    pub fn key(self, place: u64) -> u64 {
         match place.wrapping_mul(self.step).checked_rem(self.count) {
             Some(rest) => rest.wrapping_mul(2).wrapping_add(1),
             None => 0,
@@ -44,7 +47,7 @@ impl Order {
 }
 
 /// The value of a key.
-fn value_of(key: u64) -> u64 {
+pub fn value_of(key: u64) -> u64 {
     key.wrapping_mul(3).wrapping_add(7)
 }
 
@@ -69,29 +72,43 @@ fn map_without(made: PMap<u64, u64>, order: Order, count: u64) -> Result<PMap<u6
 
 /// How many pairs there are, and a sum over all of them.
 #[derive(Clone, Copy)]
-struct Digest {
+pub struct Digest {
     count: u64,
     sum: u64,
 }
 
+impl Digest {
+    /// The digest of no pairs.
+    pub fn new() -> Digest {
+        Digest { count: 0, sum: 0 }
+    }
+
+    /// The digest with a pair more.
+    pub fn with_pair(self, key: u64, value: u64) -> Digest {
+        let sum = self.sum.wrapping_mul(31).wrapping_add(key);
+        Digest {
+            count: self.count.wrapping_add(1),
+            sum: sum.wrapping_mul(31).wrapping_add(value),
+        }
+    }
+}
+
 /// The digest of these pairs, behind another.
 fn with_pairs(digest: Digest, pairs: PFrom<'_, u64, u64>) -> Digest {
-    let mut count = digest.count;
-    let mut sum = digest.sum;
+    let mut digest = digest;
     for (key, value) in pairs {
-        count = count.wrapping_add(1);
-        sum = sum.wrapping_mul(31).wrapping_add(*key);
-        sum = sum.wrapping_mul(31).wrapping_add(*value);
+        digest = digest.with_pair(*key, *value);
     }
-    Digest { count, sum }
+    digest
 }
 
 /// The digest of these pairs.
 fn digest_of(pairs: PFrom<'_, u64, u64>) -> Digest {
-    with_pairs(Digest { count: 0, sum: 0 }, pairs)
+    with_pairs(Digest::new(), pairs)
 }
 
-fn put_digest(case: &mut Case<'_>, mark: &str, digest: Digest) {
+/// Writes a digest, with a mark before it.
+pub fn put_digest(case: &mut Case<'_>, mark: &str, digest: Digest) {
     let count = digest.count.to_string(case.alloc);
     let count = case.kept_or(count, String::new(case.alloc));
     case.put_after(mark, count.as_str());
@@ -167,6 +184,20 @@ fn changed(case: &mut Case<'_>) {
     case.put_number(without.len() as u64);
 }
 
+/// A map is made, and what stands behind keys in it is gone through.
+fn behind(case: &mut Case<'_>) {
+    let order = read_order(case);
+    let keys = case.word();
+    let alloc = case.alloc;
+    let map = case.kept_or(map_of(alloc, order), PMap::new(alloc));
+    put_digest(case, "; ", digest_of(map.behind(None)));
+    for key in keys.split(", ") {
+        let key = case.number_of(key);
+        put_digest(case, "; ", digest_of(map.above(&key)));
+        put_digest(case, " ", digest_of(map.behind(Some(key))));
+    }
+}
+
 /// A map of maps with a key in the inner one of its group.
 fn grown(
     alloc: Global,
@@ -202,7 +233,7 @@ fn nested(case: &mut Case<'_>) {
     let groups = case.number();
     let alloc = case.alloc;
     let map = case.kept_or(maps_of(alloc, order, groups), PMap::new(alloc));
-    let mut all = Digest { count: 0, sum: 0 };
+    let mut all = Digest::new();
     for (_group, inner) in map.iter() {
         all = with_pairs(all, inner.iter());
     }

@@ -2,8 +2,8 @@
 
 use crate::cases::Case;
 use crate::{
-    blobs, ciphers, conditions, configs, contexts, draws, globs, keys, macs, maps, names, policies,
-    signatures, verdicts,
+    blobs, ciphers, conditions, configs, contexts, draws, globs, groups, keys, macs, maps, names,
+    policies, signatures, verdicts,
 };
 
 /// A part, with a file of cases.
@@ -26,11 +26,12 @@ pub enum Part {
     Signatures,
     Configs,
     Maps,
+    Groups,
 }
 
 impl Part {
     /// All parts.
-    pub const ALL: [Part; 17] = [
+    pub const ALL: [Part; 18] = [
         Part::Aes256,
         Part::Ghash,
         Part::Gcm,
@@ -48,6 +49,7 @@ impl Part {
         Part::Signatures,
         Part::Configs,
         Part::Maps,
+        Part::Groups,
     ];
 
     /// The name of the part's file.
@@ -70,6 +72,7 @@ impl Part {
             Part::Signatures => "signatures.txt",
             Part::Configs => "configs.txt",
             Part::Maps => "maps.txt",
+            Part::Groups => "groups.txt",
         }
     }
 
@@ -93,6 +96,7 @@ impl Part {
             Part::Signatures => signatures::signatures(case),
             Part::Configs => configs::configs(case),
             Part::Maps => maps::maps(case),
+            Part::Groups => groups::groups(case),
         }
     }
 }

@@ -9,5 +9,7 @@ pub fn all() {
     policy_eval::compiled_crosses_threads();
     key_states::key_row_crosses_threads();
     persist_map::map_crosses_threads::<u64, u64>();
+    persist_map::groups_cross_threads::<u64, u64>();
+    persist_map::shared_crosses_threads::<u64>();
     sigv4_check::credentials_cross_threads();
 }
