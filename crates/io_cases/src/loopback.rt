@@ -15,6 +15,12 @@ const ROUNDS: u32 = 1_000_000;
 
 const PIECE: usize = 65_536;
 
+// How many clients wait beside another, whose turn is then shorter than so many milliseconds. It is a second long where
+// one client waits.
+const CROWD: usize = 40;
+
+const SHORT: u128 = 500;
+
 // How a connection is served.
 #[derive(Clone, Copy)]
 enum Talk {
@@ -150,6 +156,34 @@ fn show_beside<R: Net<Stream = TcpStream> + Wait + rt::Clock + Eprint>(
     Ok(())
 }
 
+// A client that asks on and on while many others wait, and then the first of them.
+fn show_crowd<R: Net<Stream = TcpStream> + Wait + rt::Clock + Eprint + AllocGlobal>(
+    rt: &R,
+    at: SocketAddr,
+    ear: &mut TcpEar<'_, R>,
+    lines: &mut Lines,
+) -> io::Result<()>
+    requires { (counts_of ear.old).is_out ≡ false }
+    ensures { (counts_of ear.new).is_out ≡ false }
+{
+    let mut first = client(rt, at, b"ping")?;
+    let mut other = client(rt, at, b"wait")?;
+    let mut others = Vec::new(rt.alloc());
+    for _ in 1..CROWD {
+        others.push(client(rt, at, b"wait")?)?;
+    }
+    lines.say("a client that asks on and on while 40 others wait: ");
+    let begin = rt.monotonic()?;
+    say_next(Talk::Steady, &mut first, ear, lines);
+    let time = rt.monotonic()?.saturating_sub(begin);
+    lines.say(", within half a second: ");
+    lines.say_whether(time.as_millis() < SHORT);
+    lines.say("; the first of them: ");
+    say_next(Talk::Read, &mut other, ear, lines);
+    lines.say("\n");
+    Ok(())
+}
+
 // A client that closes its half after it has asked.
 fn show_half_closed<R: Net<Stream = TcpStream> + Wait + rt::Clock + Eprint + AllocGlobal>(
     rt: &R,
@@ -233,7 +267,8 @@ fn show_clients<R: Net<Stream = TcpStream> + Wait + rt::Clock + Eprint + AllocGl
         Talk::Writes,
         ear,
         lines,
-    )
+    )?;
+    show_crowd(rt, at, ear, lines)
 }
 
 // What one of these ears does with them.

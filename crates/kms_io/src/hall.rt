@@ -1,7 +1,7 @@
 // What the ears of an opening share.
 use crate::lobby::{Heard, Lobby};
 use crate::moment::{Millis, moment, since};
-use crate::pace::Cause;
+use crate::pace::{Cause, turn};
 use std::alloc::Global;
 use std::io::Read;
 use std::net::TcpStream;
@@ -115,6 +115,11 @@ impl Hall {
         self.close_leaving(rt, is_short);
         self.tell_missing(rt);
         heard
+    }
+
+    /// How long a connection keeps its worker that is taken where so many wait.
+    pub fn turn(&self, waiting: usize) -> Millis {
+        turn(waiting, self.asked.load(Ordering::SeqCst))
     }
 
     /// Sees who waits, where no ear does.

@@ -58,8 +58,8 @@ impl Guest {
 
 /// What a wait came to.
 pub enum Heard {
-    /// A connection that has bytes or is at its end.
-    Guest(Guest),
+    /// A connection that has bytes or is at its end, and how many such waited, with it.
+    Guest(Guest, usize),
     /// No connection within a second.
     Nobody,
     /// No connection could be taken for a minute.
@@ -160,7 +160,8 @@ impl Lobby {
         if self.ready.is_empty() {
             return Heard::Nobody;
         }
-        Heard::Guest(self.ready.remove(0))
+        let waiting = self.ready.len();
+        Heard::Guest(self.ready.remove(0), waiting)
     }
 
     /// Sees who waits, without waiting.

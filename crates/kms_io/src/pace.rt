@@ -1,8 +1,8 @@
 // How long a connection may keep its worker.
 use crate::moment::{Millis, since};
 
-/// How long a read or a write waits before it looks whether somebody waits. So long a connection may be
-/// idle where somebody does.
+/// How long a write, and a read at most, waits before it looks whether somebody waits. So long a connection may
+/// be idle at most where somebody does.
 pub const STILL: Millis = 50;
 
 /// How often a call looks at most: more often than any limit lasts.
@@ -17,11 +17,17 @@ const MESSAGE: Millis = 10_000;
 // How long it may take where somebody waits.
 const MESSAGE_IF_AWAITED: Millis = 2_000;
 
-// How long a connection keeps its worker at least, but where it is idle.
+// How long a connection keeps its worker at least, but where it is idle or many wait. So long a message has also that
+// waited for a worker.
 const TURN: Millis = 250;
 
-// From when on a turn ends also where more has come.
-const LONGEST_TURN: Millis = 1_000;
+// How long it keeps it at least where so many wait that they would need longer than a round for it.
+const SHORTEST_TURN: Millis = 10;
+
+const ROUND: Millis = 1_000;
+
+// After how many turns it gives it up also where more has come.
+const TURNS: u64 = 4;
 
 /// Why a connection is ended that its peer didn't end.
 #[derive(Clone, Copy)]
@@ -45,22 +51,36 @@ enum Stage {
     Replying(Millis),
 }
 
+/// How long a connection keeps its worker where so many wait for so many workers: so long that each of them has its turn
+/// within a round, but no longer than usual, and long enough to be of use.
+pub fn turn(waiting: usize, workers: u64) -> Millis {
+    let share = ROUND.saturating_mul(workers).checked_div(waiting as u64);
+    share.unwrap_or(TURN).clamp(SHORTEST_TURN, TURN)
+}
+
 /// How a connection spends the time of its worker.
 #[derive(Clone, Copy)]
 pub struct Pace {
+    turn: Millis,
     begun: Option<Millis>,
     looked: Millis,
     stage: Stage,
 }
 
 impl Pace {
-    /// A connection whose first bytes came at this moment, and which no worker has read yet.
-    pub fn new(came: Millis) -> Pace {
+    /// A connection whose first bytes came at this moment, and which no worker has read yet, with a turn of this length.
+    pub fn new(came: Millis, turn: Millis) -> Pace {
         Pace {
+            turn,
             begun: None,
             looked: came,
             stage: Stage::Asking(came),
         }
+    }
+
+    /// How long a read waits before it looks whether somebody waits.
+    pub fn still(&self) -> Millis {
+        self.turn.min(STILL)
     }
 
     /// The worker reads or writes. The turn begins when it does so first.
@@ -94,7 +114,9 @@ impl Pace {
         match self.stage {
             Stage::Idle(moment) if since(moment, now) >= IDLE => Some(Cause::Idle),
             Stage::Asking(moment) | Stage::Replying(moment)
-                if since(moment, now) >= MESSAGE && self.had_turn(now) => { Some(Cause::Slow) }
+                if since(moment, now) >= MESSAGE && self.has_lasted(TURN, now) => {
+                Some(Cause::Slow)
+            }
             _ => None,
         }
     }
@@ -103,9 +125,9 @@ impl Pace {
     pub fn limit_if_awaited(&self, now: Millis) -> Option<Cause> {
         match self.stage {
             Stage::Idle(moment) if since(moment, now) >= STILL => Some(Cause::Idle),
-            Stage::Idle(_) if self.had_turn(now) => Some(Cause::Turn),
+            Stage::Idle(_) if self.has_lasted(self.turn, now) => Some(Cause::Turn),
             Stage::Asking(moment) | Stage::Replying(moment)
-                if since(moment, now) >= MESSAGE_IF_AWAITED && self.had_turn(now) => {
+                if since(moment, now) >= MESSAGE_IF_AWAITED && self.has_lasted(TURN, now) => {
                 Some(Cause::Slow)
             }
             _ => None,
@@ -123,11 +145,7 @@ impl Pace {
 
     /// Whether its turn is so long that it ends also where more has come.
     pub fn had_longest_turn(&self, now: Millis) -> bool {
-        self.has_lasted(LONGEST_TURN, now)
-    }
-
-    fn had_turn(&self, now: Millis) -> bool {
-        self.has_lasted(TURN, now)
+        self.has_lasted(self.turn.saturating_mul(TURNS), now)
     }
 
     fn has_lasted(&self, time: Millis, now: Millis) -> bool {

@@ -65,7 +65,7 @@ fn next_stream<'a, R: Wait + rt::Clock + Eprint>(
 ) -> Option<TimedStream<'a, R>> {
     for _ in rt.forever() {
         match hall.next(rt) {
-            Heard::Guest(guest) => match TimedStream::new(rt, hall, guest) {
+            Heard::Guest(guest, waiting) => match TimedStream::new(rt, hall, guest, waiting) {
                 Ok(stream) => return Some(stream),
                 Err(_) => {}
             },

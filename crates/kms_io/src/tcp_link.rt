@@ -5,7 +5,7 @@ use std::rt;
 
 /// A connection over TCP. It counts as ended where it is idle for 75 seconds, or for 50 milliseconds where another
 /// connection waits for a worker; where a message takes 10 seconds to come, or 2 where another waits; and between
-/// two messages where it was served for 250 milliseconds and another waits. A write that waits as long as a
+/// two messages where it was served for 250 milliseconds, or for less where many wait, and another waits. A write that waits as long as a
 /// message may take is a fault. What is written goes out at once (TCP_NODELAY). It counts the stream's errors, a
 /// write of no bytes among them, and tells nothing of its bytes. A call that a signal cuts short is made again.
 #[derive(Drop)]

@@ -25,21 +25,23 @@ pub struct TimedStream<'a, R> {
 }
 
 impl<'a, R: rt::Clock> TimedStream<'a, R> {
-    /// The connection that waited in this hall. An error where the stream doesn't take what is set on it.
+    /// The connection that waited in this hall, one of so many. An error where the stream doesn't take what is set on it.
     pub fn new(
         rt: &'a R,
         hall: &Arc<Hall, Global>,
         guest: Guest,
+        waiting: usize,
     ) -> io::Result<TimedStream<'a, R>> {
         let (stream, came) = guest.leave()?;
+        let pace = Pace::new(came, hall.turn(waiting));
         stream.set_nodelay(true)?;
-        stream.set_read_timeout(Some(Duration::from_millis(STILL)))?;
+        stream.set_read_timeout(Some(Duration::from_millis(pace.still())))?;
         stream.set_write_timeout(Some(Duration::from_millis(STILL)))?;
         Ok(TimedStream {
             rt,
             hall: Arc::try_clone(hall)?,
             stream,
-            pace: Pace::new(came),
+            pace,
             cause: None,
             is_at_end: false,
         })
@@ -127,7 +129,8 @@ impl<R: rt::Clock + Eprint> TimedStream<'_, R> {
     }
 
     // Why it makes room for somebody who waits, if it does. It looks who waits from time to time. Between two messages it
-    // does so only where nothing more has come, but for a turn that has lasted longest.
+    // does so only where nothing more has come, but for a turn that has lasted longest; and it closes its half at once, so
+    // that nothing comes in between.
     fn makes_room(&mut self, now: Millis) -> Option<Cause> {
         if self.pace.looks(now) {
             self.hall.look(self.rt);
@@ -138,14 +141,11 @@ impl<R: rt::Clock + Eprint> TimedStream<'_, R> {
             Cause::Turn => !self.pace.had_longest_turn(now),
             Cause::Slow => false,
         };
-        if may_go_on && self.hall.is_awaited(now) && self.has_more() {
+        if !self.hall.is_awaited(now) || (may_go_on && self.has_more()) || !self.hall.calls(now) {
             return None;
         }
-        if self.hall.calls(now) {
-            Some(cause)
-        } else {
-            None
-        }
+        let _ = self.stream.shutdown(Shutdown::Write);
+        Some(cause)
     }
 
     // Whether more has come, without waiting for it. Where that can't be told, it has.
