@@ -38,7 +38,8 @@ abbrev pub AreJoined : List (List ℕ) → List ℕ → Type 0
 AreJoined [] text = ⊥
 AreJoined (part ∷ []) text = (spaces : List ℕ) × AreSpaces spaces × (text ≡ spaces ++ part)
 AreJoined (part ∷ next ∷ parts) text =
-    (spaces : List ℕ) × (rest : List ℕ) × AreSpaces spaces × (text ≡ spaces ++ (part ++ 44 ∷ rest)) × AreJoined (next ∷ parts) rest
+    (spaces : List ℕ) × (rest : List ℕ) × AreSpaces spaces × (text ≡ spaces ++ (part ++ 44 ∷ rest))
+    × AreJoined (next ∷ parts) rest
 
 -- the algorithm, a space, and three parts in any order, each of these one of them
 pub record IsAuthorization (value : List ℕ) (claims : Claims) : Type 0 where
