@@ -18,7 +18,8 @@ use Rattle.kms_config.specs.Grammar.{IsAccount, IsRegionText, IsRootSecret, IsBo
 
 -- ---- forms
 
--- what may be asked of a place
+-- what may be asked of a place; a list of at least and at most so many values; an id and a principal that the values before
+-- don't have; a principal of this account; and nothing at all
 pub data Form : Type 0 where
   AnObject : Form
   Account : Form
@@ -63,7 +64,7 @@ HasForm place = Fits place.form place.given
 abbrev pub member_place : List ℕ → List ℕ → Data → Form → Place
 member_place path name d form = record { path = member_path path name; given = get name d; form = form }
 
--- the members of other names than these, in the order in which they stand; nothing is to stand there
+-- the names of an object's members, in the order in which they stand
 abbrev pub names_in : Members → List (List ℕ)
 names_in no_members = []
 names_in (member name d ms) = name ∷ names_in ms
@@ -76,6 +77,7 @@ members_of (string s) = no_members
 members_of (array ds) = no_members
 members_of (object ms) = ms
 
+-- the members of other names than these; nothing is to stand there
 abbrev pub other_names : List (List ℕ) → Data → List (List ℕ)
 other_names names d = filter (λ name. not (is_known names name)) (names_in (members_of d))
 

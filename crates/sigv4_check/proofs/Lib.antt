@@ -5,3 +5,4 @@ pub mod ValueFacts
 pub mod SameFacts
 pub mod CredentialFacts
 pub mod DateFacts
+pub mod HeaderFacts

@@ -1,6 +1,7 @@
 pub mod Parts
 pub mod Fields
 pub mod Authorization
+pub mod Header
 pub mod Shown
 pub mod Dates
 pub mod SignedNames
