@@ -11,7 +11,6 @@ use Rattle.policy_eval.specs.declared.verdicts.Verdict.{Verdict}
 use Rattle.policy_eval.specs.declared.verdicts.Verdict.TheVariants.{Deny, Direct, ByRoot, Silent}
 use Rattle.policy_eval.specs.declared.ceilings.CeilingVerdict.{CeilingVerdict}
 use Rattle.policy_eval.specs.declared.ceilings.CeilingVerdict.TheVariants.{Passes, Stops}
-use Rattle.policy_eval.specs.Ceiling.{Under}
 use Rattle.policy_eval.specs.CeilingOf.{ceiling_of, ceiling_of_lem}
 use Rattle.policy_eval.proofs.CeilingFacts.{none_stops}
 use Rattle.policy_eval.specs.Verdict.{IsAllow, IsDeny, SomeDenies, SomeAllowsCaller, SomeAllowsAccount, IsKeyVerdict, IsIdentityVerdict, IsVerdictOf}

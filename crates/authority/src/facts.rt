@@ -2,6 +2,7 @@
 ghost use Rattle.std.specs.Prelude.{◌≡◌, ◌≢◌, ◌++◌, ◌∷◌, [], All, IfOk, OnOk, MatchOption, map, codes};
 ghost use Rattle.kms_names.specs.Action.{is_among};
 ghost use Rattle.authority.specs.Facts.{behind_slash, caller_facts, user_facts, time_facts, service_facts, key_facts, pair_fact, context_facts, several_facts, sealing, algorithm_facts, setting_facts, named_facts, sealing_facts, changing_facts, facts_of};
+ghost use Rattle.authority.specs.Questions.{names_if, gathered};
 
 use crate::grants::put_granting;
 use crate::puts::{put, put_all, put_given, put_number, put_some, put_text, put_truth};
@@ -173,20 +174,28 @@ fn put_setting(facts: &mut Vec<Fact>, setting: &Setting<'_>) -> Result<(), NoMem
     Ok(())
 }
 
-// The names of the aliases of the key.
-fn put_aliases(facts: &mut Vec<Fact>, particulars: &Particulars<'_>) -> Result<(), NoMemory>
-    ensures { OnOk result (facts.new.items ≡ facts.old.items ++ several_facts (codes "kms:ResourceAliases") particulars.now.aliases) }
+// The names of the aliases of the key, where they are wanted.
+fn put_aliases(
+    facts: &mut Vec<Fact>,
+    particulars: &Particulars<'_>,
+    with_aliases: bool,
+) -> Result<(), NoMemory>
+    ensures { OnOk result (facts.new.items ≡ facts.old.items ++ several_facts (codes "kms:ResourceAliases") (names_if with_aliases particulars.now.aliases)) }
 {
-    let names = particulars.alias_names(*facts.allocator())?;
+    let names = particulars.alias_names(*facts.allocator(), with_aliases)?;
     put_some(facts, "kms:ResourceAliases", names)
 }
 
 // Which key it is about, and by which name.
-fn put_named(facts: &mut Vec<Fact>, particulars: &Particulars<'_>) -> Result<(), NoMemory>
-    ensures { OnOk result (facts.new.items ≡ facts.old.items ++ named_facts particulars.now) }
+fn put_named(
+    facts: &mut Vec<Fact>,
+    particulars: &Particulars<'_>,
+    with_aliases: bool,
+) -> Result<(), NoMemory>
+    ensures { OnOk result (facts.new.items ≡ facts.old.items ++ named_facts (gathered with_aliases particulars.now)) }
 {
     put_key(facts, particulars.keyed)?;
-    put_aliases(facts, particulars)?;
+    put_aliases(facts, particulars, with_aliases)?;
     put_given(facts, "kms:RequestAlias", particulars.request_name())
 }
 
@@ -220,19 +229,20 @@ fn put_changing(facts: &mut Vec<Fact>, particulars: &Particulars<'_>) -> Result<
     put_number(facts, "kms:RotationPeriodInDays", particulars.period)
 }
 
-/// What a request says to conditions. The time grows with the number of the account's aliases, where the aliases of a
-/// key are lent.
+/// What a request says to conditions, with the names of its key's aliases only where they are wanted. Then the time grows
+/// with the number of the key's aliases.
 pub fn facts_of(
     alloc: Global,
     setting: &Setting<'_>,
     op: Action,
     particulars: &Particulars<'_>,
+    with_aliases: bool,
 ) -> Result<FactList, NoMemory>
-    ensures { IfOk result (λ facts. facts ≡ facts_of setting.now op particulars.now) }
+    ensures { IfOk result (λ facts. facts ≡ facts_of setting.now op (gathered with_aliases particulars.now)) }
 {
     let mut facts = Vec::new(alloc);
     put_setting(&mut facts, setting)?;
-    put_named(&mut facts, particulars)?;
+    put_named(&mut facts, particulars, with_aliases)?;
     put_sealing(&mut facts, op, particulars)?;
     put_granting(&mut facts, op, particulars)?;
     put_changing(&mut facts, particulars)?;

@@ -4,7 +4,8 @@ ghost use Rattle.policy_eval.specs.VerdictOf.{verdict_of};
 ghost use Rattle.policy_eval.specs.CeilingOf.{CeilingGoesByQuestion};
 ghost use Rattle.authority.specs.Facts.{facts_of};
 ghost use Rattle.authority.specs.Allowed.{is_deny, is_direct, some_deny, some_allow, own_allow, identity_allows, key_standing, own_standing, standing, bounded_standing, standing_of};
-ghost use Rattle.authority.specs.Questions.{GoByQuestions, KeyGoesByQuestion, SaysWhatIsAsked};
+ghost use Rattle.policy_eval.specs.Asking.{CeilingGoesWithout};
+ghost use Rattle.authority.specs.Questions.{GoByQuestions, KeyGoesByQuestion, GoWithoutAliases, KeyGoesWithoutAliases, resource_aliases, gathered, SaysWhatIsAsked};
 
 use crate::facts::facts_of;
 use crate::key_policies::KeyPolicy;
@@ -12,7 +13,9 @@ use crate::settings::{Particulars, Setting};
 use crate::standings::Standing;
 use cond_ops::{FactList, RequestFacts};
 use kms_names::{Action, NoMemory, Principal, Text};
-use policy_eval::{CeilingVerdict, Compiled, Verdict, ceiling, ceiling_asks_facts};
+use policy_eval::{
+    CeilingVerdict, Compiled, Verdict, ceiling, ceiling_asks_aliases, ceiling_asks_facts,
+};
 use std::alloc::Global;
 
 fn denies(policy: &Compiled, request: &RequestFacts) -> bool
@@ -134,6 +137,41 @@ fn some_wants(policy: Option<&Compiled>, policies: &[Compiled], ceiling: &[Compi
     key_asks(policy) || some_ask(policies) || ceiling_asks_facts(ceiling)
 }
 
+// Whether some of these policies asks for the names of the key's aliases.
+fn some_ask_aliases(policies: &[Compiled]) -> bool
+    ensures { result ≡ false → GoWithoutAliases policies.now }
+{
+    for policy in policies {
+        if policy.asks_aliases() {
+            return true;
+        }
+    }
+    false
+}
+
+// Whether the policy of a key does, where there is one.
+fn key_asks_aliases(policy: Option<&Compiled>) -> bool
+    ensures { result ≡ false → KeyGoesWithoutAliases (option_map (λ p. p.now) policy.entry) }
+{
+    match policy {
+        Some(policy) => policy.asks_aliases(),
+        None => false,
+    }
+}
+
+// Whether some policy that is asked does.
+fn some_wants_aliases(
+    policy: Option<&Compiled>,
+    policies: &[Compiled],
+    ceiling: &[Compiled],
+) -> bool
+    ensures key { result ≡ false → KeyGoesWithoutAliases (option_map (λ p. p.now) policy.entry) }
+    ensures own { result ≡ false → GoWithoutAliases policies.now }
+    ensures bound { result ≡ false → CeilingGoesWithout resource_aliases ceiling.now }
+{
+    key_asks_aliases(policy) || some_ask_aliases(policies) || ceiling_asks_aliases(ceiling)
+}
+
 fn compiled(policy: Option<&KeyPolicy>) -> Option<&Compiled>
     ensures { option_map (λ p. p.now) result ≡ option_map (λ p. p.now) policy.entry }
 {
@@ -144,35 +182,38 @@ fn compiled(policy: Option<&KeyPolicy>) -> Option<&Compiled>
 }
 
 impl Setting<'_> {
-    // What a request says to conditions, where that is wanted.
+    // What a request says to conditions, where that is wanted, with the names of its key's aliases only where these are.
     fn facts_if(
         &self,
         alloc: Global,
         wanted: bool,
+        with_aliases: bool,
         action: Action,
         particulars: &Particulars<'_>,
     ) -> Result<FactList, NoMemory>
-        ensures { IfOk result (λ facts. wanted ≡ true → facts ≡ facts_of self.now action particulars.now) }
+        ensures { IfOk result (λ facts. wanted ≡ true → facts ≡ facts_of self.now action (gathered with_aliases particulars.now)) }
     {
         if wanted {
-            facts_of(alloc, self, action, particulars)
+            facts_of(alloc, self, action, particulars, with_aliases)
         } else {
             Ok(FactList::new(Vec::new(alloc)))
         }
     }
 
-    // What policies are asked about a request; what it says to conditions only where that is wanted.
+    // What policies are asked about a request; what it says to conditions, and of its key's aliases, only where that is
+    // wanted.
     fn request(
         &self,
         alloc: Global,
         wanted: bool,
+        with_aliases: bool,
         action: Action,
         resource: &str,
         particulars: &Particulars<'_>,
     ) -> Result<RequestFacts, NoMemory>
-        ensures { IfOk result (SaysWhatIsAsked self.now (record { action = action; resource = resource.now; particulars = particulars.now }) wanted) }
+        ensures { IfOk result (SaysWhatIsAsked self.now (record { action = action; resource = resource.now; particulars = particulars.now }) wanted with_aliases) }
     {
-        let facts = self.facts_if(alloc, wanted, action, particulars)?;
+        let facts = self.facts_if(alloc, wanted, with_aliases, action, particulars)?;
         let caller = self.caller.copy()?;
         let resource = Text::from_str(alloc, resource)?;
         Ok(RequestFacts {
@@ -194,8 +235,8 @@ impl Setting<'_> {
     }
 
     /// What policies say of this on a resource: the documents of the account's ceiling, then the policy of a key, where the
-    /// question is about one, and the caller's own. Where some policy that is asked has conditions, the time grows with
-    /// the number of the account's aliases.
+    /// question is about one, and the caller's own. Where a condition of a policy that is asked names `kms:ResourceAliases`, the
+    /// time grows with the number of the key's aliases.
     pub fn standing(
         &self,
         alloc: Global,
@@ -208,7 +249,8 @@ impl Setting<'_> {
     {
         let policy = compiled(policy);
         let wanted = some_wants(policy, self.policies, self.ceiling);
-        let request = self.request(alloc, wanted, action, resource, particulars)?;
+        let with_aliases = some_wants_aliases(policy, self.policies, self.ceiling);
+        let request = self.request(alloc, wanted, with_aliases, action, resource, particulars)?;
         Ok(self.bounded_standing(policy, &request))
     }
 }

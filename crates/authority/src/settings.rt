@@ -1,6 +1,7 @@
 //! Who asks, when and where, and what a request says of itself.
 ghost use Rattle.std.specs.Prelude.{◌≡◌, [], IfOk, option_map};
 ghost use Rattle.authority.specs.Setting.{names_of};
+ghost use Rattle.authority.specs.Questions.{names_if};
 
 use alias_map::AliasMap;
 use enc_context::{Context, Pair};
@@ -157,14 +158,14 @@ impl<'a> Particulars<'a> {
         }
     }
 
-    // Copies of the names of the key's aliases, none where no key is given. The time grows with the number of the
-    // account's aliases.
-    pub(crate) fn alias_names(&self, alloc: Global) -> Result<TextList, NoMemory>
-        ensures { IfOk result (λ names. names ≡ self.now.aliases) }
+    // Copies of the names of the key's aliases, where they are wanted; none where no key is given. The time grows with
+    // their number.
+    pub(crate) fn alias_names(&self, alloc: Global, wanted: bool) -> Result<TextList, NoMemory>
+        ensures { IfOk result (λ names. names ≡ names_if wanted self.now.aliases) }
     {
         match &self.aliases {
-            Some(aliases) => aliases.names(alloc),
-            None => Ok(TextList::new(Vec::new(alloc))),
+            Some(aliases) if wanted => aliases.names(alloc),
+            _ => Ok(TextList::new(Vec::new(alloc))),
         }
     }
 

@@ -1,5 +1,5 @@
--- What the documents of a ceiling say, by tests, and without conditions.
-use Rattle.std.proofs.Common.{◌≡◌, ◌⊎◌, inl, inr, ℕ, ◌<◌, Bool, true, false, not, ◌&&◌, List, [], length, get_or, refl, sym, ◌∙◌, subst}
+-- What the documents of a ceiling say, by tests, and of requests of which their conditions say the same.
+use Rattle.std.proofs.Common.{◌≡◌, ◌⊎◌, inl, inr, ℕ, ◌<◌, Bool, true, false, not, ◌&&◌, List, [], length, get_or, refl, sym, ◌∙◌}
 use Rattle.std.specs.Prelude.{◌↔◌, IsTrue, Any}
 use Rattle.cond_ops.specs.declared.facts.RequestFacts.{RequestFacts}
 use Rattle.policy_doc.specs.declared.policies.Policy.{Policy}
@@ -8,7 +8,9 @@ use Rattle.policy_eval.specs.declared.ceilings.CeilingVerdict.TheVariants.{Passe
 use Rattle.policy_eval.specs.Verdict.{IsAllow, IsDeny, HasConditions, AskTheSame}
 use Rattle.policy_eval.specs.Ceiling.{SomeDocumentDenies, SomeDocumentAllows, Under}
 use Rattle.policy_eval.specs.CeilingOf.{ceiling_of, ceiling_of_lem, CeilingGoesByQuestion}
-use Rattle.policy_eval.proofs.VerdictFacts.{any_so, some_deny_too, some_allow_too, no_conditions, turned}
+use Rattle.policy_eval.specs.Asking.{AsksFor, AskTheSameBut, CeilingGoesWithout}
+use Rattle.policy_eval.proofs.AskingFacts.{conditions_too}
+use Rattle.policy_eval.proofs.VerdictFacts.{any_so, IsLikeness, SayTheSame, some_deny_too, some_allow_too, by_question, nothing_said, but_one}
 
 -- ---- by tests
 
@@ -37,28 +39,34 @@ is_ceiling_of documents request v says = same_verdict v (ceiling_of documents re
 pub none_stops : (documents : List Policy) (request : RequestFacts) → documents ≡ [] → ceiling_of documents request ≡ Passes
 none_stops documents request none = (ceiling_of_lem documents request).1 (inl none)
 
--- ---- documents without conditions
+-- ---- documents whose conditions say the same of requests that are alike
 
-module _ (documents : List Policy) (none : ¬ (Any HasConditions documents)) where
-  none_in : (p : Policy) (k : ℕ) → k < length documents → get_or documents k p ≡ p → ¬ (HasConditions p)
-  none_in p k lt at some = none (k, p, lt, at, some)
-
-  module _ (a b : RequestFacts) (same : AskTheSame a b) where
+module _ (Alike : RequestFacts → RequestFacts → Type 0) (likeness : IsLikeness Alike) (documents : List Policy)
+    (say : (p : Policy) (k : ℕ) → k < length documents → get_or documents k p ≡ p → SayTheSame Alike p.statements) where
+  module _ (a b : RequestFacts) (same : Alike a b) where
     denies_too : SomeDocumentDenies documents a → SomeDocumentDenies documents b
     denies_too =
         any_so (λ (p : Policy). Any (λ s. IsDeny s a) p.statements) (λ (p : Policy). Any (λ s. IsDeny s b) p.statements) documents
-        (λ p k lt at. some_deny_too p.statements (λ s j within there. no_conditions s (λ some. none_in p k lt at (j, s, within, there, some))) a b same)
+        (λ p k lt at. some_deny_too Alike likeness p.statements (say p k lt at) a b same)
 
     allows_too : SomeDocumentAllows documents a → SomeDocumentAllows documents b
     allows_too =
         any_so (λ (p : Policy). Any (λ s. IsAllow s a) p.statements) (λ (p : Policy). Any (λ s. IsAllow s b) p.statements) documents
-        (λ p k lt at. some_allow_too p.statements (λ s j within there. no_conditions s (λ some. none_in p k lt at (j, s, within, there, some))) a b same)
+        (λ p k lt at. some_allow_too Alike likeness p.statements (say p k lt at) a b same)
 
-  under_too : (a b : RequestFacts) → AskTheSame a b → Under documents a → Under documents b
+  under_too : (a b : RequestFacts) → Alike a b → Under documents a → Under documents b
   under_too a b same (inl empty) = inl empty
-  under_too a b same (inr (unasked, allows)) = inr (λ d. unasked (denies_too b a (turned a b same) d), allows_too a b same allows)
+  under_too a b same (inr (unasked, allows)) = inr (λ d. unasked (denies_too b a (likeness.turns a b same) d), allows_too a b same allows)
 
-  pub ceiling_by_question : CeilingGoesByQuestion documents
-  ceiling_by_question a b same =
+  one_ceiling : (a b : RequestFacts) → Alike a b → ceiling_of documents a ≡ ceiling_of documents b
+  one_ceiling a b same =
       same_verdict (ceiling_of documents a) (ceiling_of documents b) (ceiling_of_lem documents a) (ceiling_of_lem documents b)
-      (under_too a b same) (under_too b a (turned a b same))
+      (under_too a b same) (under_too b a (likeness.turns a b same))
+
+pub ceiling_by_question : (documents : List Policy) → ¬ (Any HasConditions documents) → CeilingGoesByQuestion documents
+ceiling_by_question documents none =
+    one_ceiling AskTheSame by_question documents (λ p k lt at. nothing_said p.statements (λ some. none (k, p, lt, at, some)))
+
+pub ceiling_without : (key : List ℕ) (documents : List Policy) → ¬ (Any (AsksFor key) documents) → CeilingGoesWithout key documents
+ceiling_without key documents none =
+    one_ceiling (AskTheSameBut key) (but_one key) documents (λ p k lt at. conditions_too key p.statements (λ some. none (k, p, lt, at, some)))

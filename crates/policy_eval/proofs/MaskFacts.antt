@@ -1,11 +1,11 @@
 -- The bits of the actions that globs match.
-use Rattle.std.proofs.Common.{◌≡◌, ℕ, ◌<◌, ◌≤◌, ◌+◌, ◌*◌, ◌^◌, ◌%◌, true, false, List, length, get_or, refl, sym, ◌∙◌, subst, lit<, arith, ap, ◌==◌}
+use Rattle.std.proofs.Common.{◌≡◌, ℕ, ◌<◌, ◌+◌, ◌*◌, ◌^◌, ◌%◌, false, length, get_or, refl, sym, ◌∙◌, subst, lit<, ap, ◌==◌}
 use Rattle.std.specs.Prelude.{bit_or}
 use Rattle.std.specs.Int.{bit_at}
 use Rattle.std.proofs.lemmas.Nat.{or_lt}
 use Rattle.std.proofs.lemmas.Nat.Bits.{bit_at-zero}
 use Rattle.kms_names.specs.Action.{all_actions, action_number}
-use Rattle.kms_names.specs.ActionSet.{has_action, with_action}
+use Rattle.kms_names.specs.ActionSet.{with_action}
 use Rattle.kms_names.specs.declared.actions.Action.{Action}
 use Rattle.kms_names.specs.declared.actions.Action.TheVariants as action
 use Rattle.kms_names.proofs.ActionFacts.{IsSetOf, none_yet, one_added, one_passed, with_bit, has_added, has_others}

@@ -6,7 +6,7 @@ use Rattle.cond_ops.specs.declared.facts.RequestFacts.{RequestFacts}
 use Rattle.policy_doc.specs.declared.policies.Policy.{Policy}
 use Rattle.policy_eval.specs.declared.ceilings.CeilingVerdict.{CeilingVerdict}
 use Rattle.policy_eval.specs.declared.ceilings.CeilingVerdict.TheVariants.{Passes, Stops}
-use Rattle.policy_eval.specs.Ceiling.{SomeDocumentDenies, SomeDocumentAllows, Under}
+use Rattle.policy_eval.specs.Ceiling.{Under}
 use Rattle.policy_eval.specs.Verdict.{IsAllow, IsDeny, AskTheSame}
 use Rattle.policy_eval.specs.VerdictOf.{decided_allow, decided_deny}
 

@@ -1,9 +1,10 @@
 //! Documents that bound a whole account.
 
-ghost use Rattle.std.specs.Prelude.{◌≡◌, ◌↔◌, IsTrue, Any, false};
+ghost use Rattle.std.specs.Prelude.{◌≡◌, ◌↔◌, IsTrue, Any, false, codes};
 ghost use Rattle.policy_eval.specs.Verdict.{HasConditions};
 ghost use Rattle.policy_eval.specs.Ceiling.{SomeDocumentDenies, SomeDocumentAllows, Under};
 ghost use Rattle.policy_eval.specs.CeilingOf.{ceiling_of, CeilingGoesByQuestion};
+ghost use Rattle.policy_eval.specs.Asking.{AsksFor, CeilingGoesWithout};
 ghost use Rattle.policy_eval.specs.declared.ceilings.CeilingVerdict.TheVariants.{Passes};
 
 use crate::compiled::Compiled;
@@ -71,4 +72,20 @@ pub fn ceiling_asks_facts(documents: &[Compiled]) -> bool
     ensures unasked { result ≡ false → CeilingGoesByQuestion documents.now }
 {
     some_has_conditions(documents)
+}
+
+// Whether some condition of these documents is about `kms:ResourceAliases`.
+fn some_asks_aliases(documents: &[Compiled]) -> bool
+    ensures { IsTrue result ↔ Any (AsksFor (codes "kms:ResourceAliases")) documents.now }
+{
+    documents.iter().any(|document| document.asks_aliases())
+}
+
+/// Whether some condition of these documents is about `kms:ResourceAliases`, in whatever ASCII case. Where none is,
+/// requests pass or stop alike that differ in what they say of this condition key alone.
+pub fn ceiling_asks_aliases(documents: &[Compiled]) -> bool
+    ensures conditions { IsTrue result ↔ Any (AsksFor (codes "kms:ResourceAliases")) documents.now }
+    ensures unasked { result ≡ false → CeilingGoesWithout (codes "kms:ResourceAliases") documents.now }
+{
+    some_asks_aliases(documents)
 }

@@ -1,10 +1,12 @@
 //! Policies made ready to be asked.
 
-ghost use Rattle.std.specs.Prelude.{◌≡◌, ◌↔◌, IsTrue, Any, IfOk, false};
+ghost use Rattle.std.specs.Prelude.{◌≡◌, ◌↔◌, IsTrue, Any, IfOk, false, codes};
 ghost use Rattle.policy_eval.specs.Verdict.{IsAllow, IsDeny, SomeDenies, SomeAllowsCaller, SomeAllowsAccount, IsKeyVerdict, IsIdentityVerdict, IsVerdict, SomeHasConditions, HasConditions, GoesByQuestion};
 ghost use Rattle.policy_eval.specs.Laws.{HasOneVerdictByQuestion};
 ghost use Rattle.policy_eval.specs.VerdictOf.{verdict_of};
+ghost use Rattle.policy_eval.specs.Asking.{AsksFor, GoesWithout, HasOneVerdictWithout};
 
+use crate::asking::some_ask_for;
 use crate::groups::Group;
 use crate::naming::Naming;
 use crate::statements::CompiledStatement;
@@ -21,6 +23,7 @@ pub struct Compiled {
     effects: Vec<bool>,
     denies: Group,
     allows: Group,
+    asks_aliases: bool,
 }
 
 // Each crate that lets a compiled policy go calls this one drop, and doesn't take it apart itself.
@@ -31,19 +34,22 @@ impl Drop for Compiled {
             effects: _,
             denies: _,
             allows: _,
+            asks_aliases: _,
         } = self;
     }
 }
 
 impl Model for Compiled {
     ghost use Rattle.policy_doc.specs.declared.policies.Policy.{Policy as PolicyValue};
+    ghost use Rattle.std.specs.Prelude.{◌↔◌, IsTrue, codes};
     ghost use Rattle.policy_eval.specs.Order.{in_order, AreApart};
+    ghost use Rattle.policy_eval.specs.Asking.{SomeAskFor};
 
     ghost Value = { PolicyValue };
 
     ghost view = { λ c. record { kind = c.kind; statements = in_order c.effects.items c.denies c.allows } };
 
-    ghost invariant = { λ c. AreApart (in_order c.effects.items c.denies c.allows) c.denies c.allows };
+    ghost invariant = { λ c. AreApart (in_order c.effects.items c.denies c.allows) c.denies c.allows × (IsTrue c.asks_aliases ↔ SomeAskFor (codes "kms:ResourceAliases") (in_order c.effects.items c.denies c.allows)) };
 }
 
 impl Compiled {
@@ -68,6 +74,7 @@ impl Compiled {
             effects,
             denies,
             allows,
+            asks_aliases: some_ask_for(policy.statements.as_slice(), "kms:ResourceAliases"),
         })
     }
 
@@ -171,6 +178,23 @@ impl Compiled {
         self.has_conditions()
     }
 
+    fn names_aliases(&self) -> bool
+        ensures { IsTrue result ↔ AsksFor (codes "kms:ResourceAliases") self.now }
+    {
+        self.asks_aliases
+    }
+
+    /// Whether some condition is about `kms:ResourceAliases`, in whatever ASCII case. Where none is, requests have the
+    /// same verdict that differ in what they say of this condition key alone. It is found once, when the policy is
+    /// made ready.
+    pub fn asks_aliases(&self) -> bool
+        ensures conditions { IsTrue result ↔ AsksFor (codes "kms:ResourceAliases") self.now }
+        ensures unasked { result ≡ false → GoesWithout (codes "kms:ResourceAliases") self.now }
+        ensures one { result ≡ false → HasOneVerdictWithout (codes "kms:ResourceAliases") self.now }
+    {
+        self.names_aliases()
+    }
+
     /// A copy that equals its source.
     pub fn copy(&self) -> Result<Compiled, NoMemory>
         ensures { IfOk result (λ compiled. compiled ≡ self.now) }
@@ -180,6 +204,7 @@ impl Compiled {
             effects: self.effects.clone()?,
             denies: self.denies.copy()?,
             allows: self.allows.copy()?,
+            asks_aliases: self.asks_aliases,
         })
     }
 }

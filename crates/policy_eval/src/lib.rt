@@ -2,6 +2,7 @@
 //! policies").
 #![tactic(auto)]
 
+mod asking;
 mod ceilings;
 mod compiled;
 mod elements;
@@ -13,7 +14,7 @@ mod statements;
 mod threads;
 mod verdicts;
 
-pub use ceilings::{CeilingVerdict, ceiling, ceiling_asks_facts};
+pub use ceilings::{CeilingVerdict, ceiling, ceiling_asks_aliases, ceiling_asks_facts};
 pub use compiled::Compiled;
 pub use laws::{ceiling_of_is_under, verdict_of_is_the_verdict, verdicts_are_one};
 pub use masks::action_mask;

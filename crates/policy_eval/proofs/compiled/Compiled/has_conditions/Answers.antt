@@ -11,7 +11,7 @@ returns-then-has_conditions c =
     let kept = c.self.inside in
     let apart =
     subst (λ (p : Policy). SomeHasConditions p.statements ↔ (SomeHasConditions kept.denies ⊎ SomeHasConditions kept.allows)) c.self.view_is
-    (conditions_apart (in_order kept.effects.items kept.denies kept.allows) kept.denies kept.allows c.self.invariant) in
+    (conditions_apart (in_order kept.effects.items kept.denies kept.allows) kept.denies kept.allows c.self.invariant.0) in
     (λ t. apart.1 (inl (c.has_conditions.ensures.0 t)), λ some. c.if-has_conditions.true)
 
 pub returns-else-has_conditions : goal.returns-else-has_conditions
@@ -19,7 +19,7 @@ returns-else-has_conditions c =
     let kept = c.self.inside in
     let apart =
     subst (λ (p : Policy). SomeHasConditions p.statements ↔ (SomeHasConditions kept.denies ⊎ SomeHasConditions kept.allows)) c.self.view_is
-    (conditions_apart (in_order kept.effects.items kept.denies kept.allows) kept.denies kept.allows c.self.invariant) in
+    (conditions_apart (in_order kept.effects.items kept.denies kept.allows) kept.denies kept.allows c.self.invariant.0) in
     let says = c.has_conditions-else-has_conditions.ensures in (
       λ t. apart.1 (inr (says.0 t)),
       λ some. elim (apart.0 some) [

@@ -1,6 +1,8 @@
-use Rattle.std.proofs.Common.{List, ◌∙◌, ap}
+use Rattle.std.proofs.Common.{List, ◌∙◌, ap, codes, subst, sym}
+use Rattle.std.specs.Prelude.{◌↔◌, IsTrue}
 use Rattle.policy_doc.specs.declared.policies.Policy.{Policy}
 use Rattle.policy_doc.specs.declared.policies.Statement.{Statement}
+use Rattle.policy_eval.specs.Asking.{SomeAskFor}
 use Rattle.policy_eval.proofs.OrderFacts.{kept_allow, kept_deny, all_kept, all_apart}
 use Rattle.policy_eval.proofs.compiled.Compiled.new.Goals as goal
 use Rattle.policy_eval.proofs.compiled.Compiled.new.Goals.{then-statement+in_ok-push-2, else-statement+in_ok-push-3}
@@ -21,7 +23,11 @@ loop-statement-preserved c =
 pub invariant_of-result : goal.invariant_of-result
 invariant_of-result c =
     let loop = c.loop-statement in
-    all_apart c.as_slice-statement-items.result.now loop.statement-index loop.effects.items loop.denies loop.allows c.loop-statement-test.false loop.invariant
+    let kept = all_kept c.as_slice-statement-items.result.now loop.statement-index loop.effects.items loop.denies loop.allows c.loop-statement-test.false loop.invariant in (
+      all_apart c.as_slice-statement-items.result.now loop.statement-index loop.effects.items loop.denies loop.allows c.loop-statement-test.false loop.invariant,
+      subst (λ ss. IsTrue c.some_ask_for.result ↔ SomeAskFor (codes "kms:ResourceAliases") ss)
+          (c.as_slice.ensures ∙ sym (kept ∙ c.as_slice-statement-items.ensures)) c.some_ask_for.ensures,
+    )
 
 pub returns : goal.returns
 returns c =

@@ -10,4 +10,4 @@ pub returns : goal.returns
 returns c =
     let kept = c.self.inside in
     subst (λ (p : Policy). IsTrue c.hits.result ↔ SomeDenies p.statements c.args.facts.now) c.self.view_is
-    (denies_caller (in_order kept.effects.items kept.denies kept.allows) kept.denies kept.allows c.self.invariant c.args.facts.now c.hits.result c.hits.ensures)
+    (denies_caller (in_order kept.effects.items kept.denies kept.allows) kept.denies kept.allows c.self.invariant.0 c.args.facts.now c.hits.result c.hits.ensures)
