@@ -4,7 +4,7 @@ use mathlib.Core.List.{IsPrefix}
 use Rattle.std.proofs.lemmas.Bool.{false≢true}
 use Rattle.std.proofs.lemmas.Bool.Decides.{nat_tests}
 use Rattle.std.proofs.lemmas.List.{take-append-le, length-take-le, map-append}
-use Rattle.std.proofs.lemmas.List.Elements.{All-append}
+use Rattle.std.proofs.lemmas.List.Elements.{All-nil, All-cons, All-append}
 use Rattle.kms_names.specs.Moment.{year_10000}
 use Rattle.kms_json.specs.declared.asks.Ask.{Ask}
 use Rattle.kms_json.specs.declared.replies.Reply.{Reply}
@@ -66,10 +66,14 @@ runs_append : (facts : RealmFacts) (p : ℕ) (s t u : State) (events more : List
 runs_append facts p s t u [] more is run = subst (λ (w : State). Runs facts p w more u) is run
 runs_append facts p s t u (event ∷ events) more (w, step, rest) run = (w, step, runs_append facts p w t u events more rest run)
 
+-- one event of a pass
+done_by : (old : Pass) (event : Event) → doer event ≡ old.number → All (λ event. doer event ≡ old.number) (event ∷ [])
+done_by old event by = All-cons (λ event. doer event ≡ old.number) event [] by (All-nil (λ event. doer event ≡ old.number))
+
 -- ---- a pass that changes nothing but what it has seen, missed and used
 
 abbrev moved : Pass → List (Entry × ℕ) → ℕ → Places → Pass
-moved old history missed places = record old { history = history; missed = missed; places = places }
+moved old history count places = record old { history = history; missed = count; places = places }
 
 module _ (facts : RealmFacts) (p : ℕ) (times : TimesNeverFall) where
   abbrev Done : State → List (Entry × ℕ) → Pass → Pass → Type 0
@@ -79,12 +83,12 @@ module _ (facts : RealmFacts) (p : ℕ) (times : TimesNeverFall) where
   seen_is s old h has = ap length has.history ∙ length-take-le (s.seen old.number) s.history (h.seen old.number)
 
   -- one event leads to what is seen and used
-  looked_on : (s : State) (old : Pass) (history : List (Entry × ℕ)) (missed : ℕ) (places : Places) (event : Event) → doer event ≡ old.number
+  looked_on : (s : State) (old : Pass) (history : List (Entry × ℕ)) (count : ℕ) (places : Places) (event : Event) → doer event ≡ old.number
       → Step facts p s event (looked_at s old.number (length history) places) → Has facts p s old → IsPrefix history s.history
-      → Done s s.history old (moved old history missed places)
-  looked_on s old history missed places event by step has front = record {
+      → Done s s.history old (moved old history count places)
+  looked_on s old history count places event by step has front = record {
     events = event ∷ [];
-    by_the_pass = (by, tt);
+    by_the_pass = done_by old event by;
     after = looked_at s old.number (length history) places;
     runs = (looked_at s old.number (length history) places, step, refl);
     is_published = refl;
@@ -108,11 +112,11 @@ module _ (facts : RealmFacts) (p : ℕ) (times : TimesNeverFall) where
   }
 
   -- learning, by an event
-  learnt_on : (s : State) (old : Pass) (history : List (Entry × ℕ)) (missed : ℕ) → Holds facts p s → Has facts p s old → IsPrefix old.history history → IsPrefix history s.history
-      → Done s s.history old (record old { history = history; missed = missed })
-  learnt_on s old history missed h has on front = record {
+  learnt_on : (s : State) (old : Pass) (history : List (Entry × ℕ)) (count : ℕ) → Holds facts p s → Has facts p s old → IsPrefix old.history history → IsPrefix history s.history
+      → Done s s.history old (record old { history = history; missed = count })
+  learnt_on s old history count h has on front = record {
     events = learn old.number (length history) ∷ [];
-    by_the_pass = (refl, tt);
+    by_the_pass = done_by old (learn old.number (length history)) refl;
     after = looked s old.number (length history);
     runs = (
       looked s old.number (length history),
@@ -145,7 +149,7 @@ module _ (facts : RealmFacts) (p : ℕ) (times : TimesNeverFall) where
   misses_done : (s : State) (old new : Pass) → Has facts p s old → Misses old new → Done s s.history old new
   misses_done s old new has misses = subst (Done s s.history old) (sym misses.others) (record {
     events = [];
-    by_the_pass = tt;
+    by_the_pass = All-nil (λ event. doer event ≡ old.number);
     after = s;
     runs = refl;
     is_published = refl;
@@ -205,7 +209,7 @@ module _ (facts : RealmFacts) (p : ℕ) (times : TimesNeverFall) where
       let longer : length (s.history ++ (entry, old.number) ∷ []) ≡ length s.history + 1 = length-append s.history ((entry, old.number) ∷ []) in
       record {
         events = event ∷ [];
-        by_the_pass = (by, tt);
+        by_the_pass = done_by old event by;
         after = made s old.number entry;
         runs = (made s old.number entry, step, refl);
         is_published = ap (λ (pairs : List (Entry × ℕ)). pairs ++ (entry, old.number) ∷ []) (sym whole);
@@ -237,7 +241,7 @@ module _ (facts : RealmFacts) (p : ℕ) (times : TimesNeverFall) where
   rests : (s : State) (old : Pass) → Has facts p s old → old.history ≡ s.history → Done s old.history old old
   rests s old has whole = record {
     events = [];
-    by_the_pass = tt;
+    by_the_pass = All-nil (λ event. doer event ≡ old.number);
     after = s;
     runs = refl;
     is_published = sym whole;
@@ -354,7 +358,7 @@ module _ (facts : RealmFacts) (p : ℕ) (times : TimesNeverFall) where
   stays_done : (s : State) (old : Pass) → Has facts p s old → Done s s.history old old
   stays_done s old has = record {
     events = [];
-    by_the_pass = tt;
+    by_the_pass = All-nil (λ event. doer event ≡ old.number);
     after = s;
     runs = refl;
     is_published = refl;

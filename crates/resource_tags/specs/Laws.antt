@@ -14,7 +14,7 @@ last_value (tag ∷ more) key = option_or (last_value more key) (if is_eq (by_by
 -- whether the key is one of these
 abbrev pub is_among : List (List ℕ) → List ℕ → Bool
 is_among [] key = false
-is_among (other ∷ keys) key = is_eq (by_bytes other key) || is_among keys key
+is_among (other ∷ keys) key = is_eq (by_bytes key other) || is_among keys key
 
 -- once tags were put, a key has the value of the last of them that has the key, and else the value that it had
 abbrev pub PutTagsAreThere : Type 0

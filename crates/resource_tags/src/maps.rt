@@ -1,12 +1,11 @@
 //! The tags of one resource.
 
-ghost use Rattle.std.specs.Prelude.{◌≡◌, ◌<◌, ◌≤◌, [], length, IfOk, IfErr, OnOk};
+ghost use Rattle.std.specs.Prelude.{◌≡◌, ◌<◌, ◌≤◌, ◌==◌, [], length, Err, IfOk, OnOk};
 ghost use Rattle.std.specs.Option.{option_map};
-ghost use Rattle.std.specs.Cmp.Lexicographic.{slice_cmp};
-ghost use Rattle.std.specs.Ordering.{nat_cmp};
+ghost use Rattle.std.specs.Ordering.{is_gt};
 ghost use Rattle.persist_map.specs.Pairs.{Ascends, value_at};
 ghost use Rattle.resource_tags.specs.Tags.{by_bytes, with_tags, without_tags, tag_after};
-ghost use Rattle.resource_tags.specs.declared.maps.TagFault.TheVariants.{TooMany};
+ghost use Rattle.resource_tags.specs.declared.maps.TagFault.TheVariants.{TooMany, NoMemory as OutOfMemory};
 
 use crate::tags::Tag;
 use kms_names::{NoMemory, Text};
@@ -27,9 +26,18 @@ pub enum TagFault {
 }
 
 impl From<NoMemory> for TagFault {
+    ghost from_gives = { λ _ e. e ≡ OutOfMemory };
+
     fn from(_e: NoMemory) -> TagFault {
         TagFault::NoMemory
     }
+}
+
+// Whether the text is above these bytes in byte order.
+fn is_above(text: &Text, bytes: &[u8]) -> bool
+    ensures { result ≡ is_gt (by_bytes text.now bytes.now) }
+{
+    text.as_str().as_bytes().cmp(bytes).is_gt()
 }
 
 /// The tags of a resource, at most 50. Contracts see them as the list of their keys and values, in ascending byte order of
@@ -89,7 +97,7 @@ impl TagMap {
     pub fn put_all(&self, tags: &[Tag]) -> Result<TagMap, TagFault>
         ensures put { IfOk result (λ m. m ≡ with_tags self.now tags.now) }
         ensures few { OnOk result (length (with_tags self.now tags.now) ≤ 50) }
-        ensures many { IfErr result (λ why. why ≡ TooMany → 50 < length (with_tags self.now tags.now)) }
+        ensures many { result ≡ Err TooMany → 50 < length (with_tags self.now tags.now) }
     {
         let mut all = self.tags.share()?;
         for tag in tags {
@@ -102,6 +110,7 @@ impl TagMap {
     }
 
     /// The tags of other keys than these.
+    #[tactic(auto, using(crate::proofs::TagFacts::shrinks))]
     pub fn drop_keys(&self, keys: &[Text]) -> Result<TagMap, NoMemory>
         ensures { IfOk result (λ m. m ≡ without_tags self.now keys.now) }
     {
@@ -123,6 +132,11 @@ impl TagMap {
     pub fn after(&self, key: &[u8]) -> Option<(&Text, &Text)>
         ensures { option_map (λ tag. (tag.0.now, tag.1.now)) result ≡ tag_after self.now key.now }
     {
-        self.tags.iter().find(|tag| tag.0.as_str().as_bytes() > key)
+        for (tag, value) in self.tags.iter() {
+            if is_above(tag, key) {
+                return Some((tag, value));
+            }
+        }
+        None
     }
 }

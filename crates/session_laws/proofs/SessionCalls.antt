@@ -1,6 +1,6 @@
 -- What sessions and workers do is calls of their passes; so what holds of calls holds of a run.
 use Rattle.std.proofs.Common.{◌≡◌, ◌<◌, ℕ, List, [], ◌∷◌, ◌++◌, Bool, map, All, Result, Ok, Err, refl, sym, ap, ◌∙◌, subst, zero, suc, true}
-use Rattle.std.proofs.lemmas.List.Elements.{All-append}
+use Rattle.std.proofs.lemmas.List.Elements.{All-nil, All-cons, All-head, All-tail, All-append}
 use Rattle.kms_names.specs.Moment.{year_10000}
 use Rattle.kms_names.specs.Principal.{account_of}
 use Rattle.kms_names.specs.declared.principals.Principal.{Principal}
@@ -140,8 +140,9 @@ workers_are_calls trust connections start end of (gives_up {last = last} run siz
 -- ---- a server
 
 same_facts : (facts : RealmFacts) (passes n : ℕ) → All (λ (pass : Pass). pass.facts ≡ facts) (fresh_passes facts passes n)
-same_facts facts passes zero = tt
-same_facts facts passes (suc n) = All-append (λ (pass : Pass). pass.facts ≡ facts) (fresh_passes facts passes n) (fresh_pass facts passes (suc n) ∷ []) (same_facts facts passes n) (refl, tt)
+same_facts facts passes zero = All-nil (λ (pass : Pass). pass.facts ≡ facts)
+same_facts facts passes (suc n) = All-append (λ (pass : Pass). pass.facts ≡ facts) (fresh_passes facts passes n) (fresh_pass facts passes (suc n) ∷ []) (same_facts facts passes n)
+    (All-cons (λ (pass : Pass). pass.facts ≡ facts) (fresh_pass facts passes (suc n)) [] refl (All-nil (λ (pass : Pass). pass.facts ≡ facts)))
 
 module _ (facts : RealmFacts) (trust : Trust) (connections : ℕ) (of : IsOfAccount facts.account trust) where
   abbrev Did : Pass → WorkerState → Type 0
@@ -151,9 +152,11 @@ module _ (facts : RealmFacts) (trust : Trust) (connections : ℕ) (of : IsOfAcco
       → Pairwise Settles ends last → Pairwise Did (map (λ (w : WorkerState). w.pass) crew) last
   crew_calls crew ends last same none none = none
   crew_calls crew ends last same (both {x = first} {y = end} work works) (both {y = settled} settles all) =
-      let here : IsOfAccount first.pass.facts.account trust = subst (λ (f : RealmFacts). IsOfAccount f.account trust) (sym same.0) of in
+      let P : Pass → Type 0 = λ pass. pass.facts ≡ facts in
+      let first_same : first.pass.facts ≡ facts = All-head P first.pass _ same in
+      let here : IsOfAccount first.pass.facts.account trust = subst (λ (f : RealmFacts). IsOfAccount f.account trust) (sym first_same) of in
       both (calls_append first.pass end.pass settled.pass (workers_are_calls trust connections first end here work) (learns end.pass settled.pass settles.learns))
-      (crew_calls _ _ _ same.1 works all)
+      (crew_calls _ _ _ (All-tail P first.pass _ same) works all)
 
 pub servers_are_calls : ServersAreCalls
 servers_are_calls facts trust wanted served old new of is =
