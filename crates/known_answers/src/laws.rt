@@ -54,10 +54,22 @@ fn of_policies() {
     policy_eval::verdicts_are_one();
 }
 
+/// The laws of heads, of the header Authorization, of configurations and of tags.
+fn of_texts() {
+    http_front::one_head();
+    sigv4_check::authorization_of_reads();
+    kms_config::configurations_are_read();
+    kms_config::other_members_in_byte_order();
+    kms_config::values_are_judged_once();
+    resource_tags::dropped_tags_are_gone();
+    resource_tags::put_tags_are_there();
+}
+
 /// Calls each law.
 pub fn all() {
     of_names();
     of_ciphers();
     of_blobs();
     of_policies();
+    of_texts();
 }

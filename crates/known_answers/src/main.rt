@@ -23,6 +23,7 @@ mod parts;
 mod policies;
 mod report;
 mod signatures;
+mod tags;
 mod threads;
 mod verdicts;
 

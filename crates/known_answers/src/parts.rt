@@ -3,7 +3,7 @@
 use crate::cases::Case;
 use crate::{
     blobs, ciphers, conditions, configs, contexts, draws, globs, groups, keys, macs, maps, names,
-    policies, signatures, verdicts,
+    policies, signatures, tags, verdicts,
 };
 
 /// A part, with a file of cases.
@@ -27,11 +27,12 @@ pub enum Part {
     Configs,
     Maps,
     Groups,
+    Tags,
 }
 
 impl Part {
     /// All parts.
-    pub const ALL: [Part; 18] = [
+    pub const ALL: [Part; 19] = [
         Part::Aes256,
         Part::Ghash,
         Part::Gcm,
@@ -50,6 +51,7 @@ impl Part {
         Part::Configs,
         Part::Maps,
         Part::Groups,
+        Part::Tags,
     ];
 
     /// The name of the part's file.
@@ -73,6 +75,7 @@ impl Part {
             Part::Configs => "configs.txt",
             Part::Maps => "maps.txt",
             Part::Groups => "groups.txt",
+            Part::Tags => "tags.txt",
         }
     }
 
@@ -97,6 +100,7 @@ impl Part {
             Part::Configs => configs::configs(case),
             Part::Maps => maps::maps(case),
             Part::Groups => groups::groups(case),
+            Part::Tags => tags::tags(case),
         }
     }
 }
