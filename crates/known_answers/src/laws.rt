@@ -48,6 +48,8 @@ fn of_policies() {
     cond_ops::related_values_have_the_form();
     policy_doc::first_fault_has_place();
     policy_doc::first_fault_in_byte_order();
+    policy_doc::first_fault_is_at_the_first_place();
+    policy_doc::places_stand_in_the_value();
     policy_doc::policy_of_reads();
     policy_eval::ceiling_of_is_under();
     policy_eval::verdict_of_is_the_verdict();

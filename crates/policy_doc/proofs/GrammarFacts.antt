@@ -155,7 +155,7 @@ given_tells form path (Some text) =
     by_departure (Some departure) has none =
         (λ e. some_none (fault_at departure path) e, λ v h. let same : text ≡ v = cc (h.0) in some_none departure (none v same h.1))
 
-text_tells : (form : Form) (path : List ℕ) (d : Data) → Tells (text_fault form path d) (text_of form d) (IsText form d)
+pub text_tells : (form : Form) (path : List ℕ) (d : Data) → Tells (text_fault form path d) (text_of form d) (IsText form d)
 text_tells form path d = given_tells form path (text_given form d)
 
 texts_split : (form : Form) (d : Data) (ds : Items) (v : List (List ℕ)) → AreTexts form (item d ds) v → (y : List ℕ) × (ys : List (List ℕ)) × (v ≡ y ∷ ys) × IsText form d y × AreTexts form ds ys
@@ -250,7 +250,7 @@ effect_text s path = by_tests (bytes_eq s (codes "Allow")) (bytes_eq s (codes "D
       λ v h. absurd (neither_stands s v (λ e. let bad : false ≡ true = allows.1 e in cc) (λ e. let bad : false ≡ true = denies.1 e in cc) h),
     )
 
-effect_tells : (path : List ℕ) (o : Option Data) → Tells (effect_fault path o) (effect_of o) (IsEffect o)
+pub effect_tells : (path : List ℕ) (o : Option Data) → Tells (effect_fault path o) (effect_of o) (IsEffect o)
 effect_tells path None = nothing path false
 effect_tells path (Some null) = nothing path false
 effect_tells path (Some (boolean b)) = nothing path false

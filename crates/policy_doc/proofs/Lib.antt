@@ -12,3 +12,6 @@ mod OrderFacts
 mod ReadingFacts
 pub mod ConditionDecision
 pub mod NamedDecision
+mod JudgedFacts
+mod PartsJudged
+mod PlacesStand

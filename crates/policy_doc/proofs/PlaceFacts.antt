@@ -24,7 +24,8 @@ use Rattle.policy_doc.specs.Conditions.{keys_fault, under_fault, operator_fault,
 use Rattle.policy_doc.specs.Statements.{optional_fault, effect_fault, pair_fault, statement_names, not_principal_fault, names_fault, statement_fault}
 use Rattle.policy_doc.specs.Statements as statements
 use Rattle.policy_doc.specs.Documents.{is_version, version_fault, statement_part_fault, document_names, first_fault}
-use Rattle.policy_doc.specs.Pointers.{HasMember, PointsTo, LacksMember, IsAtPlace}
+use Rattle.policy_doc.specs.Places.{StandsAt}
+use Rattle.policy_doc.specs.Pointers.{HasMember, PointsTo, IsAtPlace}
 use Rattle.policy_doc.proofs.TokenFacts.{is_ascii}
 use Rattle.policy_doc.proofs.PointerFacts.{points_root, points_member, points_item, lacks_member, member_found, member_missing}
 
@@ -34,14 +35,13 @@ module _ (root : Data) where
 
   -- the pointer leads to what is given, or to where it lacks
   abbrev Given : List ℕ → Option Data → Type 0
-  Given path None = LacksMember path root
-  Given path (Some d) = PointsTo path root d
+  Given path o = StandsAt root path o
 
   -- the pointers to the members of an object, and to the items of a list from this index on
-  abbrev Inside : List ℕ → Members → Type 0
+  abbrev pub Inside : List ℕ → Members → Type 0
   Inside path ms = (name : List ℕ) (d : Data) → HasMember name d ms → PointsTo (member_path path name) root d
 
-  abbrev Within : List ℕ → ℕ → Items → Type 0
+  abbrev pub Within : List ℕ → ℕ → Items → Type 0
   Within path index ds = (i j : ℕ) (d : Data) → get_item i ds ≡ Some d → j ≡ index + i → PointsTo (item_path path j) root d
 
   at_or : (a b : Option PolicyFault) → At a → At b → At (option_or a b)
@@ -52,19 +52,19 @@ module _ (root : Data) where
   at_if true a b x y = x
   at_if false a b x y = y
 
-  inside : (path : List ℕ) (ms : Members) → PointsTo path root (object ms) → Inside path ms
+  pub inside : (path : List ℕ) (ms : Members) → PointsTo path root (object ms) → Inside path ms
   inside path ms points name d has = points_member path name root d ms points has
 
-  within : (path : List ℕ) (ds : Items) → PointsTo path root (array ds) → Within path 0 ds
+  pub within : (path : List ℕ) (ds : Items) → PointsTo path root (array ds) → Within path 0 ds
   within path ds points i j d has is = let same : i ≡ j = omega arith in points_item path j root d ds points (subst (λ k. get_item k ds ≡ Some d) same has)
 
-  within_first : (path : List ℕ) (index : ℕ) (d : Data) (ds : Items) → Within path index (item d ds) → PointsTo (item_path path index) root d
+  pub within_first : (path : List ℕ) (index : ℕ) (d : Data) (ds : Items) → Within path index (item d ds) → PointsTo (item_path path index) root d
   within_first path index d ds all = all zero index d refl (omega arith)
 
-  within_others : (path : List ℕ) (index : ℕ) (d : Data) (ds : Items) → Within path index (item d ds) → Within path (index + 1) ds
+  pub within_others : (path : List ℕ) (index : ℕ) (d : Data) (ds : Items) → Within path index (item d ds) → Within path (index + 1) ds
   within_others path index d ds all i j e has is = all (suc i) j e has (omega arith)
 
-  given : (path : List ℕ) (ms : Members) → PointsTo path root (object ms) → (name : List ℕ) → is_ascii name ≡ true → Given (member_path path name) (get_member name ms)
+  pub given : (path : List ℕ) (ms : Members) → PointsTo path root (object ms) → (name : List ℕ) → is_ascii name ≡ true → StandsAt root (member_path path name) (get_member name ms)
   given path ms points name ascii = by_option (get_member name ms) refl
     where
       by_option : (o : Option Data) → get_member name ms ≡ o → Given (member_path path name) o

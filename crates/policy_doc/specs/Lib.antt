@@ -13,3 +13,4 @@ pub mod Grammar
 pub mod Reading
 pub mod Pointers
 pub mod ByteOrder
+pub mod Places

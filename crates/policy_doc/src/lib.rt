@@ -24,7 +24,10 @@ mod threads;
 pub use byte_order::members_in_byte_order;
 pub use documents::{read_policy, read_policy_value};
 pub use faults::PolicyFault;
-pub use laws::{first_fault_has_place, first_fault_in_byte_order, policy_of_reads};
+pub use laws::{
+    first_fault_has_place, first_fault_in_byte_order, first_fault_is_at_the_first_place,
+    places_stand_in_the_value, policy_of_reads,
+};
 pub use members::{first_unknown, is_known, member};
 pub use paths::{Path, pointer};
 pub use policies::{Named, NamedList, Policy, PolicyKind, Statement, StatementList};
