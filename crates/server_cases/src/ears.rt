@@ -1,6 +1,8 @@
 // Ears in memory, and what was written at them.
-ghost use Rattle.std.specs.Prelude.{◌≡◌, [], Some, false, IfOk};
+ghost use Rattle.std.specs.Prelude.{◌≡◌, [], Some, false, IfOk, IsTrue};
 ghost use Rattle.kms_io.specs.MemoryEar.{listening_of};
+ghost use Rattle.kms_io.specs.MemoryLink.{wire_of};
+ghost use Rattle.kms_io.specs.NewLinks.{is_new_wire};
 
 use crate::worlds::Failure;
 use kms_io::{MemoryEar, MemoryLink};
@@ -19,37 +21,53 @@ fn bytes_of(alloc: Global, messages: &[&str]) -> Result<Vec<u8>, NoMemory> {
     Ok(bytes)
 }
 
-/// A connection on which these messages come one by one, and whose first write fails where that is wanted.
-pub fn link_of(
-    alloc: Global,
-    messages: &[&str],
-    fails_to_write: bool,
-) -> Result<MemoryLink, NoMemory> {
-    let input = bytes_of(alloc, messages)?;
-    let pieces = messages.iter().map(|message| message.len()).collect(alloc)?;
+/// What comes at an ear.
+#[derive(Clone, Copy)]
+pub struct Coming<'a> {
+    /// The messages of a connection, which come one by one.
+    pub messages: &'a [&'a str],
+    /// Whether the first write on it fails.
+    pub fails_to_write: bool,
+    /// Whether a second connection comes, with the same.
+    pub is_twice: bool,
+    /// How often the ear fails before each.
+    pub failures: u8,
+}
+
+// A connection of those that come.
+fn link_of(alloc: Global, coming: &Coming<'_>) -> Result<MemoryLink, NoMemory>
+    ensures { IfOk result (λ link. IsTrue (is_new_wire (wire_of link))) }
+{
+    let input = bytes_of(alloc, coming.messages)?;
+    let pieces = coming
+        .messages
+        .iter()
+        .map(|message| message.len())
+        .collect(alloc)?;
     let mut failing = Vec::new(alloc);
-    if fails_to_write {
+    if coming.fails_to_write {
         failing.push(0)?;
     }
     Ok(MemoryLink::new(alloc, input, pieces, Vec::new(alloc), failing))
 }
 
-/// An ear that gives these connections in order, and fails so often before each.
-pub fn ear_of(
-    alloc: Global,
-    connections: Vec<MemoryLink>,
-    failures: u8,
-) -> Result<MemoryEar, NoMemory>
+/// An ear at which this comes.
+pub fn ear_of(alloc: Global, coming: &Coming<'_>) -> Result<MemoryEar, NoMemory>
     ensures { IfOk result (λ ear. listening_of ear ≡ record {
       faults = 0;
       is_out = false;
       given_back = Some [];
     }) }
 {
-    let failures = u64::from(failures);
+    let failures = u64::from(coming.failures);
     let failing = (0..CALLS)
         .filter(|call| *call % (failures + 1) < failures)
         .collect(alloc)?;
+    let mut connections = Vec::new(alloc);
+    connections.push(link_of(alloc, coming)?)?;
+    if coming.is_twice {
+        connections.push(link_of(alloc, coming)?)?;
+    }
     Ok(MemoryEar::new(alloc, connections, failing))
 }
 

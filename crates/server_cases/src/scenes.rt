@@ -1,7 +1,7 @@
 // What is shown: of two workers beside one another, and of one worker.
 ghost use Rattle.std.specs.Prelude.{◌≡◌};
 
-use crate::ears::{ear_of, link_of, replies_in};
+use crate::ears::{Coming, ear_of, replies_in};
 use crate::late::LateDoor;
 use crate::messages::{LIST, LOOK, MAKE, NOTHING, OPEN, TURN};
 use crate::stage::Stage;
@@ -134,9 +134,11 @@ fn add_ear<'a, W: Wait + Clock>(
     stage: &'a Stage<'a, W>,
     sent: &Sent<'_>,
 ) -> Result<(), NoMemory> {
-    let mut links = Vec::new(alloc);
-    links.push(link_of(alloc, sent.messages, false)?)?;
-    door.add(ear_of(alloc, links, 0)?, stage, sent.after)
+    let coming = Coming {
+        messages: sent.messages,
+        ..ONE
+    };
+    door.add(ear_of(alloc, &coming)?, stage, sent.after)
 }
 
 // Shows what each of two workers answered, and what came of it.
@@ -181,12 +183,7 @@ pub fn beside<W: rt::Runtime + Threads + Wait + Sync>(world: &World<'_, W>) -> R
 #[derive(Clone, Copy)]
 struct Single<'a> {
     what: &'a str,
-    // How many connections come, on each of which these messages do, and how often the ear fails before each.
-    coming: u16,
-    failures: u8,
-    messages: &'a [&'a str],
-    // Whether the first write on each fails.
-    fails_to_write: bool,
+    coming: Coming<'a>,
     // How many connections the worker is to take.
     connections: u16,
     // The third answer of the clock.
@@ -196,12 +193,16 @@ struct Single<'a> {
     lacks_ears: bool,
 }
 
-const ONE_KEY: Single<'static> = Single {
-    what: "a key",
-    coming: 1,
-    failures: 0,
+const ONE: Coming<'static> = Coming {
     messages: &[MAKE],
     fails_to_write: false,
+    is_twice: false,
+    failures: 0,
+};
+
+const ONE_KEY: Single<'static> = Single {
+    what: "a key",
+    coming: ONE,
     connections: 1,
     later: NOW,
     is_shut: false,
@@ -212,7 +213,10 @@ const ONE_KEY: Single<'static> = Single {
 // at the third, 90 days later.
 const ROTATED: Single<'static> = Single {
     what: "a key, its rotation, and the housekeeping that is due 90 days later",
-    messages: &[MAKE, TURN],
+    coming: Coming {
+        messages: &[MAKE, TURN],
+        ..ONE
+    },
     later: 1_707_776_000,
     ..ONE_KEY
 };
@@ -225,14 +229,20 @@ const SECOND_LACKS: Single<'static> = Single {
 
 const FAILS_15: Single<'static> = Single {
     what: "an ear that fails 15 times",
-    failures: 15,
+    coming: Coming {
+        failures: 15,
+        ..ONE
+    },
     ..ONE_KEY
 };
 
 const FAILS_15_TWICE: Single<'static> = Single {
     what: "an ear that fails 15 times before each of two connections, with a key made on each",
-    coming: 2,
-    failures: 15,
+    coming: Coming {
+        is_twice: true,
+        failures: 15,
+        ..ONE
+    },
     connections: 2,
     ..ONE_KEY
 };
@@ -240,13 +250,19 @@ const FAILS_15_TWICE: Single<'static> = Single {
 // The pass holds the key's entry, so it is counted.
 const UNWRITTEN: Single<'static> = Single {
     what: "a key whose reply can't be written",
-    fails_to_write: true,
+    coming: Coming {
+        fails_to_write: true,
+        ..ONE
+    },
     ..ONE_KEY
 };
 
 const FAILS_16: Single<'static> = Single {
     what: "an ear that fails 16 times",
-    failures: 16,
+    coming: Coming {
+        failures: 16,
+        ..ONE
+    },
     ..ONE_KEY
 };
 
@@ -269,11 +285,7 @@ fn door_of(alloc: Global, scene: &Single<'_>) -> Result<MemoryDoor, NoMemory> {
         failing.push(0)?;
     }
     let mut ears = Vec::new(alloc);
-    let mut links = Vec::new(alloc);
-    for _ in 0..scene.coming {
-        links.push(link_of(alloc, scene.messages, scene.fails_to_write)?)?;
-    }
-    ears.push(ear_of(alloc, links, scene.failures)?)?;
+    ears.push(ear_of(alloc, &scene.coming)?)?;
     Ok(MemoryDoor::new(alloc, ears, failing))
 }
 
