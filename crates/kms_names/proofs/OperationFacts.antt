@@ -5,7 +5,7 @@ use Rattle.std.proofs.lemmas.Bool.{eqb-true, eq-eqb}
 use Rattle.std.specs.List.{list_all, list_any}
 use Rattle.std.proofs.lemmas.List.Recursion.{and_at, and_from_places}
 use Rattle.kms_names.specs.declared.operations.GrantOp.{GrantOp}
-use Rattle.kms_names.specs.declared.operations.GrantOp.TheVariants.{Encrypt, Decrypt, GenerateDataKey, GenerateDataKeyWithoutPlaintext, ReEncryptFrom, ReEncryptTo, CreateGrant, RetireGrant, DescribeKey}
+use Rattle.kms_names.specs.declared.operations.GrantOp.TheVariants.{Encrypt, Decrypt, GenerateDataKey, GenerateDataKeyWithoutPlaintext, ReEncryptFrom, ReEncryptTo, CreateGrant, RetireGrant, DescribeKey, GenerateMac, VerifyMac}
 use Rattle.kms_names.specs.Action.{action_number}
 use Rattle.kms_names.specs.declared.actions.Action.{Action}
 use Rattle.kms_names.specs.GrantOps.{all_grant_ops, action_of, contains, with_op, those}
@@ -30,6 +30,8 @@ module _ (test : GrantOp → Bool) where
   each_passes all CreateGrant = and_at (list_all test) test refl (λ _ _. refl) all_grant_ops 6 Encrypt (lit< tt) all
   each_passes all RetireGrant = and_at (list_all test) test refl (λ _ _. refl) all_grant_ops 7 Encrypt (lit< tt) all
   each_passes all DescribeKey = and_at (list_all test) test refl (λ _ _. refl) all_grant_ops 8 Encrypt (lit< tt) all
+  each_passes all GenerateMac = and_at (list_all test) test refl (λ _ _. refl) all_grant_ops 9 Encrypt (lit< tt) all
+  each_passes all VerifyMac = and_at (list_all test) test refl (λ _ _. refl) all_grant_ops 10 Encrypt (lit< tt) all
 
 module _ (a b : GrantOp → Bool) where
   pub all_implied : list_all (λ op. not (a op) || b op) all_grant_ops ≡ true → (op : GrantOp) → a op ≡ true → b op ≡ true
@@ -108,3 +110,5 @@ module _ (test : GrantOp → Bool) where
   those_have CreateGrant = all_more all_grant_ops 0 CreateGrant ∙ alone (test CreateGrant)
   those_have RetireGrant = all_more all_grant_ops 0 RetireGrant ∙ alone (test RetireGrant)
   those_have DescribeKey = all_more all_grant_ops 0 DescribeKey ∙ alone (test DescribeKey)
+  those_have GenerateMac = all_more all_grant_ops 0 GenerateMac ∙ alone (test GenerateMac)
+  those_have VerifyMac = all_more all_grant_ops 0 VerifyMac ∙ alone (test VerifyMac)

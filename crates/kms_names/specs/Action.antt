@@ -38,15 +38,20 @@ action_name action.GenerateDataKey = codes "GenerateDataKey"
 action_name action.GenerateDataKeyWithoutPlaintext = codes "GenerateDataKeyWithoutPlaintext"
 action_name action.GenerateRandom = codes "GenerateRandom"
 action_name action.ReEncryptTo = codes "ReEncryptTo"
+action_name action.GenerateMac = codes "GenerateMac"
+action_name action.VerifyMac = codes "VerifyMac"
+action_name action.TagResource = codes "TagResource"
+action_name action.UntagResource = codes "UntagResource"
+action_name action.ListResourceTags = codes "ListResourceTags"
 
 -- what the globs of policies are matched with
 abbrev pub action_text : Action → List ℕ
 action_text a = codes "kms:" ++ action_name a
 
--- all actions in order: that of the table of operations, and then the second of the two of ReEncrypt
+-- all actions in order: the first of the operations, the second action of ReEncrypt, and the operations on MACs and on tags
 abbrev pub all_actions : List Action
 all_actions =
-    action.CreateKey ∷ action.DescribeKey ∷ action.ListKeys ∷ action.EnableKey ∷ action.DisableKey ∷ action.ScheduleKeyDeletion ∷ action.CancelKeyDeletion ∷ action.EnableKeyRotation ∷ action.DisableKeyRotation ∷ action.GetKeyRotationStatus ∷ action.RotateKeyOnDemand ∷ action.ListKeyRotations ∷ action.PutKeyPolicy ∷ action.GetKeyPolicy ∷ action.ListKeyPolicies ∷ action.UpdateKeyDescription ∷ action.CreateAlias ∷ action.UpdateAlias ∷ action.DeleteAlias ∷ action.ListAliases ∷ action.CreateGrant ∷ action.ListGrants ∷ action.ListRetirableGrants ∷ action.RetireGrant ∷ action.RevokeGrant ∷ action.Encrypt ∷ action.Decrypt ∷ action.ReEncryptFrom ∷ action.GenerateDataKey ∷ action.GenerateDataKeyWithoutPlaintext ∷ action.GenerateRandom ∷ action.ReEncryptTo ∷ []
+    action.CreateKey ∷ action.DescribeKey ∷ action.ListKeys ∷ action.EnableKey ∷ action.DisableKey ∷ action.ScheduleKeyDeletion ∷ action.CancelKeyDeletion ∷ action.EnableKeyRotation ∷ action.DisableKeyRotation ∷ action.GetKeyRotationStatus ∷ action.RotateKeyOnDemand ∷ action.ListKeyRotations ∷ action.PutKeyPolicy ∷ action.GetKeyPolicy ∷ action.ListKeyPolicies ∷ action.UpdateKeyDescription ∷ action.CreateAlias ∷ action.UpdateAlias ∷ action.DeleteAlias ∷ action.ListAliases ∷ action.CreateGrant ∷ action.ListGrants ∷ action.ListRetirableGrants ∷ action.RetireGrant ∷ action.RevokeGrant ∷ action.Encrypt ∷ action.Decrypt ∷ action.ReEncryptFrom ∷ action.GenerateDataKey ∷ action.GenerateDataKeyWithoutPlaintext ∷ action.GenerateRandom ∷ action.ReEncryptTo ∷ action.GenerateMac ∷ action.VerifyMac ∷ action.TagResource ∷ action.UntagResource ∷ action.ListResourceTags ∷ []
 
 -- the place in that order
 abbrev pub action_number : Action → ℕ
@@ -82,6 +87,11 @@ action_number action.GenerateDataKey = 28
 action_number action.GenerateDataKeyWithoutPlaintext = 29
 action_number action.GenerateRandom = 30
 action_number action.ReEncryptTo = 31
+action_number action.GenerateMac = 32
+action_number action.VerifyMac = 33
+action_number action.TagResource = 34
+action_number action.UntagResource = 35
+action_number action.ListResourceTags = 36
 
 -- whether an action is one of these
 abbrev pub is_among : List Action → Action → Bool

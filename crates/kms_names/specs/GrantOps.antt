@@ -5,7 +5,7 @@ use Rattle.std.specs.Str.{bytes_eq}
 use Rattle.kms_names.specs.declared.actions.Action.{Action}
 use Rattle.kms_names.specs.declared.actions.Action.TheVariants as action
 use Rattle.kms_names.specs.declared.operations.GrantOp.{GrantOp}
-use Rattle.kms_names.specs.declared.operations.GrantOp.TheVariants.{Encrypt, Decrypt, GenerateDataKey, GenerateDataKeyWithoutPlaintext, ReEncryptFrom, ReEncryptTo, CreateGrant, RetireGrant, DescribeKey}
+use Rattle.kms_names.specs.declared.operations.GrantOp.TheVariants.{Encrypt, Decrypt, GenerateDataKey, GenerateDataKeyWithoutPlaintext, ReEncryptFrom, ReEncryptTo, CreateGrant, RetireGrant, DescribeKey, GenerateMac, VerifyMac}
 use Rattle.kms_names.specs.Action.{action_name}
 use Rattle.kms_names.specs.ActionSet.{has_action, with_action}
 
@@ -20,6 +20,8 @@ action_of ReEncryptTo = action.ReEncryptTo
 action_of CreateGrant = action.CreateGrant
 action_of RetireGrant = action.RetireGrant
 action_of DescribeKey = action.DescribeKey
+action_of GenerateMac = action.GenerateMac
+action_of VerifyMac = action.VerifyMac
 
 abbrev pub grant_op_name : GrantOp → List ℕ
 grant_op_name op = action_name (action_of op)
@@ -27,7 +29,7 @@ grant_op_name op = action_name (action_of op)
 -- all grant operations in the order in which they are printed
 abbrev pub all_grant_ops : List GrantOp
 all_grant_ops =
-    Encrypt ∷ Decrypt ∷ GenerateDataKey ∷ GenerateDataKeyWithoutPlaintext ∷ ReEncryptFrom ∷ ReEncryptTo ∷ CreateGrant ∷ RetireGrant ∷ DescribeKey ∷ []
+    Encrypt ∷ Decrypt ∷ GenerateDataKey ∷ GenerateDataKeyWithoutPlaintext ∷ ReEncryptFrom ∷ ReEncryptTo ∷ CreateGrant ∷ RetireGrant ∷ DescribeKey ∷ GenerateMac ∷ VerifyMac ∷ []
 
 -- an operation is in the set of actions whose bits these are: its action is
 abbrev pub contains : ℕ → GrantOp → Bool

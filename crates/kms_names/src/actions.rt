@@ -4,8 +4,8 @@ ghost use Rattle.kms_names.specs.Action.{action_name, action_number, action_text
 use crate::faults::NoMemory;
 use crate::parts::after;
 
-/// The name of an operation, with `ReEncryptFrom` and `ReEncryptTo` for `ReEncrypt`. The order is that of the
-/// table of operations, with `ReEncryptFrom` in the place of `ReEncrypt`, and `ReEncryptTo` last.
+/// The name of an operation, with `ReEncryptFrom` and `ReEncryptTo` for `ReEncrypt`. The order is that in which they
+/// were built: `ReEncryptTo` stands behind the first of them, and those on MACs and on tags behind it.
 #[derive(Clone, Copy)]
 pub enum Action {
     CreateKey,
@@ -40,11 +40,16 @@ pub enum Action {
     GenerateDataKeyWithoutPlaintext,
     GenerateRandom,
     ReEncryptTo,
+    GenerateMac,
+    VerifyMac,
+    TagResource,
+    UntagResource,
+    ListResourceTags,
 }
 
 impl Action {
     /// All actions in order.
-    pub const ALL: [Action; 32] = [
+    pub const ALL: [Action; 37] = [
         Action::CreateKey,
         Action::DescribeKey,
         Action::ListKeys,
@@ -77,6 +82,11 @@ impl Action {
         Action::GenerateDataKeyWithoutPlaintext,
         Action::GenerateRandom,
         Action::ReEncryptTo,
+        Action::GenerateMac,
+        Action::VerifyMac,
+        Action::TagResource,
+        Action::UntagResource,
+        Action::ListResourceTags,
     ];
 
     /// A copy that equals its source; no memory is taken.
@@ -140,6 +150,11 @@ impl Action {
             Action::GenerateDataKeyWithoutPlaintext => "kms:GenerateDataKeyWithoutPlaintext",
             Action::GenerateRandom => "kms:GenerateRandom",
             Action::ReEncryptTo => "kms:ReEncryptTo",
+            Action::GenerateMac => "kms:GenerateMac",
+            Action::VerifyMac => "kms:VerifyMac",
+            Action::TagResource => "kms:TagResource",
+            Action::UntagResource => "kms:UntagResource",
+            Action::ListResourceTags => "kms:ListResourceTags",
         }
     }
 }

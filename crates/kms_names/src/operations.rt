@@ -21,11 +21,13 @@ pub enum GrantOp {
     CreateGrant,
     RetireGrant,
     DescribeKey,
+    GenerateMac,
+    VerifyMac,
 }
 
 impl GrantOp {
     /// All grant operations in order.
-    pub const ALL: [GrantOp; 9] = [
+    pub const ALL: [GrantOp; 11] = [
         GrantOp::Encrypt,
         GrantOp::Decrypt,
         GrantOp::GenerateDataKey,
@@ -35,6 +37,8 @@ impl GrantOp {
         GrantOp::CreateGrant,
         GrantOp::RetireGrant,
         GrantOp::DescribeKey,
+        GrantOp::GenerateMac,
+        GrantOp::VerifyMac,
     ];
 
     /// The operation of a name, exactly as it is printed; no memory is taken.
@@ -51,6 +55,8 @@ impl GrantOp {
             "CreateGrant" => Some(GrantOp::CreateGrant),
             "RetireGrant" => Some(GrantOp::RetireGrant),
             "DescribeKey" => Some(GrantOp::DescribeKey),
+            "GenerateMac" => Some(GrantOp::GenerateMac),
+            "VerifyMac" => Some(GrantOp::VerifyMac),
             _ => None,
         }
     }
@@ -76,6 +82,8 @@ impl GrantOp {
             GrantOp::CreateGrant => Action::CreateGrant,
             GrantOp::RetireGrant => Action::RetireGrant,
             GrantOp::DescribeKey => Action::DescribeKey,
+            GrantOp::GenerateMac => Action::GenerateMac,
+            GrantOp::VerifyMac => Action::VerifyMac,
         }
     }
 

@@ -7,4 +7,4 @@ mod tags;
 
 pub use laws::{dropped_tags_are_gone, put_tags_are_there};
 pub use maps::{MOST_TAGS, TagFault, TagMap};
-pub use tags::Tag;
+pub use tags::{Tag, TagList};
