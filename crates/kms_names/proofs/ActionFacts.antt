@@ -1,5 +1,5 @@
 -- The numbers of actions, and the bits of a set of them.
-use Rattle.std.proofs.Common.{◌≡◌, ◌≢◌, ◌⊎◌, inl, inr, ℕ, zero, suc, ◌<◌, ◌≤◌, ◌+◌, ◌==◌, Bool, true, false, ◌||◌, refl, sym, ◌∙◌, ◌*◌, ◌^◌, ◌%◌, ap, subst, arith, lit<, lit≤, get_or, List, length, w64}
+use Rattle.std.proofs.Common.{◌≡◌, ◌≢◌, ◌⊎◌, inl, inr, ℕ, zero, suc, ◌<◌, ◌≤◌, ◌+◌, ◌==◌, Bool, true, false, ◌||◌, refl, sym, ◌∙◌, ◌*◌, ◌^◌, ◌%◌, ap, subst, arith, lit<, lit≤, get_or, length, w64}
 use Rattle.std.specs.Prelude.{max, bit_or}
 use Rattle.std.proofs.lemmas.Bool.{eqb-true, eq-eqb}
 use Rattle.std.specs.Int.{bit_at}
