@@ -1,5 +1,5 @@
 -- What becomes of tags.
-use Rattle.std.proofs.Common.{◌≡◌, ℕ, ◌≤◌, ◌||◌, Bool, true, false, not, List, [], ◌∷◌, length, Option, Some, None, if◌then◌else◌, refl, sym, ap, ◌∙◌, arith}
+use Rattle.std.proofs.Common.{◌≡◌, ℕ, ◌≤◌, ◌||◌, Bool, true, false, not, List, [], ◌∷◌, length, Option, Some, None, if◌then◌else◌, refl, ap, ◌∙◌, arith}
 use Rattle.std.proofs.lemmas.List.Filters.{length-filter_both}
 use Rattle.std.proofs.lemmas.Cmp.{tied_back}
 use Rattle.std.specs.Cmp.{IsTotalOrder}
@@ -11,7 +11,7 @@ use Rattle.std.specs.declared.cmp.Ordering.TheVariants.{Less, Equal, Greater}
 use Rattle.persist_map.specs.Pairs.{has_key, value_at, with_pair, without_key}
 use Rattle.persist_map.proofs.Laws.{value_at-with_pair, value_at-with_pair-other, value_at-without_key, value_at-without_key-other}
 use Rattle.resource_tags.specs.declared.tags.Tag.{Tag}
-use Rattle.resource_tags.specs.Tags.{Tags, by_bytes, with_tags, without_tags}
+use Rattle.resource_tags.specs.Tags.{Tags, by_bytes, without_tags}
 use Rattle.resource_tags.specs.Laws.{last_value, is_among, PutTagsAreThere, DroppedTagsAreGone}
 
 pub shrinks : (tags : Tags) (key : List ℕ) → length (without_key by_bytes tags key) ≤ length tags
