@@ -13,7 +13,7 @@ use Rattle.account_steps.proofs.Passing.{change_passed}
 
 -- a key or grant that it makes has the id of its place
 abbrev pub IsMadeAt : RealmFacts → ℕ → What → Type 0
-IsMadeAt facts place (what.CreateKey key description policy) = key ≡ key_id_at facts place
+IsMadeAt facts place (what.CreateKey key kind description policy tags) = key ≡ key_id_at facts place
 IsMadeAt facts place (what.GrantAdd grant key grantee retiring operations constraint name) = grant ≡ grant_id_at facts place
 IsMadeAt facts place _ = Unit {0}
 

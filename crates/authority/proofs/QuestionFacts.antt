@@ -88,8 +88,8 @@ unfolding request_of
 differ_in_aliases setting asked =
     let said : Particulars = asked.particulars in (
       (refl, refl, refl),
-      without resource_aliases (setting_facts setting) (key_facts said.keyed) (text_facts (codes "kms:RequestAlias") said.request_alias)
-          (sealing_facts asked.action said ++ (granting_facts asked.action said ++ changing_facts said)) said.aliases,
+      without resource_aliases (setting_facts setting) (key_facts said.kind) (text_facts (codes "kms:RequestAlias") said.request_alias)
+          (sealing_facts asked.action said ++ (granting_facts asked.action said ++ (changing_facts said ++ tag_facts said))) said.aliases,
     )
 
 with_all : (setting : Setting) (asked : Asked) → request_of setting (asked_as_gathered true asked) ≡ request_of setting asked
