@@ -3,7 +3,7 @@ use Rattle.std.specs.Prelude.{◌≡◌, ◌≢◌, ℕ, ◌<◌, Bool, true, fa
 use Rattle.std.specs.List.{list_all, list_any}
 use Rattle.std.specs.Str.{bytes_eq}
 use Rattle.kms_names.specs.declared.operations.GrantOp.{GrantOp}
-use Rattle.kms_names.specs.declared.operations.GrantOp.TheVariants.{Encrypt, Decrypt, GenerateDataKey, GenerateDataKeyWithoutPlaintext, ReEncryptFrom, ReEncryptTo, CreateGrant}
+use Rattle.kms_names.specs.declared.operations.GrantOp.TheVariants.{Encrypt, Decrypt, GenerateDataKey, GenerateDataKeyWithoutPlaintext, ReEncryptFrom, ReEncryptTo, GenerateMac, VerifyMac, CreateGrant}
 use Rattle.kms_names.specs.declared.operations.GrantOps.{GrantOps}
 use Rattle.kms_names.specs.declared.principals.Principal.{Principal}
 use Rattle.kms_names.specs.Place.{is_behind}
@@ -17,10 +17,10 @@ use Rattle.grant_table.specs.declared.rows.GrantRow.{GrantRow}
 
 -- ---- what a grant permits
 
--- the constraint is asked of the operations on a text and its context. It isn't asked of DescribeKey and RetireGrant;
--- for CreateGrant it is asked of the child grant instead
+-- the constraint is asked of the operations on a text and its context, and of those on a MAC, whose context is empty. It
+-- isn't asked of DescribeKey and RetireGrant; for CreateGrant it is asked of the child grant instead
 abbrev pub constrained : List GrantOp
-constrained = Encrypt ∷ Decrypt ∷ GenerateDataKey ∷ GenerateDataKeyWithoutPlaintext ∷ ReEncryptFrom ∷ ReEncryptTo ∷ []
+constrained = Encrypt ∷ Decrypt ∷ GenerateDataKey ∷ GenerateDataKeyWithoutPlaintext ∷ ReEncryptFrom ∷ ReEncryptTo ∷ GenerateMac ∷ VerifyMac ∷ []
 
 abbrev pub asks_constraint : GrantOp → Bool
 asks_constraint op = is_among (map action_of constrained) (action_of op)

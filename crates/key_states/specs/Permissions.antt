@@ -14,11 +14,13 @@ use Rattle.key_states.specs.declared.states.State.TheVariants.{Enabled, Disabled
 abbrev pub needing_enabled : List Action
 needing_enabled =
     action.Encrypt ∷ action.Decrypt ∷ action.ReEncryptFrom ∷ action.ReEncryptTo ∷ action.GenerateDataKey ∷ action.GenerateDataKeyWithoutPlaintext
-    ∷ action.CreateGrant ∷ action.EnableKeyRotation ∷ action.DisableKeyRotation ∷ action.RotateKeyOnDemand ∷ []
+    ∷ action.GenerateMac ∷ action.VerifyMac ∷ action.CreateGrant ∷ action.EnableKeyRotation ∷ action.DisableKeyRotation ∷ action.RotateKeyOnDemand ∷ []
 
 -- those that a disabled key takes too, and no key whose deletion is scheduled
 abbrev pub needing_kept : List Action
-needing_kept = action.EnableKey ∷ action.DisableKey ∷ action.ScheduleKeyDeletion ∷ action.UpdateKeyDescription ∷ action.CreateAlias ∷ action.UpdateAlias ∷ []
+needing_kept =
+    action.EnableKey ∷ action.DisableKey ∷ action.ScheduleKeyDeletion ∷ action.UpdateKeyDescription ∷ action.TagResource ∷ action.UntagResource
+    ∷ action.CreateAlias ∷ action.UpdateAlias ∷ []
 
 -- those that only a key whose deletion is scheduled takes
 abbrev pub needing_pending : List Action

@@ -39,6 +39,8 @@ impl Need {
             | Action::ReEncryptTo
             | Action::GenerateDataKey
             | Action::GenerateDataKeyWithoutPlaintext
+            | Action::GenerateMac
+            | Action::VerifyMac
             | Action::CreateGrant
             | Action::EnableKeyRotation
             | Action::DisableKeyRotation
@@ -47,6 +49,8 @@ impl Need {
             | Action::DisableKey
             | Action::ScheduleKeyDeletion
             | Action::UpdateKeyDescription
+            | Action::TagResource
+            | Action::UntagResource
             | Action::CreateAlias
             | Action::UpdateAlias => Need::Kept,
             Action::CancelKeyDeletion => Need::Pending,

@@ -5,7 +5,9 @@ ghost use Rattle.key_states.specs.States.{state_of, IsGone, is_due, IsDue};
 
 use crate::states::{State, Stored};
 use crate::versions::VersionList;
+use hmac_keys::KeyKind;
 use kms_names::{KeyId, NoMemory, Text};
+use resource_tags::TagMap;
 
 /// A key of an account.
 #[derive(Drop)]
@@ -16,6 +18,8 @@ pub struct KeyRow {
     pub born: u64,
     /// When it was made, in seconds since 1970.
     pub made: u64,
+    /// Its kind.
+    pub kind: KeyKind,
     /// Its description.
     pub description: Text,
     /// Its key policy, as it was given.
@@ -30,6 +34,8 @@ pub struct KeyRow {
     pub next: u64,
     /// How many rotations on demand it has had.
     pub on_demand: u32,
+    /// Its tags.
+    pub tags: TagMap,
 }
 
 impl KeyRow {
@@ -56,7 +62,7 @@ impl KeyRow {
         self.stored == Stored::Enabled && self.period.is_some() && self.next <= moment
     }
 
-    /// A copy that equals its source.
+    /// A copy that equals its source, and shares its tags.
     pub fn copy(&self) -> Result<KeyRow, NoMemory>
         ensures { IfOk result (λ row. row ≡ self.now) }
     {
@@ -64,6 +70,7 @@ impl KeyRow {
             key: self.key,
             born: self.born,
             made: self.made,
+            kind: self.kind,
             description: self.description.copy()?,
             policy: self.policy.copy()?,
             stored: self.stored,
@@ -71,6 +78,7 @@ impl KeyRow {
             period: self.period,
             next: self.next,
             on_demand: self.on_demand,
+            tags: self.tags.share()?,
         })
     }
 }
