@@ -16,7 +16,7 @@ use Rattle.policy_eval.specs.Verdict.{AskTheSame}
 use Rattle.policy_eval.specs.VerdictOf.{verdict_of}
 use Rattle.policy_eval.specs.CeilingOf.{ceiling_of, CeilingGoesByQuestion}
 use Rattle.authority.specs.Setting.{Setting, Particulars, Asked, is_root}
-use Rattle.authority.specs.Facts.{several, several_facts, text_facts, key_facts, setting_facts, sealing_facts, granting_facts, changing_facts, request_of}
+use Rattle.authority.specs.Facts.{several, several_facts, text_facts, key_facts, setting_facts, sealing_facts, granting_facts, changing_facts, tag_facts, request_of}
 use Rattle.authority.specs.Allowed.{is_deny, is_direct, some_deny, some_allow, identity_allows, own_standing, key_standing, standing, bounded, bounded_standing, standing_of}
 use Rattle.authority.specs.Questions.{GoByQuestions, KeyGoesByQuestion, resource_aliases, GoWithoutAliases, KeyGoesWithoutAliases, asked_as_gathered, SaysWhatIsAsked}
 

@@ -100,5 +100,6 @@ pub(crate) fn put_tags(facts: &mut Vec<Fact>, particulars: &Particulars<'_>) -> 
     put_own(facts, particulars)?;
     put_request_tags(facts, particulars.given_tags())?;
     let keys = tag_keys(*facts.allocator(), particulars)?;
-    put_some(facts, "aws:TagKeys", keys)
+    put_some(facts, "aws:TagKeys", keys)?;
+    Ok(())
 }
