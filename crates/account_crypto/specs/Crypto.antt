@@ -9,8 +9,8 @@ use Rattle.kms_json.specs.declared.asks.cryptography.Encrypt.{Encrypt}
 use Rattle.kms_json.specs.declared.asks.cryptography.Decrypt.{Decrypt}
 use Rattle.kms_json.specs.declared.asks.cryptography.ReEncrypt.{ReEncrypt}
 use Rattle.kms_json.specs.declared.asks.cryptography.DataKey.{DataKey}
-use Rattle.kms_json.specs.declared.asks.cryptography.GenerateMac.{GenerateMac}
-use Rattle.kms_json.specs.declared.asks.cryptography.VerifyMac.{VerifyMac}
+use Rattle.kms_json.specs.declared.asks.macs.GenerateMac.{GenerateMac}
+use Rattle.kms_json.specs.declared.asks.macs.VerifyMac.{VerifyMac}
 use Rattle.kms_json.specs.declared.refusals.Refusal.{Refusal}
 use Rattle.kms_json.specs.declared.refusals.Refusal.TheVariants as refusal
 use Rattle.hmac_keys.specs.Mac.{mac_of}
