@@ -27,13 +27,15 @@ use Rattle.account_keys.specs.KeyChanges.{changes_key}
 use Rattle.account_keys.specs.Keys.{creates_key}
 use Rattle.account_keys.specs.Policies.{puts_policy}
 use Rattle.account_keys.proofs.Doing as does
+use Rattle.account_tags.specs.Tagging.{tags_key, untags_key}
+use Rattle.account_tags.proofs.Doing as tagging
 use Rattle.account_core.specs.Operations.{change_outcome, read_outcome}
 use Rattle.account_core.specs.Decide.{lacking, decide_body, decide, IsProper}
 
 -- ---- what each operation that changes the account does
 
 room_of : (view : View) (body : Changing) (o : Outcome (Option What)) (did : What) → IsSizedChanging body → change_outcome view body ≡ Ok o → o.effect ≡ Some did → HasRoom view did
-room_of view (changing.CreateKey x) o did sized = done_by view (creates_key view x) (does.creates view x) o did
+room_of view (changing.CreateKey x) o did sized = done_by view (creates_key view x) (does.creates view x sized.1) o did
 room_of view (changing.PutKeyPolicy key_id text bypass) o did sized = done_by view (puts_policy view key_id text bypass) (does.puts view key_id text bypass) o did
 room_of view (changing.UpdateKeyDescription key_id text) o did sized = done_by view (changes_key view key_id (change.Describe text)) (does.changes view key_id (change.Describe text) tt) o did
 room_of view (changing.EnableKey key_id) o did sized = done_by view (changes_key view key_id change.Enable) (does.changes view key_id change.Enable tt) o did
@@ -49,6 +51,8 @@ room_of view (changing.DeleteAlias name) o did sized = done_by view (changes_ali
 room_of view (changing.CreateGrant x) o did sized = done_by view (creates_grant view x) (does.grants view x) o did
 room_of view (changing.RetireGrant grant dry_run) o did sized = done_by view (retires_grant view grant dry_run) (does.retires view grant dry_run) o did
 room_of view (changing.RevokeGrant key_id grant_id dry_run) o did sized = done_by view (revokes_grant view key_id grant_id dry_run) (does.revokes view key_id grant_id dry_run) o did
+room_of view (changing.TagResource key_id tags) o did sized = done_by view (tags_key view key_id tags) (tagging.tags view key_id tags) o did
+room_of view (changing.UntagResource key_id keys) o did sized = done_by view (untags_key view key_id keys) (tagging.untags view key_id keys) o did
 
 -- ---- the entry
 

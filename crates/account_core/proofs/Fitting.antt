@@ -16,7 +16,7 @@ use Rattle.account_rows.specs.declared.entries.Entry.{Entry}
 use Rattle.account_rows.specs.declared.entries.What.{What}
 use Rattle.account_rows.specs.declared.entries.What.TheVariants as what
 use Rattle.account_rows.specs.Changes.{wants_house}
-use Rattle.account_rows.specs.History.{replay, latest_of, moment_of, most_entries, most_bytes, has_room, housekeeping_of, place_in, place_in_grant, IsMadeHere, IsFitting, IsGrantOf, AreRows}
+use Rattle.account_rows.specs.History.{replay, latest_of, moment_of, most_entries, most_bytes, has_room, housekeeping_of, place_in, place_in_grant, IsMadeHere, TagsFit, IsFitting, IsGrantOf, AreRows}
 use Rattle.account_rows.specs.Sizes.{size_of, bytes_in}
 use Rattle.account_rows.proofs.RowFacts.{rows_after, no_rows, replay-push, latest-push, length-push, IsNew, all_after}
 use Rattle.account_rows.proofs.GrantFacts.{grants_rise, grants-push}
@@ -64,7 +64,7 @@ grant_place facts p fits =
     ap (λ (bytes : List ℕ). from_be_bytes w64 (0 ∷ 0 ∷ bytes)) (grant_ends facts p) ∙ ap (from_be_bytes w64) whole ∙ from_be_bytes-to_be_bytes_8 p (omega (arith, fits))
 
 made_here : (facts : RealmFacts) (place : ℕ) (w : What) → place < 2 ^ 48 → IsMadeAt facts place w → IsMadeHere place w
-made_here facts place (what.CreateKey key description policy) fits made = ap place_in made ∙ id_place facts place fits
+made_here facts place (what.CreateKey key kind description policy tags) fits made = ap place_in made ∙ id_place facts place fits
 made_here facts place (what.GrantAdd grant key grantee retiring operations constraint name) fits made = ap place_in_grant made ∙ grant_place facts place fits
 made_here facts place _ fits made = tt
 
@@ -139,6 +139,7 @@ comes_next facts history entry latest (appended x proper is) =
         made = made_here facts (length history) entry.what (omega (arith, few)) at.done.made;
         few = few;
         fits = fits_of (bytes_in history) (size_of entry.what) rest.1;
+        tagged = at.done.tagged;
       };
       made = at.done.made;
       gives = at.done.gives;
@@ -156,6 +157,7 @@ comes_next facts history entry latest (kept clock bound is) =
         made = made.1;
         few = room.0;
         fits = subst (λ (w : What). bytes_in history + size_of w ≤ most_bytes) (sym at.house) room.1;
+        tagged = subst (TagsFit (replay history).keys) (sym at.house) tt;
       };
       made = made.0;
       gives = made.2;
@@ -180,7 +182,7 @@ id_size facts place =
     omega (arith, length-append (take 10 digest) (be48 place), length-take 10 digest, hmac_length facts.root (codes "key" ++ be32 facts.boot ++ be48 place))
 
 new_size : (facts : RealmFacts) (place time : ℕ) (w : What) → IsMadeAt facts place w → IsNew (λ (row : KeyRow). length row.key ≡ 16) place time w
-new_size facts place time (what.CreateKey key description policy) made = ap length made ∙ id_size facts place
+new_size facts place time (what.CreateKey key kind description policy tags) made = ap length made ∙ id_size facts place
 new_size facts place time _ made = tt
 
 from_zero : (n : ℕ) → n ≡ 0 + n

@@ -19,7 +19,8 @@ use Rattle.account_keys.specs.Grants.{creates_grant, retires_grant, revokes_gran
 use Rattle.account_lists.specs.declared.lists.AccountList.TheVariants as all
 use Rattle.account_lists.specs.declared.lists.KeyList.TheVariants as of
 use Rattle.account_lists.specs.Lists.{lists_in, lists_on}
-use Rattle.account_crypto.specs.Crypto.{encrypts, decrypts, re_encrypts, generates_data_key, generates_random}
+use Rattle.account_crypto.specs.Crypto.{encrypts, decrypts, re_encrypts, generates_data_key, generates_random, generates_mac, verifies_mac}
+use Rattle.account_tags.specs.Tagging.{tags_key, untags_key, lists_tags}
 use Rattle.account_crypto.specs.declared.data_keys.DataKeyForm.TheVariants as form
 
 -- those that change the account
@@ -40,6 +41,8 @@ change_outcome view (changing.DeleteAlias name) = changes view (changes_alias vi
 change_outcome view (changing.CreateGrant x) = changes view (creates_grant view x)
 change_outcome view (changing.RetireGrant grant dry_run) = changes view (retires_grant view grant dry_run)
 change_outcome view (changing.RevokeGrant key_id grant_id dry_run) = changes view (revokes_grant view key_id grant_id dry_run)
+change_outcome view (changing.TagResource key_id tags) = changes view (tags_key view key_id tags)
+change_outcome view (changing.UntagResource key_id keys) = changes view (untags_key view key_id keys)
 
 -- those that don't
 abbrev pub read_outcome : View → Reading → Result (Outcome Uses) Refusal
@@ -58,3 +61,6 @@ read_outcome view (reading.ReEncrypt x) = reads view (re_encrypts view x)
 read_outcome view (reading.GenerateDataKey x recipient) = reads view (generates_data_key view x (form.Plaintext recipient))
 read_outcome view (reading.GenerateDataKeyWithoutPlaintext x) = reads view (generates_data_key view x form.Sealed)
 read_outcome view (reading.GenerateRandom size custom_key_store recipient) = reads view (generates_random view size custom_key_store recipient)
+read_outcome view (reading.GenerateMac x) = reads view (generates_mac view x)
+read_outcome view (reading.VerifyMac x) = reads view (verifies_mac view x)
+read_outcome view (reading.ListResourceTags key_id page) = reads view (lists_tags view key_id page)

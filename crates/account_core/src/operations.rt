@@ -13,7 +13,8 @@ ghost use Rattle.account_steps.specs.Settling.{Settles, Makes};
 ghost use Rattle.account_core.specs.Operations.{change_outcome, read_outcome};
 
 use account_crypto::{
-    DataKeyForm, Decrypting, Encrypting, GeneratingDataKey, GeneratingRandom, ReEncrypting,
+    DataKeyForm, Decrypting, Encrypting, GeneratingDataKey, GeneratingMac, GeneratingRandom,
+    ReEncrypting, VerifyingMac,
 };
 use account_keys::{
     AliasChange, ChangingAlias, ChangingKey, CreatingKey, DescribingKey, GettingPolicy,
@@ -21,6 +22,7 @@ use account_keys::{
 };
 use account_lists::{AccountList, KeyList, ListingAccount, ListingKey};
 use account_steps::{LentText, Made, Stop, View, change as apply, lent_if_given, read};
+use account_tags::{ListingTags, TaggingKey, UntaggingKey};
 use draw_lines::DrawLine;
 use kms_json::{Changing, CreateGrant, DataKey, Page, Reading, Reply};
 use kms_names::{AliasName, NoMemory, Text, read_alias};
@@ -218,6 +220,10 @@ pub fn change_body(alloc: Global, view: &View<'_>, body: &Changing) -> Result<Ma
             };
             apply(alloc, &revoking)
         }
+        Changing::TagResource { key_id, tags } => apply(alloc, &TaggingKey { view, key_id, tags }),
+        Changing::UntagResource { key_id, keys } => {
+            apply(alloc, &UntaggingKey { view, key_id, keys })
+        }
     }
 }
 
@@ -294,6 +300,12 @@ pub fn read_body(
                 recipient: *recipient,
             };
             read(alloc, &random, line)
+        }
+        Reading::GenerateMac(request) => read(alloc, &GeneratingMac { view, request }, line),
+        Reading::VerifyMac(request) => read(alloc, &VerifyingMac { view, request }, line),
+        Reading::ListResourceTags { key_id, page } => {
+            let listing = ListingTags { view, key_id, page };
+            read(alloc, &listing, line)
         }
     }
 }

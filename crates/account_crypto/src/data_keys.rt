@@ -6,9 +6,10 @@ ghost use Rattle.account_crypto.specs.Crypto.{generates_data_key};
 use crate::crypto::{draw, seal};
 use account_rows::Lent;
 use account_steps::{
-    Named, Reads, Request, Stop, Uses, View, key_of, of_context, refuse, unsupported,
+    Named, Reads, Request, Stop, Uses, View, key_of, of_context, other_kind, refuse, unsupported,
 };
 use draw_lines::DrawLine;
+use hmac_keys::KeyKind;
 use kms_json::{DataKey, Reply, Unsupported};
 use kms_names::{Action, Bytes, NoMemory, Text};
 use std::alloc::Global;
@@ -116,8 +117,8 @@ impl<'a> Request for GeneratingDataKey<'a> {
     }
 
     fn authorize(&self, alloc: Global, found: &Named<'a>) -> Result<(), Stop> {
-        let key = &found.row.row().key;
-        let said = of_context(self.view, key, &found.alias, &self.request.context);
+        let row = found.row.row();
+        let said = of_context(self.view, row, &found.alias, &self.request.context);
         self.view
             .authorize_on(alloc, self.form.action(), &found.row, &said)
     }
@@ -130,7 +131,8 @@ impl<'a> Request for GeneratingDataKey<'a> {
         self.view.fit(alloc, self.form.action(), &found.row)
     }
 
-    fn own(&self, _alloc: Global, _found: &Named<'a>) -> Result<(), Stop> {
+    fn own(&self, _alloc: Global, found: &Named<'a>) -> Result<(), Stop> {
+        refuse(other_kind(KeyKind::Symmetric, found.row.row().kind))?;
         refuse(unsupported(self.form.has_recipient(), Unsupported::Recipient))
     }
 

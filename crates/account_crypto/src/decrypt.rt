@@ -42,7 +42,12 @@ impl<'a> Request for Decrypting<'a> {
     }
 
     fn authorize(&self, alloc: Global, found: &Sealed<'a>) -> Result<(), Stop> {
-        let said = of_context(self.view, found.key(), found.alias(), &self.request.context);
+        let said = of_context(
+            self.view,
+            found.lent().row(),
+            found.alias(),
+            &self.request.context,
+        );
         self.view
             .authorize_on(alloc, Action::Decrypt, found.lent(), &said)
     }
@@ -56,7 +61,7 @@ impl<'a> Request for Decrypting<'a> {
     }
 
     fn own(&self, alloc: Global, found: &Sealed<'a>) -> Result<Bytes, Stop> {
-        refuse(unfit(&self.request.algorithm))?;
+        refuse(unfit(found.lent().row().kind, &self.request.algorithm))?;
         refuse(unsupported(self.request.recipient, Unsupported::Recipient))?;
         found.open(alloc, self.view, &self.request.context)
     }

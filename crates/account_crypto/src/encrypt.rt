@@ -38,8 +38,8 @@ impl<'a> Request for Encrypting<'a> {
     }
 
     fn authorize(&self, alloc: Global, found: &Named<'a>) -> Result<(), Stop> {
-        let key = &found.row.row().key;
-        let said = of_context(self.view, key, &found.alias, &self.request.context);
+        let row = found.row.row();
+        let said = of_context(self.view, row, &found.alias, &self.request.context);
         self.view
             .authorize_on(alloc, Action::Encrypt, &found.row, &said)
     }
@@ -52,8 +52,8 @@ impl<'a> Request for Encrypting<'a> {
         self.view.fit(alloc, Action::Encrypt, &found.row)
     }
 
-    fn own(&self, _alloc: Global, _found: &Named<'a>) -> Result<(), Stop> {
-        refuse(unfit(&self.request.algorithm))
+    fn own(&self, _alloc: Global, found: &Named<'a>) -> Result<(), Stop> {
+        refuse(unfit(found.row.row().kind, &self.request.algorithm))
     }
 
     fn dry_run(&self) -> bool {

@@ -55,7 +55,7 @@ impl<'a> ReEncrypting<'a> {
             same_key: Some(found.turns_to_same()),
             ..of_context(
                 self.view,
-                source.key(),
+                source.lent().row(),
                 source.alias(),
                 &self.request.source_context,
             )
@@ -66,10 +66,10 @@ impl<'a> ReEncrypting<'a> {
     fn to<'b>(&'b self, found: &'b Turning<'a>) -> Particulars<'b>
         ensures { result ≡ of_destination self.now.view.now self.now.request.now found.now }
     {
-        let key = &found.to.row.row().key;
+        let row = found.to.row.row();
         Particulars {
             same_key: Some(found.turns_to_same()),
-            ..of_context(self.view, key, &found.to.alias, &self.request.context)
+            ..of_context(self.view, row, &found.to.alias, &self.request.context)
         }
     }
 }
@@ -118,8 +118,9 @@ impl<'a> Request for ReEncrypting<'a> {
     }
 
     fn own(&self, alloc: Global, found: &Turning<'a>) -> Result<Sealable, Stop> {
-        refuse(unfit(&self.request.source_algorithm))?;
-        refuse(unfit(&self.request.algorithm))?;
+        let (source, to) = (found.source.lent().row(), found.to.row.row());
+        refuse(unfit(source.kind, &self.request.source_algorithm))?;
+        refuse(unfit(to.kind, &self.request.algorithm))?;
         let text = found
             .source
             .open(alloc, self.view, &self.request.source_context)?;

@@ -1,5 +1,5 @@
--- What each operation does: a key or grant that it makes has the id of its place, a period has days, and a grant that it drops is there.
-use Rattle.std.proofs.Common.{◌≡◌, ℕ, ◌≤◌, Bool, true, false, List, Option, Some, None, Ok, refl, if◌then◌else◌, arith}
+-- What each operation does: a key or grant that it makes has the id of its place, a period has days, a grant that it drops is there, and no key has too many tags.
+use Rattle.std.proofs.Common.{◌≡◌, ℕ, ◌≤◌, Bool, true, false, List, length, Option, Some, None, Ok, refl, if◌then◌else◌, arith}
 use Rattle.std.specs.Prelude.{option_and_then}
 use Rattle.std.specs.Str.{bytes_eq}
 use Rattle.grant_table.specs.declared.rows.GrantRow.{GrantRow}
@@ -21,6 +21,7 @@ use Rattle.account_steps.specs.Steps.{and_then, only_key_of}
 use Rattle.account_steps.specs.View.{View, is_live, if_live, grant_held}
 use Rattle.account_steps.proofs.Done.{HoldsDropped, IsDone, DoesWell, does_this}
 use Rattle.account_steps.proofs.Passing.{found_of, ok_of}
+use Rattle.resource_tags.proofs.TagFacts.{few_from_none}
 use Rattle.account_keys.specs.declared.alias_changes.AliasChange.{AliasChange}
 use Rattle.account_keys.specs.declared.grants.Granting.{Granting}
 use Rattle.account_keys.specs.declared.key_changes.KeyChange.{KeyChange}
@@ -33,11 +34,11 @@ use Rattle.account_keys.specs.Policies.{puts_policy}
 
 -- ---- keys
 
-pub creates : (view : View) (x : CreateKey) → DoesWell view (creates_key view x)
-creates view x found ready did found_is own_is e = does_this view _ did (record { made = refl; gives = tt; holds = tt }) e
+pub creates : (view : View) (x : CreateKey) → length x.tags ≤ 50 → DoesWell view (creates_key view x)
+creates view x few found ready did found_is own_is e = does_this view _ did (record { made = refl; gives = tt; holds = tt; tagged = few_from_none x.tags few }) e
 
 pub puts : (view : View) (key_id text : List ℕ) (bypass : Bool) → DoesWell view (puts_policy view key_id text bypass)
-puts view key_id text bypass found ready did found_is own_is e = does_this view _ did (record { made = tt; gives = tt; holds = tt }) e
+puts view key_id text bypass found ready did found_is own_is e = does_this view _ did (record { made = tt; gives = tt; holds = tt; tagged = tt }) e
 
 -- a period has 90 days at least
 abbrev pub HasDays : KeyChange → Type 0
@@ -49,15 +50,15 @@ unless_done view true this did well e = cc
 unless_done view false this did well e = does_this view this did well e
 
 changed : (view : View) (row : KeyRow) (c : KeyChange) (did : What) → HasDays c → done_at view.moment row c ≡ Some did → IsDone view did
-changed view row change.Enable did days e = unless_done view (is_enabled row.stored) (what.Enable row.key) did (record { made = tt; gives = tt; holds = tt }) e
-changed view row change.Disable did days e = unless_done view (is_disabled row.stored) (what.Disable row.key) did (record { made = tt; gives = tt; holds = tt }) e
-changed view row (change.ScheduleDeletion window) did days e = does_this view (what.Schedule row.key (days_after view.moment window) window) did (record { made = tt; gives = tt; holds = tt }) e
-changed view row change.CancelDeletion did days e = does_this view (what.Cancel row.key) did (record { made = tt; gives = tt; holds = tt }) e
+changed view row change.Enable did days e = unless_done view (is_enabled row.stored) (what.Enable row.key) did (record { made = tt; gives = tt; holds = tt; tagged = tt }) e
+changed view row change.Disable did days e = unless_done view (is_disabled row.stored) (what.Disable row.key) did (record { made = tt; gives = tt; holds = tt; tagged = tt }) e
+changed view row (change.ScheduleDeletion window) did days e = does_this view (what.Schedule row.key (days_after view.moment window) window) did (record { made = tt; gives = tt; holds = tt; tagged = tt }) e
+changed view row change.CancelDeletion did days e = does_this view (what.Cancel row.key) did (record { made = tt; gives = tt; holds = tt; tagged = tt }) e
 changed view row (change.RotateEvery period) did days e =
-    unless_done view (is_period period row.period) (what.RotationOn row.key period) did (record { made = tt; gives = omega (arith, days); holds = tt }) e
-changed view row change.RotateNoMore did days e = unless_done view (is_off row.period) (what.RotationOff row.key) did (record { made = tt; gives = tt; holds = tt }) e
-changed view row change.RotateNow did days e = does_this view (what.RotateNow row.key) did (record { made = tt; gives = tt; holds = tt }) e
-changed view row (change.Describe text) did days e = does_this view (what.Description row.key text) did (record { made = tt; gives = tt; holds = tt }) e
+    unless_done view (is_period period row.period) (what.RotationOn row.key period) did (record { made = tt; gives = omega (arith, days); holds = tt; tagged = tt }) e
+changed view row change.RotateNoMore did days e = unless_done view (is_off row.period) (what.RotationOff row.key) did (record { made = tt; gives = tt; holds = tt; tagged = tt }) e
+changed view row change.RotateNow did days e = does_this view (what.RotateNow row.key) did (record { made = tt; gives = tt; holds = tt; tagged = tt }) e
+changed view row (change.Describe text) did days e = does_this view (what.Description row.key text) did (record { made = tt; gives = tt; holds = tt; tagged = tt }) e
 
 pub changes : (view : View) (key_id : List ℕ) (c : KeyChange) → HasDays c → DoesWell view (changes_key view key_id c)
 changes view key_id c days found ready did found_is own_is e = changed view found c did days e
@@ -65,8 +66,8 @@ changes view key_id c days found ready did found_is own_is e = changed view foun
 -- ---- aliases
 
 moved : (view : View) (name : List ℕ) (new : Option KeyRow) → IsDone view (done_to name new)
-moved view name None = record { made = tt; gives = tt; holds = tt }
-moved view name (Some row) = record { made = tt; gives = tt; holds = tt }
+moved view name None = record { made = tt; gives = tt; holds = tt; tagged = tt }
+moved view name (Some row) = record { made = tt; gives = tt; holds = tt; tagged = tt }
 
 pub moves : (view : View) (name : List ℕ) (c : AliasChange) → DoesWell view (changes_alias view name c)
 moves view name c found ready did found_is own_is e = does_this view (done_to name found.new) did (moved view name found.new) e
@@ -75,7 +76,7 @@ moves view name c found ready did found_is own_is e = does_this view (done_to na
 
 granted : (view : View) (x : CreateGrant) (granting : Granting) (same : Option GrantRow) (did : What) → made_unless same view x granting ≡ Some did → IsDone view did
 granted view x granting (Some grant) did e = cc
-granted view x granting None did e = does_this view _ did (record { made = refl; gives = tt; holds = tt }) e
+granted view x granting None did e = does_this view _ did (record { made = refl; gives = tt; holds = tt; tagged = tt }) e
 
 pub grants : (view : View) (x : CreateGrant) → DoesWell view (creates_grant view x)
 grants view x found ready did found_is own_is e = granted view x found (same_grant view x found) did e
@@ -116,7 +117,7 @@ retired_held view (retired.OfKey key_id id) row e =
     of_key_and_id view key.value grant.value row grant.came
 
 drops : (view : View) (row : GrantRow) (did : What) → HoldsDropped view.grants (what.GrantDrop row.grant) → ◌≡◌ {A = Option What} (Some (what.GrantDrop row.grant)) (Some did) → IsDone view did
-drops view row did held e = does_this view (what.GrantDrop row.grant) did (record { made = tt; gives = tt; holds = held }) e
+drops view row did held e = does_this view (what.GrantDrop row.grant) did (record { made = tt; gives = tt; holds = held; tagged = tt }) e
 
 pub retires : (view : View) (x : RetiredGrant) (dry_run : Bool) → DoesWell view (retires_grant view x dry_run)
 retires view x dry_run found ready did found_is own_is e = drops view found did (retired_held view x found found_is) e

@@ -9,6 +9,7 @@ use Rattle.authority.specs.KeyPolicy.{fault_in, policy_in}
 use Rattle.account_steps.specs.declared.stops.Stop.{Stop}
 use Rattle.account_steps.specs.declared.stops.Stop.TheVariants as stop
 use Rattle.account_steps.specs.Steps.{Passes}
+use Rattle.account_steps.specs.Authority.{KeySaid}
 use Rattle.account_steps.specs.View.{View}
 use Rattle.account_keys.specs.Policies.{malformed, StopsAt, IsStopAt, refused_by, locked_out, policy_refused}
 
@@ -29,7 +30,7 @@ stops_first (Some why) next (stop.Refused refusal) is = is
 stops_first None next (stop.Refused refusal) is = cc
 stops_first first next stop.NoMemory is = tt
 
-module _ (view : View) (key text : List ℕ) (bypass : Bool) where
+module _ (view : View) (key : KeySaid) (text : List ℕ) (bypass : Bool) where
   pub stops_at : (s : Stop) → IsStopAt (fault_in text) s → Passes (policy_refused view key text bypass) (Err s)
   unfolding policy_refused
   stops_at s is = stops_first (fault_in text) (locked_out view (policy_in text) key bypass) s is

@@ -31,7 +31,7 @@ moving_of view name change.Delete = and_then (key_of_alias view name) (λ old. O
 -- a question on a key, where there is one
 abbrev pub question_on : View → Action → Option KeyRow → List Question
 question_on view action None = []
-question_on view action (Some row) = on_key action row (of_key view row.key) ∷ []
+question_on view action (Some row) = on_key action row (of_key view row) ∷ []
 
 -- a key whose state counts, where there is one
 abbrev pub use_of : Action → Option KeyRow → List Use

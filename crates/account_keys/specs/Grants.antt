@@ -56,7 +56,7 @@ abbrev pub said_of : CreateGrant → Granting → GrantSaid
 said_of request granting = record { operations = request.operations; grantee = granting.grantee; retiring = granting.retiring; constraint = constraint_of request.constraint }
 
 abbrev pub of_grant : View → CreateGrant → Granting → Particulars
-of_grant view request granting = record (of_key view granting.row.key) { context = pairs_of (constraint_of request.constraint); grant = Some (said_of request granting) }
+of_grant view request granting = record (of_key view granting.row) { context = pairs_of (constraint_of request.constraint); grant = Some (said_of request granting) }
 
 -- the grant of the key that is the same, where the request names it
 abbrev pub same_grant : View → CreateGrant → Granting → Option GrantRow
@@ -123,7 +123,7 @@ abbrev pub revokes_grant : View → List ℕ → List ℕ → Bool → ChangePar
 revokes_grant view key_id id dry_run = record {
   parts = record {
     found = revoking_of view key_id id;
-    questions = λ revoking. on_key action.RevokeGrant revoking.row (of_key view revoking.row.key) ∷ [];
+    questions = λ revoking. on_key action.RevokeGrant revoking.row (of_key view revoking.row) ∷ [];
     tokens = [];
     uses = λ revoking. record { action = action.RevokeGrant; key = revoking.row } ∷ [];
     own = λ revoking. grant_of view revoking.row revoking.grant;

@@ -7,6 +7,8 @@ use Rattle.kms_names.specs.declared.actions.Action.TheVariants as action
 use Rattle.kms_json.specs.declared.replies.AutomaticRotation.{AutomaticRotation}
 use Rattle.kms_json.specs.declared.replies.Reply.{Reply}
 use Rattle.kms_json.specs.declared.replies.Reply.TheVariants as reply
+use Rattle.kms_json.specs.declared.refusals.Refusal.{Refusal}
+use Rattle.hmac_keys.specs.declared.kinds.KeyKind.{KeyKind}
 use Rattle.key_states.specs.States.{is_enabled}
 use Rattle.key_states.specs.declared.rows.KeyRow.{KeyRow}
 use Rattle.key_states.specs.declared.states.Stored.{Stored}
@@ -17,7 +19,7 @@ use Rattle.account_rows.specs.Changes.{days_after}
 use Rattle.account_keys.specs.declared.key_changes.KeyChange.{KeyChange}
 use Rattle.account_keys.specs.declared.key_changes.KeyChange.TheVariants as change
 use Rattle.account_steps.specs.Places.{nothing_used}
-use Rattle.account_steps.specs.Steps.{only_key_of, arn_of}
+use Rattle.account_steps.specs.Steps.{unless, unrotated, only_key_of, arn_of}
 use Rattle.authority.specs.Setting.{Particulars}
 use Rattle.account_steps.specs.Authority.{on_key, of_key}
 use Rattle.account_steps.specs.View.{View}
@@ -38,6 +40,13 @@ abbrev pub said_of : KeyChange → Particulars → Particulars
 said_of (change.ScheduleDeletion days) of_key = record of_key { window = Some days }
 said_of (change.RotateEvery period) of_key = record of_key { period = Some period }
 said_of _ of_key = of_key
+
+-- the rotation of a key whose material isn't rotated
+abbrev pub refused_for : KeyChange → KeyKind → Option Refusal
+refused_for (change.RotateEvery period) kind = unrotated kind
+refused_for change.RotateNoMore kind = unrotated kind
+refused_for change.RotateNow kind = unrotated kind
+refused_for _ kind = None
 
 -- ---- what has nothing to do
 
@@ -82,10 +91,10 @@ abbrev pub changes_key : View → List ℕ → KeyChange → ChangeParts KeyRow 
 changes_key view reference change = record {
   parts = record {
     found = only_key_of view reference;
-    questions = λ row. on_key (action_of change) row (said_of change (of_key view row.key)) ∷ [];
+    questions = λ row. on_key (action_of change) row (said_of change (of_key view row)) ∷ [];
     tokens = [];
     uses = λ row. record { action = action_of change; key = row } ∷ [];
-    own = λ row. Ok tt;
+    own = λ row. unless (refused_for change row.kind) (Ok tt);
     dry_run = false;
     reply = λ row ready. reply_of view row change;
   };
@@ -101,10 +110,10 @@ abbrev pub gets_rotation_status : View → List ℕ → ReadParts KeyRow ⊤
 gets_rotation_status view reference = record {
   parts = record {
     found = only_key_of view reference;
-    questions = λ row. on_key action.GetKeyRotationStatus row (of_key view row.key) ∷ [];
+    questions = λ row. on_key action.GetKeyRotationStatus row (of_key view row) ∷ [];
     tokens = [];
     uses = λ row. record { action = action.GetKeyRotationStatus; key = row } ∷ [];
-    own = λ row. Ok tt;
+    own = λ row. unless (unrotated row.kind) (Ok tt);
     dry_run = false;
     reply = λ row ready. reply.RotationStatus row.key (rotation_of row);
   };

@@ -16,7 +16,7 @@ use Rattle.account_steps.specs.declared.stops.Stop.{Stop}
 use Rattle.account_steps.specs.declared.stops.Stop.TheVariants as stop
 use Rattle.account_steps.specs.Places.{nothing_used}
 use Rattle.account_steps.specs.Steps.{unless, only_key_of}
-use Rattle.account_steps.specs.Authority.{on_key, may_on_key, of_key}
+use Rattle.account_steps.specs.Authority.{KeySaid, said_key, on_key, may_on_key, of_said, of_key}
 use Rattle.account_steps.specs.View.{View}
 use Rattle.account_steps.specs.Parts.{ReadParts, ChangeParts}
 
@@ -42,11 +42,11 @@ IsStopAt first (stop.Refused why) = option_map malformed first ≡ Some why
 IsStopAt first stop.NoMemory = Unit {0}
 
 -- with this policy in place the caller may put the key's policy again
-unfoldable pub may_put_again : View → Policy → List ℕ → Bool
-may_put_again view policy key = may_on_key view policy action.PutKeyPolicy key (record (of_key view key) { bypass = Some false })
+unfoldable pub may_put_again : View → Policy → KeySaid → Bool
+may_put_again view policy key = may_on_key view policy action.PutKeyPolicy key.key (record (of_said view key) { bypass = Some false })
 
 -- the lockout check, which may be passed over
-abbrev pub locked_out : View → Policy → List ℕ → Bool → Option Refusal
+abbrev pub locked_out : View → Policy → KeySaid → Bool → Option Refusal
 locked_out view policy key bypass = if bypass then None else (if may_put_again view policy key then None else Some (refusal.MalformedPolicy flaw.Lockout))
 
 -- the document's fault comes first
@@ -55,7 +55,7 @@ refused_by (Some why) next = Some (malformed why)
 refused_by None next = next
 
 -- a new policy of a key
-unfoldable pub policy_refused : View → List ℕ → List ℕ → Bool → Option Refusal
+unfoldable pub policy_refused : View → KeySaid → List ℕ → Bool → Option Refusal
 policy_refused view key text bypass = refused_by (fault_in text) (locked_out view (policy_in text) key bypass)
 
 -- PutKeyPolicy
@@ -63,10 +63,10 @@ abbrev pub puts_policy : View → List ℕ → List ℕ → Bool → ChangeParts
 puts_policy view reference text bypass = record {
   parts = record {
     found = only_key_of view reference;
-    questions = λ row. on_key action.PutKeyPolicy row (record (of_key view row.key) { bypass = Some bypass }) ∷ [];
+    questions = λ row. on_key action.PutKeyPolicy row (record (of_key view row) { bypass = Some bypass }) ∷ [];
     tokens = [];
     uses = λ row. record { action = action.PutKeyPolicy; key = row } ∷ [];
-    own = λ row. unless (policy_refused view row.key text bypass) (Ok tt);
+    own = λ row. unless (policy_refused view (said_key row) text bypass) (Ok tt);
     dry_run = false;
     reply = λ row ready. reply.Done;
   };
@@ -78,7 +78,7 @@ abbrev pub gets_policy : View → List ℕ → ReadParts KeyRow ⊤
 gets_policy view reference = record {
   parts = record {
     found = only_key_of view reference;
-    questions = λ row. on_key action.GetKeyPolicy row (of_key view row.key) ∷ [];
+    questions = λ row. on_key action.GetKeyPolicy row (of_key view row) ∷ [];
     tokens = [];
     uses = λ row. record { action = action.GetKeyPolicy; key = row } ∷ [];
     own = λ row. Ok tt;

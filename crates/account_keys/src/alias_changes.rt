@@ -68,7 +68,7 @@ impl<'a> ChangingAlias<'a> {
     {
         match key {
             Some(lent) => {
-                let said = of_key(self.view, &lent.row().key);
+                let said = of_key(self.view, lent.row());
                 self.view
                     .authorize_on(alloc, self.change.action(), lent, &said)
             }

@@ -103,7 +103,7 @@ impl<'a> CreatingGrant<'a> {
                 retiring: found.retiring.as_ref(),
                 constraint: &self.constraint,
             }),
-            ..of_key(self.view, &found.row.row().key)
+            ..of_key(self.view, found.row.row())
         }
     }
 
@@ -330,7 +330,7 @@ impl<'a> Request for RevokingGrant<'a> {
     }
 
     fn authorize(&self, alloc: Global, found: &Revoking<'a>) -> Result<(), Stop> {
-        let said = of_key(self.view, &found.row.row().key);
+        let said = of_key(self.view, found.row.row());
         self.view
             .authorize_on(alloc, Action::RevokeGrant, &found.row, &said)
     }

@@ -1,16 +1,18 @@
 // The operations on the state, the rotation and the description of a key.
 ghost use Rattle.std.specs.Prelude.{◌≡◌, ◌<◌, ◌≤◌, IfOk};
 ghost use Rattle.kms_names.specs.Moment.{year_10000};
-ghost use Rattle.account_keys.specs.KeyChanges.{action_of, said_of, done_at, reply_of, rotation_of, changes_key, gets_rotation_status};
+ghost use Rattle.account_keys.specs.KeyChanges.{action_of, said_of, refused_for, done_at, reply_of, rotation_of, changes_key, gets_rotation_status};
 
 use account_rows::{Lent, What, days_after};
 use account_steps::{
-    Changes, LentText, Made, Reads, Request, Stop, Uses, View, of_key, only_key_of,
+    Changes, LentText, Made, Reads, Request, Stop, Uses, View, of_key, only_key_of, refuse,
+    unrotated,
 };
 use authority::Particulars;
 use draw_lines::DrawLine;
+use hmac_keys::KeyKind;
 use key_states::{KeyRow, Stored};
-use kms_json::{AutomaticRotation, Reply};
+use kms_json::{AutomaticRotation, Refusal, Reply};
 use kms_names::{Action, NoMemory, Text};
 use std::alloc::Global;
 
@@ -66,6 +68,18 @@ impl KeyChange<'_> {
                 ..of_key
             },
             _ => of_key,
+        }
+    }
+
+    // The refusal of a rotation, of a key whose material isn't rotated.
+    fn refused_for(&self, kind: KeyKind) -> Option<Refusal>
+        ensures { result ≡ refused_for self.now kind }
+    {
+        match self {
+            KeyChange::RotateEvery { .. } | KeyChange::RotateNoMore | KeyChange::RotateNow => {
+                unrotated(kind)
+            }
+            _ => None,
         }
     }
 }
@@ -154,7 +168,7 @@ impl<'a> Request for ChangingKey<'a> {
 
     fn authorize(&self, alloc: Global, found: &Lent<'a>) -> Result<(), Stop> {
         let action = self.change.action();
-        let said = self.change.said(of_key(self.view, &found.row().key));
+        let said = self.change.said(of_key(self.view, found.row()));
         self.view.authorize_on(alloc, action, found, &said)
     }
 
@@ -166,8 +180,8 @@ impl<'a> Request for ChangingKey<'a> {
         self.view.fit(alloc, self.change.action(), found)
     }
 
-    fn own(&self, _alloc: Global, _found: &Lent<'a>) -> Result<(), Stop> {
-        Ok(())
+    fn own(&self, _alloc: Global, found: &Lent<'a>) -> Result<(), Stop> {
+        refuse(self.change.refused_for(found.row().kind))
     }
 
     fn dry_run(&self) -> bool {
@@ -227,7 +241,7 @@ impl<'a> Request for GettingRotationStatus<'a> {
     }
 
     fn authorize(&self, alloc: Global, found: &Lent<'a>) -> Result<(), Stop> {
-        let said = of_key(self.view, &found.row().key);
+        let said = of_key(self.view, found.row());
         self.view
             .authorize_on(alloc, Action::GetKeyRotationStatus, found, &said)
     }
@@ -240,8 +254,8 @@ impl<'a> Request for GettingRotationStatus<'a> {
         self.view.fit(alloc, Action::GetKeyRotationStatus, found)
     }
 
-    fn own(&self, _alloc: Global, _found: &Lent<'a>) -> Result<(), Stop> {
-        Ok(())
+    fn own(&self, _alloc: Global, found: &Lent<'a>) -> Result<(), Stop> {
+        refuse(unrotated(found.row().kind))
     }
 
     fn dry_run(&self) -> bool {

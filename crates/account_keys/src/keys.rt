@@ -1,36 +1,43 @@
 // The operations on keys: CreateKey and DescribeKey.
-ghost use Rattle.std.specs.Prelude.{◌≡◌, IfOk, codes};
+ghost use Rattle.std.specs.Prelude.{◌≡◌, ◌≤◌, [], IfOk, codes, length, option_map};
 ghost use Rattle.kms_json.specs.declared.replies.Reply.TheVariants as Reply;
-ghost use Rattle.account_steps.specs.Steps.{Passes};
-ghost use Rattle.account_keys.specs.Keys.{description_of, creates_key, describes_key, unsupported_unless, unserved_key, policy_or_default, refused_if_given};
+ghost use Rattle.hmac_keys.specs.Asked.{spec_meant, usage_meant};
+ghost use Rattle.resource_tags.specs.Tags.{with_tags};
+ghost use Rattle.account_steps.specs.Steps.{Gives, Passes};
+ghost use Rattle.account_steps.specs.Authority.{denied};
+ghost use Rattle.account_keys.specs.Keys.{description_of, creates_key, describes_key, unsupported_unless, kind_asked, field_of, served_kind, of_creation, questions_of_tags, said_new_key, unserved_key, policy_or_default, refused_if_given};
 
 use crate::policies::accept;
 use account_rows::What;
 use account_steps::{
-    Changes, Made, Named, Reads, Request, Stop, Uses, View, key_id, key_of, of_named, of_new_key,
-    refuse, told_state, unsupported,
+    Changes, KeySaid, Made, Named, Reads, Request, Stop, Uses, View, improper, key_id, key_of,
+    of_named, of_new_key, refuse, told_state, unsupported,
 };
-use authority::{Particulars, default_policy_text};
+use authority::{KindSaid, Particulars, default_policy_text};
 use draw_lines::DrawLine;
-use kms_json::{CreateKey, KeyMetadata, KeyState, Refusal, Reply, SYMMETRIC_DEFAULT, Unsupported};
+use hmac_keys::{KeyKind, KindField, KindRead, kind_of};
+use kms_json::{CreateKey, KeyMetadata, KeyState, Refusal, Reply, Unsupported};
 use kms_names::{AccountNumber, Action, KeyId, NoMemory, Text, TextList};
+use resource_tags::{Tag, TagFault, TagList, TagMap};
 use std::alloc::Global;
 
 // A key as replies describe it.
 fn metadata(
     view: &View<'_>,
     key: KeyId,
+    kind: KeyKind,
     created: u64,
     description: &Text,
     state: KeyState,
 ) -> Result<KeyMetadata, NoMemory>
-    ensures { IfOk result (λ metadata. metadata ≡ description_of view.now.facts key created description.now state) }
+    ensures { IfOk result (λ metadata. metadata ≡ description_of view.now.facts key kind created description.now state) }
 {
     let facts = view.facts();
     Ok(KeyMetadata {
         account: facts.account,
         region: facts.region.copy()?,
         key,
+        kind,
         created,
         description: description.copy()?,
         state,
@@ -47,37 +54,120 @@ fn unsupported_unless(wanted: &str, given: &Option<Text>, field: Unsupported) ->
     }
 }
 
-// Stops at what isn't served.
+// A text that is given, lent.
+fn lent(text: &Option<Text>) -> Option<&str>
+    ensures { option_map (λ text. text.now) result ≡ text.now }
+{
+    match text {
+        Some(text) => Some(text.as_str()),
+        None => None,
+    }
+}
+
+// The field of a request, as its refusal names it.
+fn field_of(field: KindField) -> Unsupported
+    ensures { result ≡ field_of field }
+{
+    match field {
+        KindField::KeyUsage => Unsupported::KeyUsage,
+        KindField::CustomerMasterKeySpec => Unsupported::CustomerMasterKeySpec,
+        KindField::KeySpec => Unsupported::KeySpec,
+    }
+}
+
+// The kind of key that is asked for.
+fn kind_asked(request: &CreateKey) -> KindRead
+    ensures { result ≡ kind_asked request.now }
+{
+    kind_of(
+        lent(&request.key_usage),
+        lent(&request.customer_master_key_spec),
+        lent(&request.key_spec),
+    )
+}
+
+// The same, where it is served.
+fn serve_kind(request: &CreateKey) -> Result<KeyKind, Stop>
+    ensures { Gives (served_kind (kind_asked request.now)) result }
+{
+    match kind_asked(request) {
+        KindRead::Kind(kind) => Ok(kind),
+        KindRead::Unsupported(field) => Err(Stop::Refused(Refusal::UnsupportedOperation(field_of(
+            field,
+        )))),
+    }
+}
+
+// The kind of key that is asked for, by the texts of the request or those that stand for absent ones.
+fn kind_said(request: &CreateKey) -> KindSaid<'_>
+    ensures spec { result.spec ≡ spec_meant request.now.customer_master_key_spec request.now.key_spec }
+    ensures usage { result.usage ≡ usage_meant request.now.key_usage }
+{
+    let spec = match (&request.key_spec, &request.customer_master_key_spec) {
+        (Some(spec), _) | (None, Some(spec)) => spec.as_str(),
+        (None, None) => KeyKind::Symmetric.spec_text(),
+    };
+    let usage = match &request.key_usage {
+        Some(usage) => usage.as_str(),
+        None => KeyKind::Symmetric.usage_text(),
+    };
+    KindSaid { spec, usage }
+}
+
+// What the request says of itself.
+fn of_creation(request: &CreateKey) -> Particulars<'_>
+    ensures { result ≡ of_creation request.now }
+{
+    Particulars {
+        request_tags: Some(&request.tags),
+        bypass: Some(request.bypass_lockout_check),
+        ..of_new_key(kind_said(request))
+    }
+}
+
+// Stops at what isn't served of any kind.
 fn serve_only(request: &CreateKey) -> Result<(), Stop>
     ensures { Passes (unserved_key request.now) result }
 {
-    refuse(unsupported_unless("ENCRYPT_DECRYPT", &request.key_usage, Unsupported::KeyUsage))?;
-    refuse(unsupported_unless(
-        SYMMETRIC_DEFAULT,
-        &request.customer_master_key_spec,
-        Unsupported::CustomerMasterKeySpec,
-    ))?;
-    refuse(unsupported_unless(SYMMETRIC_DEFAULT, &request.key_spec, Unsupported::KeySpec))?;
     refuse(unsupported_unless("AWS_KMS", &request.origin, Unsupported::Origin))?;
     refuse(unsupported(request.custom_key_store_id, Unsupported::CustomKeyStoreId))?;
-    refuse(unsupported(request.tags, Unsupported::Tags))?;
+    refuse(improper(request.tags.as_slice()))?;
     refuse(unsupported(request.multi_region, Unsupported::MultiRegion))?;
     refuse(unsupported(request.xks_key_id, Unsupported::XksKeyId))
 }
 
-// Stops at the refusal of a policy that is given.
+// The tags of a key that is made with these.
+fn tags_of(alloc: Global, tags: &TagList) -> Result<TagMap, NoMemory>
+    requires { length tags.now ≤ 50 }
+    ensures { IfOk result (λ map. map ≡ with_tags [] tags.now) }
+{
+    match TagMap::new(alloc).put_all(tags.as_slice()) {
+        Ok(tags) => Ok(tags),
+        Err(TagFault::NoMemory) => Err(NoMemory),
+        Err(TagFault::TooMany) => unreachable!(),
+    }
+}
+
+// Stops at the refusal of a policy that is given, for a key of this kind with the tags of the request.
 fn accept_if_given(
     alloc: Global,
     view: &View<'_>,
-    policy: &Option<Text>,
-    bypass: bool,
+    kind: KeyKind,
+    request: &CreateKey,
 ) -> Result<(), Stop>
-    ensures { Passes (refused_if_given view.now policy.now bypass) result }
+    requires { length request.now.tags ≤ 50 }
+    ensures { Passes (refused_if_given view.now (said_new_key view.now kind request.now.tags) request.now.policy request.now.bypass_lockout_check) result }
 {
-    match policy {
+    match &request.policy {
         Some(text) => {
-            let key = key_id(view.facts(), view.place());
-            accept(alloc, view, &key, text, bypass)
+            let id = key_id(view.facts(), view.place());
+            let tags = tags_of(alloc, &request.tags)?;
+            let key = KeySaid {
+                key: &id,
+                kind,
+                tags: &tags,
+            };
+            accept(alloc, view, &key, text, request.bypass_lockout_check)
         }
         None => Ok(()),
     }
@@ -97,19 +187,35 @@ fn policy_or_default(
     }
 }
 
-/// CreateKey.
+// Whether the caller may give tags to a key that it makes, where it gives some.
+fn authorize_tags(
+    alloc: Global,
+    view: &View<'_>,
+    tags: &[Tag],
+    said: &Particulars<'_>,
+) -> Result<(), Stop>
+    ensures { Passes (denied view.now (questions_of_tags tags.now said.now)) result }
+{
+    if tags.is_empty() {
+        return Ok(());
+    }
+    view.authorize(alloc, Action::TagResource, "*", said)
+}
+
+/// CreateKey, with at most 50 tags.
 #[derive(Drop)]
 pub struct CreatingKey<'a> {
     /// What its steps go by.
     pub view: &'a View<'a>,
     /// What it asks.
     pub request: &'a CreateKey,
+    ghost few: { length request.now.tags ≤ 50 },
 }
 
 impl<'a> Request for CreatingKey<'a> {
     type Found = ();
 
-    type Ready = ();
+    type Ready = KeyKind;
 
     ghost seen = { λ op. op.view.now };
 
@@ -124,11 +230,9 @@ impl<'a> Request for CreatingKey<'a> {
     }
 
     fn authorize(&self, alloc: Global, _found: &()) -> Result<(), Stop> {
-        let said = Particulars {
-            bypass: Some(self.request.bypass_lockout_check),
-            ..of_new_key()
-        };
-        self.view.authorize(alloc, Action::CreateKey, "*", &said)
+        let said = of_creation(self.request);
+        self.view.authorize(alloc, Action::CreateKey, "*", &said)?;
+        authorize_tags(alloc, self.view, self.request.tags.as_slice(), &said)
     }
 
     fn tokens(&self) -> &[Text] {
@@ -139,14 +243,11 @@ impl<'a> Request for CreatingKey<'a> {
         Ok(())
     }
 
-    fn own(&self, alloc: Global, _found: &()) -> Result<(), Stop> {
+    fn own(&self, alloc: Global, _found: &()) -> Result<KeyKind, Stop> {
+        let kind = serve_kind(self.request)?;
         serve_only(self.request)?;
-        accept_if_given(
-            alloc,
-            self.view,
-            &self.request.policy,
-            self.request.bypass_lockout_check,
-        )
+        accept_if_given(alloc, self.view, kind, self.request)?;
+        Ok(kind)
     }
 
     fn dry_run(&self) -> bool {
@@ -157,13 +258,14 @@ impl<'a> Request for CreatingKey<'a> {
 impl<'a> Changes for CreatingKey<'a> {
     ghost does = { λ op. (creates_key op.view.now op.request.now).does };
 
-    fn make(&self, alloc: Global, _found: (), _ready: ()) -> Result<Made, NoMemory> {
+    fn make(&self, alloc: Global, _found: (), ready: KeyKind) -> Result<Made, NoMemory> {
         let time = self.view.moment();
         let facts = self.view.facts();
         let key = key_id(facts, self.view.place());
         let metadata = metadata(
             self.view,
             key,
+            ready,
             time,
             &self.request.description,
             KeyState::Enabled,
@@ -174,8 +276,10 @@ impl<'a> Changes for CreatingKey<'a> {
             reply: Reply::Metadata(metadata),
             what: Some(What::CreateKey {
                 key,
+                kind: ready,
                 description,
                 policy,
+                tags: self.request.tags.copy()?,
             }),
         })
     }
@@ -210,7 +314,7 @@ impl<'a> Request for DescribingKey<'a> {
     }
 
     fn authorize(&self, alloc: Global, found: &Named<'a>) -> Result<(), Stop> {
-        let said = of_named(self.view, &found.row.row().key, &found.alias);
+        let said = of_named(self.view, found.row.row(), &found.alias);
         self.view
             .authorize_on(alloc, Action::DescribeKey, &found.row, &said)
     }
@@ -248,7 +352,14 @@ impl<'a> Reads for DescribingKey<'a> {
     ) -> Result<Reply, NoMemory> {
         let row = found.row.row();
         let state = told_state(row.stored);
-        let metadata = metadata(self.view, row.key, row.made, &row.description, state)?;
+        let metadata = metadata(
+            self.view,
+            row.key,
+            row.kind,
+            row.made,
+            &row.description,
+            state,
+        )?;
         Ok(Reply::Metadata(metadata))
     }
 }

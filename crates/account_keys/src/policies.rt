@@ -1,6 +1,6 @@
 // The operations on the policies of keys: PutKeyPolicy and GetKeyPolicy.
 ghost use Rattle.std.specs.Prelude.{◌≡◌, IfOk, IfErr, None, Some};
-ghost use Rattle.account_steps.specs.Authority.{of_key};
+ghost use Rattle.account_steps.specs.Authority.{of_said};
 ghost use Rattle.authority.specs.KeyPolicy.{fault_in, policy_in};
 ghost use Rattle.kms_json.specs.declared.refusals.Refusal.TheVariants as refusal;
 ghost use Rattle.account_steps.specs.declared.stops.Stop.TheVariants as stop;
@@ -8,11 +8,13 @@ ghost use Rattle.account_steps.specs.Steps.{Passes};
 ghost use Rattle.account_keys.specs.Policies.{StopsAt, IsStopAt, may_put_again, locked_out, policy_refused, puts_policy, gets_policy};
 
 use account_rows::{Lent, What};
-use account_steps::{Changes, Made, Reads, Request, Stop, Uses, View, of_key, only_key_of};
+use account_steps::{
+    Changes, KeySaid, Made, Reads, Request, Stop, Uses, View, of_key, of_said, only_key_of,
+};
 use authority::{KeyPolicy, Particulars};
 use draw_lines::DrawLine;
 use kms_json::{PolicyFlaw, Refusal, Reply};
-use kms_names::{Action, KeyId, NoMemory, Text};
+use kms_names::{Action, NoMemory, Text};
 use policy_doc::PolicyFault;
 use std::alloc::Global;
 
@@ -48,12 +50,12 @@ fn read(alloc: Global, text: &Text) -> Result<KeyPolicy, Stop>
 }
 
 // A request with a policy of a key, and whether it passes over the lockout check.
-fn of_policy<'a>(view: &View<'a>, key: &'a KeyId, bypass: bool) -> Particulars<'a>
-    ensures { result ≡ record (of_key view.now key.now) { bypass = Some bypass } }
+fn of_policy<'a>(view: &View<'a>, key: &KeySaid<'a>, bypass: bool) -> Particulars<'a>
+    ensures { result ≡ record (of_said view.now key.now) { bypass = Some bypass } }
 {
     Particulars {
         bypass: Some(bypass),
-        ..of_key(view, key)
+        ..of_said(view, key)
     }
 }
 
@@ -62,17 +64,17 @@ fn may_put_again(
     alloc: Global,
     view: &View<'_>,
     policy: &KeyPolicy,
-    key: &KeyId,
+    key: &KeySaid<'_>,
 ) -> Result<bool, NoMemory>
     ensures { IfOk result (λ b. b ≡ may_put_again view.now policy.now key.now) }
 {
-    let arn = view.arn(alloc, key)?;
+    let arn = view.arn(alloc, key.key)?;
     let said = of_policy(view, key, false);
     view.may_on_key(
         alloc,
         policy,
         Action::PutKeyPolicy,
-        key,
+        key.key,
         arn.as_str(),
         &said,
     )
@@ -83,7 +85,7 @@ fn keep_in(
     alloc: Global,
     view: &View<'_>,
     policy: &KeyPolicy,
-    key: &KeyId,
+    key: &KeySaid<'_>,
     bypass: bool,
 ) -> Result<(), Stop>
     ensures { Passes (locked_out view.now policy.now key.now bypass) result }
@@ -102,7 +104,7 @@ fn keep_in(
 pub fn accept(
     alloc: Global,
     view: &View<'_>,
-    key: &KeyId,
+    key: &KeySaid<'_>,
     text: &Text,
     bypass: bool,
 ) -> Result<(), Stop>
@@ -145,7 +147,7 @@ impl<'a> Request for PuttingPolicy<'a> {
     }
 
     fn authorize(&self, alloc: Global, found: &Lent<'a>) -> Result<(), Stop> {
-        let said = of_policy(self.view, &found.row().key, self.bypass);
+        let said = of_policy(self.view, &KeySaid::of(found.row()), self.bypass);
         self.view
             .authorize_on(alloc, Action::PutKeyPolicy, found, &said)
     }
@@ -159,7 +161,8 @@ impl<'a> Request for PuttingPolicy<'a> {
     }
 
     fn own(&self, alloc: Global, found: &Lent<'a>) -> Result<(), Stop> {
-        accept(alloc, self.view, &found.row().key, self.policy, self.bypass)
+        let key = KeySaid::of(found.row());
+        accept(alloc, self.view, &key, self.policy, self.bypass)
     }
 
     fn dry_run(&self) -> bool {
@@ -209,7 +212,7 @@ impl<'a> Request for GettingPolicy<'a> {
     }
 
     fn authorize(&self, alloc: Global, found: &Lent<'a>) -> Result<(), Stop> {
-        let said = of_key(self.view, &found.row().key);
+        let said = of_key(self.view, found.row());
         self.view
             .authorize_on(alloc, Action::GetKeyPolicy, found, &said)
     }

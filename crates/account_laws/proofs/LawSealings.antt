@@ -46,49 +46,8 @@ use Rattle.account_core.specs.Decide.{decide, IsProper}
 use Rattle.account_laws.specs.Laws.{Sealing, HasSealed, encrypted, re_encrypted, data_key, sealed_data_key}
 use Rattle.account_rows.proofs.RowFacts.{found_key}
 use Rattle.account_steps.proofs.Passing.{found_of, next_of, ok_of, ok_same, read_passed}
+use Rattle.account_steps.proofs.Holding.{there_of, IsThere, key_there}
 use Rattle.account_laws.proofs.Serving.{Serves, serves_of}
-
--- ---- the keys
-
--- a key that counts as there is there, and isn't gone
-pub there_of : (moment : ℕ) (o : Option KeyRow) (row : KeyRow) → unless_gone moment o ≡ Some row → o ≡ Some row
-there_of moment (Some found) row e = by_test (is_gone moment found) e
-  where
-    by_test : (b : Bool) → (if b then None else Some found) ≡ Some row → Some found ≡ Some row
-    by_test true e = cc
-    by_test false e = e
-there_of moment None row e = cc
-
-held_there : (view : View) (id : List ℕ) (row : KeyRow) → key_held view id ≡ Some row → key_with view.keys row.key ≡ Some row
-held_there view id row e =
-    let found = there_of view.moment (key_with view.keys id) row e in
-    subst (λ (key : List ℕ). key_with view.keys key ≡ Some row) (sym (found_key view.keys id row found)) found
-
-aliased_there : (view : View) (o : Option AliasRow) (row : KeyRow) → option_and_then (λ (a : AliasRow). key_held view a.key) o ≡ Some row → key_with view.keys row.key ≡ Some row
-aliased_there view (Some a) row e = held_there view a.key row e
-aliased_there view None row e = cc
-
-abbrev IsThere : View → Named → Type 0
-IsThere view named = key_with view.keys named.row.key ≡ Some named.row
-
--- the key that a text refers to is there
-referred : (view : View) (reference : Result KeyRef NameFault) (named : Named) → key_referred view named_by_id (named_by_alias view) reference ≡ Ok named → IsThere view named
-referred view (Ok (Key id)) named e =
-    let row = found_of (ok_or (key_held view id) (refusal.NotFound missing.Key)) (λ (r : KeyRow). Ok (named_by_id r)) named e in
-    subst (IsThere view) (ok_same (named_by_id row.value) named row.came) (held_there view id row.value (ok_of (key_held view id) (refusal.NotFound missing.Key) row.value row.is))
-referred view (Ok (Alias name)) named e =
-    let row = found_of (key_of_alias view name) (λ (r : KeyRow). Ok (named_by name r)) named e in
-    subst (IsThere view) (ok_same (named_by name row.value) named row.came)
-    (aliased_there view (row_named view.aliases name) row.value (ok_of (aliased view name) (refusal.NotFound missing.Alias) row.value row.is))
-referred view (Ok Elsewhere) named e = cc
-referred view (Err fault.BadArn) named e = cc
-referred view (Err fault.BadAlias) named e = cc
-referred view (Err fault.BadId) named e = cc
-referred view (Err fault.NoMemory) named e = cc
-
-key_there : (view : View) (reference : List ℕ) (named : Named) → key_of view reference ≡ Ok named → IsThere view named
-unfolding key_of
-key_there view reference named e = referred view (reference_of view.facts reference) named e
 
 -- ---- an initialization vector that is left
 

@@ -13,6 +13,7 @@ use Rattle.kms_json.specs.declared.replies.Reply.TheVariants as reply
 use Rattle.kms_json.specs.declared.replies.lists.ListedAlias.{ListedAlias}
 use Rattle.kms_json.specs.declared.replies.lists.ListedGrant.{ListedGrant}
 use Rattle.kms_json.specs.declared.replies.lists.Rotation.{Rotation}
+use Rattle.hmac_keys.specs.declared.kinds.KeyKind.{KeyKind}
 use Rattle.key_states.specs.declared.rows.KeyRow.{KeyRow}
 use Rattle.key_states.specs.declared.versions.Version.{Version}
 use Rattle.alias_map.specs.declared.rows.AliasRow.{AliasRow}
@@ -33,7 +34,7 @@ use Rattle.account_lists.specs.declared.lists.ListedOf.{ListedOf}
 use Rattle.account_lists.specs.declared.lists.Sought.{Sought}
 use Rattle.account_lists.specs.declared.listings.Numbered.{Numbered}
 use Rattle.account_steps.specs.Places.{nothing_used}
-use Rattle.account_steps.specs.Steps.{and_then, only_key_of}
+use Rattle.account_steps.specs.Steps.{unless, and_then, unrotated, only_key_of}
 use Rattle.account_steps.specs.Authority.{on_key, on_other, of_none, of_key}
 use Rattle.account_steps.specs.View.{View, key_held, is_live}
 use Rattle.account_lists.specs.Pages.{Part, part_of, behind_marker, PartsMakeTheWhole}
@@ -174,6 +175,11 @@ abbrev pub grant_id_if_given : Option (List ℕ) → Result (Option (List ℕ)) 
 grant_id_if_given None = Ok None
 grant_id_if_given (Some text) = and_then (grant_id_in text) (λ id. Ok (Some id))
 
+-- a list of rotations, of a key whose material isn't rotated
+abbrev pub unlisted : KeyList → KeyKind → Option Refusal
+unlisted of.Rotations kind = unrotated kind
+unlisted _ kind = None
+
 -- what is sought
 abbrev pub sought_of : KeyList → Result Sought Refusal
 sought_of of.Policies = Ok (record { grant = None; grantee = None })
@@ -195,10 +201,10 @@ abbrev pub lists_on : View → List ℕ → KeyList → Page → ReadParts Liste
 lists_on view reference what page = record {
   parts = record {
     found = listed_of view reference what;
-    questions = λ listed. on_key (action_on what) listed.row (of_key view listed.row.key) ∷ [];
+    questions = λ listed. on_key (action_on what) listed.row (of_key view listed.row) ∷ [];
     tokens = [];
     uses = λ listed. record { action = action_on what; key = listed.row } ∷ [];
-    own = λ listed. behind_marker page.marker;
+    own = λ listed. unless (unlisted what listed.row.kind) (behind_marker page.marker);
     dry_run = false;
     reply = λ listed after. part_on view what listed page.limit after;
   };

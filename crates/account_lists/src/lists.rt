@@ -11,12 +11,13 @@ use crate::pages::{Part, behind_marker, part_behind};
 use account_rows::Lent;
 use account_steps::{
     LentText, Reads, Request, Stop, Uses, View, grant_id_in, of_key, of_none, only_key_of,
-    principal_in,
+    principal_in, refuse, unrotated,
 };
 use draw_lines::DrawLine;
+use hmac_keys::KeyKind;
 use kms_json::{
-    AliasList, AliasPage, GrantList, GrantPage, KeyIdList, KeyPage, ListedAlias, Page, Reply,
-    RotationList, RotationPage,
+    AliasList, AliasPage, GrantList, GrantPage, KeyIdList, KeyPage, ListedAlias, Page, Refusal,
+    Reply, RotationList, RotationPage,
 };
 use kms_names::{Action, GrantId, KeyId, NoMemory, Principal, Text};
 use std::alloc::Global;
@@ -288,7 +289,7 @@ fn grantee_if_given(alloc: Global, text: &Option<LentText<'_>>) -> Result<Option
 impl KeyList<'_> {
     ghost use Rattle.std.specs.Prelude.{◌≡◌};
     ghost use Rattle.account_steps.specs.Steps.{Gives};
-    ghost use Rattle.account_lists.specs.Lists.{action_on, sought_of};
+    ghost use Rattle.account_lists.specs.Lists.{action_on, unlisted, sought_of};
 
     // What it is called where it is authorized.
     fn action(&self) -> Action
@@ -298,6 +299,16 @@ impl KeyList<'_> {
             KeyList::Policies => Action::ListKeyPolicies,
             KeyList::Rotations => Action::ListKeyRotations,
             KeyList::Grants { .. } => Action::ListGrants,
+        }
+    }
+
+    // The refusal of a list of rotations, of a key whose material isn't rotated.
+    fn unlisted(&self, kind: KeyKind) -> Option<Refusal>
+        ensures { result ≡ unlisted self.now kind }
+    {
+        match self {
+            KeyList::Rotations => unrotated(kind),
+            KeyList::Policies | KeyList::Grants { .. } => None,
         }
     }
 
@@ -401,7 +412,7 @@ impl<'a> Request for ListingKey<'a> {
     }
 
     fn authorize(&self, alloc: Global, found: &ListedOf<'a>) -> Result<(), Stop> {
-        let said = of_key(self.view, &found.row.row().key);
+        let said = of_key(self.view, found.row.row());
         self.view
             .authorize_on(alloc, self.what.action(), &found.row, &said)
     }
@@ -414,7 +425,8 @@ impl<'a> Request for ListingKey<'a> {
         self.view.fit(alloc, self.what.action(), &found.row)
     }
 
-    fn own(&self, _alloc: Global, _found: &ListedOf<'a>) -> Result<Option<u64>, Stop> {
+    fn own(&self, _alloc: Global, found: &ListedOf<'a>) -> Result<Option<u64>, Stop> {
+        refuse(self.what.unlisted(found.row.row().kind))?;
         behind_marker(self.page)
     }
 

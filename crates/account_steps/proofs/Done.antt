@@ -4,6 +4,7 @@ use Rattle.grant_table.specs.declared.rows.GrantRow.{GrantRow}
 use Rattle.grant_table.specs.Grants.{grant_with}
 use Rattle.account_rows.specs.declared.entries.What.{What}
 use Rattle.account_rows.specs.declared.entries.What.TheVariants as what
+use Rattle.account_rows.specs.History.{TagsFit}
 use Rattle.account_rows.proofs.HouseFacts.{GivesDays}
 use Rattle.account_steps.specs.declared.facts.RealmFacts.{RealmFacts}
 use Rattle.account_steps.specs.Ids.{key_id_at, grant_id_at}
@@ -13,7 +14,7 @@ use Rattle.account_steps.proofs.Passing.{change_passed}
 
 -- a key or grant that it makes has the id of its place
 abbrev pub IsMadeAt : RealmFacts → ℕ → What → Type 0
-IsMadeAt facts place (what.CreateKey key description policy) = key ≡ key_id_at facts place
+IsMadeAt facts place (what.CreateKey key kind description policy tags) = key ≡ key_id_at facts place
 IsMadeAt facts place (what.GrantAdd grant key grantee retiring operations constraint name) = grant ≡ grant_id_at facts place
 IsMadeAt facts place _ = Unit {0}
 
@@ -22,11 +23,12 @@ abbrev pub HoldsDropped : List GrantRow → What → Type 0
 HoldsDropped grants (what.GrantDrop grant) = (id : List ℕ) × (row : GrantRow) × (grant_with grants id ≡ Some row) × (row.grant ≡ grant)
 HoldsDropped grants _ = Unit {0}
 
--- a key or grant that it makes has the id of its place, a period that it gives has days, and a grant that it drops is there
+-- a key or grant that it makes has the id of its place, a period that it gives has days, a grant that it drops is there, and no key has too many tags
 pub record IsDone (view : View) (did : What) : Type 0 where
   pub made : IsMadeAt view.facts view.place did
   pub gives : GivesDays did
   pub holds : HoldsDropped view.grants did
+  pub tagged : TagsFit view.keys did
 
 -- so much each operation has to say of what it does
 abbrev pub DoesWell : {F R : Type 0} → View → ChangeParts F R → Type 0

@@ -7,3 +7,4 @@ pub mod Asking
 pub mod Referring
 pub mod TokenFacts
 mod PrincipalFacts
+pub mod Holding

@@ -12,9 +12,12 @@ use Rattle.kms_json.specs.declared.refusals.Refusal.{Refusal}
 use Rattle.kms_json.specs.declared.refusals.Refusal.TheVariants as refusal
 use Rattle.policy_doc.specs.declared.policies.Policy.{Policy}
 use Rattle.authority.specs.KeyPolicy.{policy_in}
-use Rattle.authority.specs.Setting.{Setting, Particulars, GrantSaid, Asked, callers_policies, is_root, names_of}
+use Rattle.authority.specs.Setting.{Setting, KindSaid, Particulars, GrantSaid, Asked, callers_policies, is_root, names_of}
 use Rattle.authority.specs.Facts.{request_of}
 use Rattle.authority.specs.Allowed.{is_allowed, May}
+use Rattle.hmac_keys.specs.Kind.{spec_text, usage_text}
+use Rattle.hmac_keys.specs.declared.kinds.KeyKind.{KeyKind}
+use Rattle.resource_tags.specs.Tags.{Tags}
 use Rattle.key_states.specs.declared.rows.KeyRow.{KeyRow}
 use Rattle.grant_table.specs.declared.rows.GrantRow.{GrantRow}
 use Rattle.grant_table.specs.Grants.{Permits, IsChildOf, grant_permitting, parent_of, has_retiring}
@@ -55,7 +58,8 @@ setting_of view = record {
 -- the operations that a grant permits by actions of their names: all but RetireGrant, of which no policy and no grant of the key is asked
 abbrev pub granting : List GrantOp
 granting =
-    op.Encrypt ∷ op.Decrypt ∷ op.GenerateDataKey ∷ op.GenerateDataKeyWithoutPlaintext ∷ op.ReEncryptFrom ∷ op.ReEncryptTo ∷ op.CreateGrant ∷ op.DescribeKey ∷ []
+    op.Encrypt ∷ op.Decrypt ∷ op.GenerateDataKey ∷ op.GenerateDataKeyWithoutPlaintext ∷ op.ReEncryptFrom ∷ op.ReEncryptTo ∷ op.CreateGrant ∷ op.DescribeKey
+    ∷ op.GenerateMac ∷ op.VerifyMac ∷ []
 
 -- the operation that a grant permits by an action, if any
 abbrev pub grant_op_of : Action → Option GrantOp
@@ -105,25 +109,59 @@ denied view (q ∷ questions) = or_else (denied_one view q) (denied view questio
 
 -- ---- what requests say of themselves
 
+-- the kind of a key, by the texts that say so
+abbrev pub kind_said : KeyKind → KindSaid
+kind_said kind = record { spec = spec_text kind; usage = usage_text kind }
+
+-- a key as requests are about it: its id, its kind and its tags
+pub record KeySaid : Type 0 where
+  pub key : List ℕ
+  pub kind : KeyKind
+  pub tags : Tags
+
+abbrev pub said_key : KeyRow → KeySaid
+said_key row = record { key = row.key; kind = row.kind; tags = row.tags }
+
 -- nothing about a key
 abbrev pub of_none : Particulars
-of_none = record { keyed = false; context = []; aliases = []; request_alias = None; grant = None; same_key = None; bypass = None; window = None; period = None }
+of_none = record {
+  kind = None;
+  tags = [];
+  request_tags = [];
+  untagged = [];
+  context = [];
+  mac_algorithm = None;
+  aliases = [];
+  request_alias = None;
+  grant = None;
+  same_key = None;
+  bypass = None;
+  window = None;
+  period = None;
+}
 
--- about a key that is to be made
-abbrev pub of_new_key : Particulars
-of_new_key = record of_none { keyed = true }
+-- about a key that is to be made, of this kind
+abbrev pub of_new_key : KindSaid → Particulars
+of_new_key kind = record of_none { kind = Some kind }
 
--- about a key with its aliases
-abbrev pub of_key : View → List ℕ → Particulars
-of_key view key = record of_none { keyed = true; aliases = names_of key view.aliases }
+-- about a key with its tags and its aliases
+abbrev pub of_said : View → KeySaid → Particulars
+of_said view said = record of_none { kind = Some (kind_said said.kind); tags = said.tags; aliases = names_of said.key view.aliases }
+
+abbrev pub of_key : View → KeyRow → Particulars
+of_key view row = of_said view (said_key row)
 
 -- the same where the request may name it by an alias
-abbrev pub of_named : View → List ℕ → Option (List ℕ) → Particulars
-of_named view key alias = record (of_key view key) { request_alias = alias }
+abbrev pub of_named : View → KeyRow → Option (List ℕ) → Particulars
+of_named view row alias = record (of_key view row) { request_alias = alias }
 
 -- what a request under an encryption context says of itself
-abbrev pub of_context : View → List ℕ → Option (List ℕ) → List Pair → Particulars
-of_context view key alias context = record (of_named view key alias) { context = context }
+abbrev pub of_context : View → KeyRow → Option (List ℕ) → List Pair → Particulars
+of_context view row alias context = record (of_named view row alias) { context = context }
+
+-- and one that makes a MAC by an algorithm, or verifies one
+abbrev pub of_mac : View → KeyRow → Option (List ℕ) → List ℕ → Particulars
+of_mac view row alias algorithm = record (of_named view row alias) { mac_algorithm = Some algorithm }
 
 -- ---- in terms of statements and grants
 

@@ -136,7 +136,7 @@ grants_full view key =
 
 -- what an entry would add to
 abbrev pub full : View → What → Option Refusal
-full view (what.CreateKey key description policy) = keys_full (length view.keys)
+full view (what.CreateKey key kind description policy tags) = keys_full (length view.keys)
 full view (what.RotateNow key) = rotations_full (key_with view.keys key)
 full view (what.AliasPut name key) = aliases_full view name
 full view (what.GrantAdd grant key grantee retiring operations constraint name) = grants_full view key

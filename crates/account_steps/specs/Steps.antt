@@ -16,6 +16,11 @@ use Rattle.kms_json.specs.declared.refusals.Refusal.{Refusal}
 use Rattle.kms_json.specs.declared.refusals.Refusal.TheVariants as refusal
 use Rattle.kms_json.specs.declared.refusals.Missing.TheVariants as missing
 use Rattle.kms_json.specs.declared.refusals.Unsupported.{Unsupported}
+use Rattle.kms_json.specs.declared.refusals.Unsupported.TheVariants as field
+use Rattle.resource_tags.specs.Proper.{are_proper}
+use Rattle.resource_tags.specs.declared.tags.Tag.{Tag}
+use Rattle.hmac_keys.specs.declared.kinds.KeyKind.{KeyKind}
+use Rattle.hmac_keys.specs.declared.kinds.KeyKind.TheVariants.{Symmetric, Hmac256}
 use Rattle.account_steps.specs.declared.facts.RealmFacts.{RealmFacts}
 use Rattle.key_states.specs.declared.rows.KeyRow.{KeyRow}
 use Rattle.account_steps.specs.declared.stops.Stop.{Stop}
@@ -69,10 +74,34 @@ stopping None = Ok tt
 
 -- ---- the steps
 
+-- a key is of the kind that is wanted
+abbrev pub other_kind : KeyKind → KeyKind → Option Refusal
+other_kind Symmetric Symmetric = None
+other_kind Symmetric Hmac256 = Some refusal.InvalidKeyUsage
+other_kind Hmac256 Symmetric = Some refusal.InvalidKeyUsage
+other_kind Hmac256 Hmac256 = None
+
 -- an algorithm that is given is that of symmetric keys
-abbrev pub unfit : Option (List ℕ) → Option Refusal
-unfit None = None
-unfit (Some name) = if bytes_eq name (codes "SYMMETRIC_DEFAULT") then None else Some refusal.InvalidKeyUsage
+abbrev pub unfit_algorithm : Option (List ℕ) → Option Refusal
+unfit_algorithm None = None
+unfit_algorithm (Some name) = if bytes_eq name (codes "SYMMETRIC_DEFAULT") then None else Some refusal.InvalidKeyUsage
+
+-- a key that is to encrypt or decrypt is symmetric, and so is the algorithm that is given
+abbrev pub unfit : KeyKind → Option (List ℕ) → Option Refusal
+unfit kind algorithm = or_else (other_kind Symmetric kind) (unfit_algorithm algorithm)
+
+-- a key that is to make or verify a MAC is an HMAC key, and so is the algorithm
+abbrev pub unfit_mac : KeyKind → List ℕ → Option Refusal
+unfit_mac kind algorithm = or_else (other_kind Hmac256 kind) (if bytes_eq algorithm (codes "HMAC_SHA_256") then None else Some refusal.InvalidKeyUsage)
+
+-- the material of HMAC keys isn't rotated
+abbrev pub unrotated : KeyKind → Option Refusal
+unrotated Symmetric = None
+unrotated Hmac256 = Some (refusal.UnsupportedOperation field.KeyId)
+
+-- tags that are given to a key are proper
+abbrev pub improper : List Tag → Option Refusal
+improper tags = if are_proper tags then None else Some refusal.InvalidTags
 
 abbrev pub unsupported : Bool → Unsupported → Option Refusal
 unsupported given field = if given then Some (refusal.UnsupportedOperation field) else None

@@ -2,7 +2,7 @@
 ghost use Rattle.std.specs.Prelude.{◌≡◌};
 ghost use Rattle.std.specs.Prelude.{◌≢◌, Err, IfOk, OnOk};
 ghost use Rattle.kms_names.specs.declared.faults.NameFault.TheVariants as fault;
-ghost use Rattle.account_steps.specs.Steps.{Gives, unfit, unsupported, no_key, named_by_id, named_by_alias, key_referred, reference_of, key_of, only_key_of, key_of_alias, key_if_given, other_key};
+ghost use Rattle.account_steps.specs.Steps.{Gives, other_kind, unfit_algorithm, unfit, unfit_mac, unrotated, improper, unsupported, no_key, named_by_id, named_by_alias, key_referred, reference_of, key_of, only_key_of, key_of_alias, key_if_given, other_key};
 ghost use Rattle.kms_json.specs.declared.refusals.Refusal.TheVariants as refusal;
 ghost use Rattle.account_steps.specs.declared.stops.Stop.TheVariants as stop;
 
@@ -10,17 +10,73 @@ use crate::facts::RealmFacts;
 use crate::stops::Stop;
 use crate::view::View;
 use account_rows::{Lent, same_key};
-use kms_json::{Missing, Refusal, SYMMETRIC_DEFAULT, Unsupported};
+use hmac_keys::KeyKind;
+use kms_json::{HMAC_SHA_256, Missing, Refusal, SYMMETRIC_DEFAULT, Unsupported};
 use kms_names::{AliasName, KeyId, KeyRef, NameFault, NoMemory, Text, read_key_ref};
+use resource_tags::{Tag, are_proper};
 use std::alloc::Global;
 
-/// The refusal of an algorithm that isn't the one of symmetric keys.
-pub fn unfit(algorithm: &Option<Text>) -> Option<Refusal>
-    ensures { result ≡ unfit algorithm.now }
+/// The refusal of a key of another kind than the one that is wanted.
+pub fn other_kind(wanted: KeyKind, kind: KeyKind) -> Option<Refusal>
+    ensures { result ≡ other_kind wanted kind }
+{
+    match (wanted, kind) {
+        (KeyKind::Symmetric, KeyKind::Symmetric) | (KeyKind::Hmac256, KeyKind::Hmac256) => None,
+        _ => Some(Refusal::InvalidKeyUsage),
+    }
+}
+
+// The refusal of an algorithm that isn't the one of symmetric keys.
+fn unfit_algorithm(algorithm: &Option<Text>) -> Option<Refusal>
+    ensures { result ≡ unfit_algorithm algorithm.now }
 {
     match algorithm {
         Some(name) if name.as_str() != SYMMETRIC_DEFAULT => Some(Refusal::InvalidKeyUsage),
         _ => None,
+    }
+}
+
+/// The refusal of a key that isn't symmetric, or of an algorithm that isn't the one of symmetric keys.
+pub fn unfit(kind: KeyKind, algorithm: &Option<Text>) -> Option<Refusal>
+    ensures { result ≡ unfit kind algorithm.now }
+{
+    match other_kind(KeyKind::Symmetric, kind) {
+        Some(why) => Some(why),
+        None => unfit_algorithm(algorithm),
+    }
+}
+
+/// The refusal of a key that isn't an HMAC key, or of an algorithm that isn't the one of HMAC keys.
+pub fn unfit_mac(kind: KeyKind, algorithm: &Text) -> Option<Refusal>
+    ensures { result ≡ unfit_mac kind algorithm.now }
+{
+    if let Some(why) = other_kind(KeyKind::Hmac256, kind) {
+        return Some(why);
+    }
+    if algorithm.as_str() != HMAC_SHA_256 {
+        return Some(Refusal::InvalidKeyUsage);
+    }
+    None
+}
+
+/// The refusal of a key whose material isn't rotated.
+pub fn unrotated(kind: KeyKind) -> Option<Refusal>
+    ensures { result ≡ unrotated kind }
+{
+    match kind {
+        KeyKind::Symmetric => None,
+        KeyKind::Hmac256 => Some(Refusal::UnsupportedOperation(Unsupported::KeyId)),
+    }
+}
+
+/// The refusal of tags that may not be given to a key.
+pub fn improper(tags: &[Tag]) -> Option<Refusal>
+    ensures { result ≡ improper tags.now }
+{
+    if are_proper(tags) {
+        None
+    } else {
+        Some(Refusal::InvalidTags)
     }
 }
 

@@ -15,12 +15,15 @@ mod threads;
 mod view;
 
 pub use checks::{
-    Named, key_if_given, key_of, key_of_alias, only_key_of, other_key, unfit, unsupported,
+    Named, improper, key_if_given, key_of, key_of_alias, only_key_of, other_key, other_kind, unfit,
+    unfit_mac, unrotated, unsupported,
 };
 pub use facts::RealmFacts;
 pub use given::{grant_id_in, principal_if_given, principal_in};
 pub use ids::{draw_line, grant_id, key_id, key_id_of};
-pub use particulars::{of_context, of_key, of_named, of_new_key, of_none};
+pub use particulars::{
+    KeySaid, of_context, of_key, of_mac, of_named, of_new_key, of_none, of_said,
+};
 pub use parts::{Changes, Made, Reads, Request, change, grant_id_of, grant_of_token, read, refuse};
 pub use places::{Places, Uses};
 pub use sources::{Sealed, find_source};

@@ -406,6 +406,8 @@ fn grant_op_of(action: Action) -> Option<GrantOp>
         Action::GenerateDataKeyWithoutPlaintext => Some(GrantOp::GenerateDataKeyWithoutPlaintext),
         Action::DescribeKey => Some(GrantOp::DescribeKey),
         Action::CreateGrant => Some(GrantOp::CreateGrant),
+        Action::GenerateMac => Some(GrantOp::GenerateMac),
+        Action::VerifyMac => Some(GrantOp::VerifyMac),
         _ => None,
     }
 }

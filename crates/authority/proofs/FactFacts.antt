@@ -6,8 +6,10 @@ use Rattle.kms_names.specs.declared.principals.Principal.TheVariants.{User}
 use Rattle.kms_names.specs.Principal.{principal_text, account_of}
 use Rattle.kms_names.specs.declared.principals.Principal.{Principal}
 use Rattle.cond_ops.specs.declared.facts.Fact.{Fact}
+use Rattle.resource_tags.specs.Tags.{Tags}
+use Rattle.resource_tags.specs.declared.tags.Tag.{Tag}
 use Rattle.authority.specs.Times.{moment_text}
-use Rattle.authority.specs.Facts.{single, behind_slash, user_facts, caller_facts, time_facts, key_facts, pair_fact}
+use Rattle.authority.specs.Facts.{single, behind_slash, user_facts, caller_facts, time_facts, pair_fact, resource_tag, request_tag}
 
 -- two runs of them
 pub adds : (old mid new a b : List Fact) → mid ≡ old ++ a → new ≡ mid ++ b → new ≡ old ++ (a ++ b)
@@ -36,19 +38,30 @@ pub pair_is : (old new : List Fact) (pair : Pair) (key value : List ℕ) → key
     → new ≡ old ++ single key value ∷ [] → new ≡ old ++ pair_fact pair ∷ []
 pair_is old new pair key value is_key is_value e = e ∙ (λ i. old ++ single (is_key i) (is_value i) ∷ [])
 
--- one more pair
-pub pairs_push : (old mid new : List Fact) (pairs : List Pair) (i : ℕ) (pair : Pair) → i < length pairs → pair ≡ get_or pairs i pair
-    → mid ≡ old ++ map pair_fact (take i pairs) → new ≡ mid ++ pair_fact pair ∷ [] → new ≡ old ++ map pair_fact (take (i + 1) pairs)
-pairs_push old mid new pairs i pair within is e f =
-    let more : map pair_fact (take (i + 1) pairs) ≡ map pair_fact (take i pairs) ++ pair_fact (get_or pairs i pair) ∷ [] =
-    ap (map pair_fact) (take_more pairs i pair within) ∙ map-append pair_fact (take i pairs) (get_or pairs i pair ∷ []) in
-    adds old mid new (map pair_fact (take i pairs)) (pair_fact pair ∷ []) e f
-    ∙ ap (λ (l : List Fact). old ++ l) (ap (λ (p : Pair). map pair_fact (take i pairs) ++ pair_fact p ∷ []) is ∙ sym more)
+-- one more of a list
+pub one_pushed : {A : Type 0} (f : A → Fact) (old mid new : List Fact) (items : List A) (i : ℕ) (item : A) → i < length items → item ≡ get_or items i item
+    → mid ≡ old ++ map f (take i items) → new ≡ mid ++ f item ∷ [] → new ≡ old ++ map f (take (i + 1) items)
+one_pushed f old mid new items i item within is e g =
+    let more : map f (take (i + 1) items) ≡ map f (take i items) ++ f (get_or items i item) ∷ [] =
+    ap (map f) (take_more items i item within) ∙ map-append f (take i items) (get_or items i item ∷ []) in
+    adds old mid new (map f (take i items)) (f item ∷ []) e g
+    ∙ ap (λ (l : List Fact). old ++ l) (ap (λ p. map f (take i items) ++ f p ∷ []) is ∙ sym more)
 
 pub user_is : (old new : List Fact) (caller : Principal) (account name last : List ℕ) → caller ≡ User account name → last ≡ behind_slash name
     → new ≡ old ++ single (codes "aws:username") last ∷ [] → new ≡ old ++ user_facts caller
 user_is old new caller account name last is is_last e =
     e ∙ ap (λ (text : List ℕ). old ++ single (codes "aws:username") text ∷ []) is_last ∙ ap (λ (p : Principal). old ++ user_facts p) (sym is)
 
-pub keyed_is : (old new : List Fact) (keyed : Bool) → keyed ≡ true → new ≡ old ++ key_facts true → new ≡ old ++ key_facts keyed
-keyed_is old new keyed is e = e ∙ ap (λ (b : Bool). old ++ key_facts b) (sym is)
+pub resource_tag_is : (old new : List Fact) (name text key value : List ℕ) → key ≡ codes "aws:ResourceTag/" ++ name → value ≡ text
+    → new ≡ old ++ single key value ∷ [] → new ≡ old ++ resource_tag (name, text) ∷ []
+resource_tag_is old new name text key value is_key is_value e = e ∙ (λ i. old ++ single (is_key i) (is_value i) ∷ [])
+
+pub request_tag_is : (old new : List Fact) (tag : Tag) (key value : List ℕ) → key ≡ codes "aws:RequestTag/" ++ tag.key → value ≡ tag.value
+    → new ≡ old ++ single key value ∷ [] → new ≡ old ++ request_tag tag ∷ []
+request_tag_is old new tag key value is_key is_value e = e ∙ (λ i. old ++ single (is_key i) (is_value i) ∷ [])
+
+-- one more of the pairs that are left
+pub next_pushed : (old mid new : List Fact) (all left rest : Tags) (tag : List ℕ × List ℕ) → left ≡ tag ∷ rest → mid ++ map resource_tag left ≡ old ++ map resource_tag all
+    → new ≡ mid ++ resource_tag tag ∷ [] → new ++ map resource_tag rest ≡ old ++ map resource_tag all
+next_pushed old mid new all left rest tag is e f =
+    ap (λ (l : List Fact). l ++ map resource_tag rest) f ∙ (append_assoc mid (resource_tag tag ∷ []) (map resource_tag rest) ∙ (ap (λ l. mid ++ map resource_tag l) (sym is) ∙ e))

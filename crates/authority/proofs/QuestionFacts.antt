@@ -16,7 +16,7 @@ use Rattle.policy_eval.specs.Verdict.{AskTheSame}
 use Rattle.policy_eval.specs.VerdictOf.{verdict_of}
 use Rattle.policy_eval.specs.CeilingOf.{ceiling_of, CeilingGoesByQuestion}
 use Rattle.authority.specs.Setting.{Setting, Particulars, Asked, is_root}
-use Rattle.authority.specs.Facts.{several, several_facts, text_facts, key_facts, setting_facts, sealing_facts, granting_facts, changing_facts, request_of}
+use Rattle.authority.specs.Facts.{several, several_facts, text_facts, key_facts, setting_facts, sealing_facts, granting_facts, changing_facts, tag_facts, request_of}
 use Rattle.authority.specs.Allowed.{is_deny, is_direct, some_deny, some_allow, identity_allows, own_standing, key_standing, standing, bounded, bounded_standing, standing_of}
 use Rattle.authority.specs.Questions.{GoByQuestions, KeyGoesByQuestion, resource_aliases, GoWithoutAliases, KeyGoesWithoutAliases, asked_as_gathered, SaysWhatIsAsked}
 
@@ -88,8 +88,8 @@ unfolding request_of
 differ_in_aliases setting asked =
     let said : Particulars = asked.particulars in (
       (refl, refl, refl),
-      without resource_aliases (setting_facts setting) (key_facts said.keyed) (text_facts (codes "kms:RequestAlias") said.request_alias)
-          (sealing_facts asked.action said ++ (granting_facts asked.action said ++ changing_facts said)) said.aliases,
+      without resource_aliases (setting_facts setting) (key_facts said.kind) (text_facts (codes "kms:RequestAlias") said.request_alias)
+          (sealing_facts asked.action said ++ (granting_facts asked.action said ++ (changing_facts said ++ tag_facts said))) said.aliases,
     )
 
 with_all : (setting : Setting) (asked : Asked) → request_of setting (asked_as_gathered true asked) ≡ request_of setting asked

@@ -15,7 +15,8 @@ use Rattle.cond_ops.specs.declared.facts.Fact.{Fact}
 use Rattle.cond_ops.specs.declared.facts.RequestFacts.{RequestFacts}
 use Rattle.policy_doc.specs.Texts.{truth_text}
 use Rattle.authority.specs.Times.{moment_text}
-use Rattle.authority.specs.Setting.{Setting, GrantSaid, Particulars, Asked}
+use Rattle.resource_tags.specs.declared.tags.Tag.{Tag}
+use Rattle.authority.specs.Setting.{Setting, KindSaid, GrantSaid, Particulars, Asked}
 
 -- a condition key with these values
 abbrev pub several : List ℕ → List (List ℕ) → Fact
@@ -64,12 +65,15 @@ service_facts region = single (codes "aws:RequestedRegion") region ∷ single (c
 
 -- ---- of some
 
--- keys are symmetric, for encryption, made here and in one region
-abbrev pub key_facts : Bool → List Fact
-key_facts false = []
-key_facts true =
-    single (codes "kms:KeySpec") (codes "SYMMETRIC_DEFAULT") ∷ single (codes "kms:KeyUsage") (codes "ENCRYPT_DECRYPT")
+-- the kind of a key; keys are made here and in one region
+abbrev pub kind_facts : KindSaid → List Fact
+kind_facts kind =
+    single (codes "kms:KeySpec") kind.spec ∷ single (codes "kms:KeyUsage") kind.usage
     ∷ single (codes "kms:KeyOrigin") (codes "AWS_KMS") ∷ single (codes "kms:MultiRegion") (codes "false") ∷ []
+
+abbrev pub key_facts : Option KindSaid → List Fact
+key_facts None = []
+key_facts (Some kind) = kind_facts kind
 
 -- a pair of the encryption context
 abbrev pub pair_fact : Pair → Fact
@@ -88,6 +92,25 @@ sealing = action.Encrypt ∷ action.Decrypt ∷ action.ReEncryptFrom ∷ action.
 abbrev pub algorithm_facts : Bool → List Fact
 algorithm_facts false = []
 algorithm_facts true = single (codes "kms:EncryptionAlgorithm") (codes "SYMMETRIC_DEFAULT") ∷ []
+
+-- ---- of tags
+
+-- a tag of the key, and one that the request gives to it
+abbrev pub resource_tag : List ℕ × List ℕ → Fact
+resource_tag tag = single (codes "aws:ResourceTag/" ++ tag.0) tag.1
+
+abbrev pub request_tag : Tag → Fact
+request_tag tag = single (codes "aws:RequestTag/" ++ tag.key) tag.value
+
+-- the keys of the tags that the request gives to the key or takes from it
+abbrev pub tag_keys : Particulars → List (List ℕ)
+tag_keys particulars = map (λ (tag : Tag). tag.key) particulars.request_tags ++ particulars.untagged
+
+abbrev pub tag_facts : Particulars → List Fact
+tag_facts particulars =
+    map resource_tag particulars.tags
+    ++ (map request_tag particulars.request_tags
+    ++ several_facts (codes "aws:TagKeys") (tag_keys particulars))
 
 -- ---- of a grant
 
@@ -126,16 +149,17 @@ setting_facts setting = caller_facts setting.caller ++ (time_facts setting.momen
 -- which key it is about, and by which name
 abbrev pub named_facts : Particulars → List Fact
 named_facts particulars =
-    key_facts particulars.keyed
+    key_facts particulars.kind
     ++ (several_facts (codes "kms:ResourceAliases") particulars.aliases
     ++ text_facts (codes "kms:RequestAlias") particulars.request_alias)
 
--- what is sealed or opened
+-- what is sealed or opened, and how a MAC is made
 abbrev pub sealing_facts : Action → Particulars → List Fact
 sealing_facts op particulars =
     context_facts particulars.context
     ++ (algorithm_facts (is_among sealing op)
-    ++ truth_facts (codes "kms:ReEncryptOnSameKey") particulars.same_key)
+    ++ (text_facts (codes "kms:MacAlgorithm") particulars.mac_algorithm
+    ++ truth_facts (codes "kms:ReEncryptOnSameKey") particulars.same_key))
 
 -- which grant is made, or whose
 abbrev pub granting_facts : Action → Particulars → List Fact
@@ -150,7 +174,7 @@ changing_facts particulars =
 
 abbrev pub facts_of : Setting → Action → Particulars → List Fact
 facts_of setting op particulars =
-    setting_facts setting ++ (named_facts particulars ++ (sealing_facts op particulars ++ (granting_facts op particulars ++ changing_facts particulars)))
+    setting_facts setting ++ (named_facts particulars ++ (sealing_facts op particulars ++ (granting_facts op particulars ++ (changing_facts particulars ++ tag_facts particulars))))
 
 -- what policies are asked about a request
 unfoldable pub request_of : Setting → Asked → RequestFacts

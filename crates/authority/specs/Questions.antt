@@ -14,17 +14,7 @@ names_if false names = []
 
 -- what a request says of itself, its key's aliases only where they are gathered
 abbrev pub gathered : Bool → Particulars → Particulars
-gathered with_aliases particulars = record {
-  keyed = particulars.keyed;
-  context = particulars.context;
-  aliases = names_if with_aliases particulars.aliases;
-  request_alias = particulars.request_alias;
-  grant = particulars.grant;
-  same_key = particulars.same_key;
-  bypass = particulars.bypass;
-  window = particulars.window;
-  period = particulars.period;
-}
+gathered with_aliases particulars = record particulars { aliases = names_if with_aliases particulars.aliases }
 
 abbrev pub asked_as_gathered : Bool → Asked → Asked
 asked_as_gathered with_aliases asked = record { action = asked.action; resource = asked.resource; particulars = gathered with_aliases asked.particulars }

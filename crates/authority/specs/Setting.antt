@@ -11,6 +11,8 @@ use Rattle.alias_map.specs.Aliases.{names_key}
 use Rattle.alias_map.specs.declared.rows.AliasRow.{AliasRow}
 use Rattle.grant_table.specs.declared.constraints.Constraint.{Constraint}
 use Rattle.policy_doc.specs.declared.policies.Policy.{Policy}
+use Rattle.resource_tags.specs.Tags.{Tags}
+use Rattle.resource_tags.specs.declared.tags.Tag.{Tag}
 use Rattle.authority.specs.declared.identities.Identity.{Identity}
 
 -- the caller, the moment in seconds since 1970, the region of the service, the caller's own policies, and the documents of the
@@ -29,13 +31,23 @@ pub record GrantSaid : Type 0 where
   pub retiring : Option Principal
   pub constraint : Constraint
 
--- what a request says of itself beside its action: whether it is about a key, one that it makes included; its encryption
--- context; the names of the key's aliases, in order of making; the alias name by which it names the key; the grant that it
+-- what kind of key it is, by the texts that say so: its spec, and what it is used for
+pub record KindSaid : Type 0 where
+  pub spec : List ℕ
+  pub usage : List ℕ
+
+-- what a request says of itself beside its action: the kind of the key that it is about, of one that it makes what it asks
+-- for; the key's tags; the tags that it gives to the key; the keys of the tags that it takes from it; its encryption
+-- context; the algorithm of a MAC; the names of the key's aliases, in order of making; the alias name by which it names the key; the grant that it
 -- asks for; whether it encrypts anew under the same key; whether it passes over the check of a new policy; the waiting period
 -- of a deletion in days; and the period of automatic rotation in days
 pub record Particulars : Type 0 where
-  pub keyed : Bool
+  pub kind : Option KindSaid
+  pub tags : Tags
+  pub request_tags : List Tag
+  pub untagged : List (List ℕ)
   pub context : List Pair
+  pub mac_algorithm : Option (List ℕ)
   pub aliases : List (List ℕ)
   pub request_alias : Option (List ℕ)
   pub grant : Option GrantSaid

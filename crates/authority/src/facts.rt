@@ -1,12 +1,13 @@
 //! What a request says to conditions of policies.
 ghost use Rattle.std.specs.Prelude.{◌≡◌, ◌≢◌, ◌++◌, ◌∷◌, [], All, IfOk, OnOk, MatchOption, map, codes};
 ghost use Rattle.kms_names.specs.Action.{is_among};
-ghost use Rattle.authority.specs.Facts.{behind_slash, caller_facts, user_facts, time_facts, service_facts, key_facts, pair_fact, context_facts, several_facts, sealing, algorithm_facts, setting_facts, named_facts, sealing_facts, changing_facts, facts_of};
+ghost use Rattle.authority.specs.Facts.{behind_slash, caller_facts, user_facts, time_facts, service_facts, kind_facts, key_facts, pair_fact, context_facts, several_facts, sealing, algorithm_facts, setting_facts, named_facts, sealing_facts, changing_facts, facts_of};
 ghost use Rattle.authority.specs.Questions.{names_if, gathered};
 
 use crate::grants::put_granting;
 use crate::puts::{put, put_all, put_given, put_number, put_some, put_text, put_truth};
-use crate::settings::{Particulars, Setting};
+use crate::settings::{KindSaid, Particulars, Setting};
+use crate::tags::put_tags;
 use crate::times::write_moment;
 use cond_ops::{Fact, FactList};
 use enc_context::Pair;
@@ -83,20 +84,26 @@ fn put_service(facts: &mut Vec<Fact>, region: &str) -> Result<(), NoMemory>
     Ok(())
 }
 
-fn put_key(facts: &mut Vec<Fact>, keyed: bool) -> Result<(), NoMemory>
-    ensures { OnOk result (facts.new.items ≡ facts.old.items ++ key_facts keyed) }
+fn put_kind(facts: &mut Vec<Fact>, kind: &KindSaid<'_>) -> Result<(), NoMemory>
+    ensures { OnOk result (facts.new.items ≡ facts.old.items ++ kind_facts kind.now) }
 {
-    if !keyed {
-        return Ok(());
-    }
     let pairs = [
-        ("kms:KeySpec", "SYMMETRIC_DEFAULT"),
-        ("kms:KeyUsage", "ENCRYPT_DECRYPT"),
+        ("kms:KeySpec", kind.spec),
+        ("kms:KeyUsage", kind.usage),
         ("kms:KeyOrigin", "AWS_KMS"),
         ("kms:MultiRegion", "false"),
     ];
     put_all(facts, &pairs)?;
     Ok(())
+}
+
+fn put_key(facts: &mut Vec<Fact>, kind: &Option<KindSaid<'_>>) -> Result<(), NoMemory>
+    ensures { OnOk result (facts.new.items ≡ facts.old.items ++ key_facts kind.now) }
+{
+    match kind {
+        Some(kind) => put_kind(facts, kind),
+        None => Ok(()),
+    }
 }
 
 // Adds a pair of an encryption context.
@@ -194,12 +201,12 @@ fn put_named(
 ) -> Result<(), NoMemory>
     ensures { OnOk result (facts.new.items ≡ facts.old.items ++ named_facts (gathered with_aliases particulars.now)) }
 {
-    put_key(facts, particulars.keyed)?;
+    put_key(facts, &particulars.kind)?;
     put_aliases(facts, particulars, with_aliases)?;
     put_given(facts, "kms:RequestAlias", particulars.request_name())
 }
 
-// What is sealed or opened.
+// What is sealed or opened, and how a MAC is made.
 fn put_sealing(
     facts: &mut Vec<Fact>,
     op: Action,
@@ -209,6 +216,7 @@ fn put_sealing(
 {
     put_context(facts, particulars.pairs())?;
     put_algorithm(facts, op)?;
+    put_given(facts, "kms:MacAlgorithm", particulars.algorithm())?;
     put_truth(facts, "kms:ReEncryptOnSameKey", particulars.same_key)
 }
 
@@ -246,5 +254,6 @@ pub fn facts_of(
     put_sealing(&mut facts, op, particulars)?;
     put_granting(&mut facts, op, particulars)?;
     put_changing(&mut facts, particulars)?;
+    put_tags(&mut facts, particulars)?;
     Ok(FactList::new(facts))
 }

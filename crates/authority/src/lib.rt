@@ -12,6 +12,7 @@ mod puts;
 mod questions;
 mod settings;
 mod standings;
+mod tags;
 mod threads;
 mod times;
 
@@ -19,6 +20,6 @@ pub use callers::Callers;
 pub use identities::{Identity, IdentityList, PolicyList};
 pub use key_policies::{KeyPolicy, default_policy_text};
 pub use laws::{allowed_by_statements, without_a_ceiling};
-pub use settings::{GrantSaid, KeyAliases, Particulars, Setting};
+pub use settings::{GrantSaid, KeyAliases, KindSaid, Particulars, Setting};
 pub use standings::Standing;
 pub use threads::callers_and_key_policies_cross_threads;

@@ -8,6 +8,7 @@ use enc_context::{Context, Pair};
 use grant_table::Constraint;
 use kms_names::{AliasName, GrantOps, KeyId, NoMemory, Principal, Text, TextList};
 use policy_eval::Compiled;
+use resource_tags::{Tag, TagList, TagMap};
 use std::alloc::Global;
 use std::marker::Model;
 
@@ -105,13 +106,41 @@ impl<'a> Model for GrantSaid<'a> {
     } };
 }
 
+/// What kind of key it is, by the texts that say so (AWS KMS API Reference, CreateKey), lent.
+#[derive(Drop)]
+pub struct KindSaid<'a> {
+    /// Its spec.
+    pub spec: &'a str,
+    /// What it is used for.
+    pub usage: &'a str,
+}
+
+impl<'a> Model for KindSaid<'a> {
+    ghost use Rattle.authority.specs.Setting as seen;
+
+    ghost Value = { seen.KindSaid };
+
+    ghost view = { λ k. record {
+      spec = k.spec.now;
+      usage = k.usage.now;
+    } };
+}
+
 /// What a request says of itself beside its action, lent.
 #[derive(Drop)]
 pub struct Particulars<'a> {
-    /// Whether it is about a key, one that it makes included.
-    pub keyed: bool,
+    /// The kind of the key that it is about, where it is about one; of a key that it makes, what it asks for.
+    pub kind: Option<KindSaid<'a>>,
+    /// The tags of the key, where it is about one that there is already.
+    pub tags: Option<&'a TagMap>,
+    /// The tags that it gives to the key, where it gives some.
+    pub request_tags: Option<&'a TagList>,
+    /// The keys of the tags that it takes from the key, where it takes some.
+    pub untagged: Option<&'a TextList>,
     /// Its encryption context, where it takes one.
     pub context: Option<&'a Context>,
+    /// The algorithm of a MAC, where it makes or verifies one.
+    pub mac_algorithm: Option<&'a Text>,
     /// The aliases of the key, where it is about one that there is already.
     pub aliases: Option<KeyAliases<'a>>,
     /// The alias name by which it names the key, where it does.
@@ -135,8 +164,12 @@ impl<'a> Model for Particulars<'a> {
     ghost Value = { seen.Particulars };
 
     ghost view = { λ p. record {
-      keyed = p.keyed;
+      kind = p.kind;
+      tags = unwrap_or (option_map (λ t. t.now) p.tags) [];
+      request_tags = unwrap_or (option_map (λ t. t.now) p.request_tags) [];
+      untagged = unwrap_or (option_map (λ k. k.now) p.untagged) [];
       context = unwrap_or (option_map (λ c. c.now) p.context) [];
+      mac_algorithm = option_map (λ a. a.now) p.mac_algorithm;
       aliases = unwrap_or p.aliases [];
       request_alias = option_map (λ name. name.now) p.request_alias;
       grant = p.grant;
@@ -155,6 +188,36 @@ impl<'a> Particulars<'a> {
         match self.context {
             Some(context) => context.pairs(),
             None => &[],
+        }
+    }
+
+    // The tags that are given to the key, none where none are.
+    pub(crate) fn given_tags(&self) -> &'a [Tag]
+        ensures { result.now ≡ self.now.request_tags }
+    {
+        match self.request_tags {
+            Some(tags) => tags.as_slice(),
+            None => &[],
+        }
+    }
+
+    // The keys of the tags that are taken from the key, none where none are.
+    pub(crate) fn taken_keys(&self) -> &'a [Text]
+        ensures { result.now ≡ self.now.untagged }
+    {
+        match self.untagged {
+            Some(keys) => keys.as_slice(),
+            None => &[],
+        }
+    }
+
+    // The algorithm of a MAC.
+    pub(crate) fn algorithm(&self) -> Option<&str>
+        ensures { option_map (λ name. name.now) result ≡ self.now.mac_algorithm }
+    {
+        match self.mac_algorithm {
+            Some(name) => Some(name.as_str()),
+            None => None,
         }
     }
 

@@ -18,14 +18,15 @@ use Rattle.kms_json.specs.declared.asks.grants.GrantConstraint.TheVariants.{Free
 use Rattle.kms_json.specs.declared.replies.lists.ListedGrant.{ListedGrant}
 use Rattle.kms_json.specs.declared.replies.AutomaticRotation.{AutomaticRotation}
 use Rattle.kms_json.specs.declared.replies.Reply.{Reply}
-use Rattle.kms_json.specs.declared.replies.Reply.TheVariants.{Metadata, RotationStatus, Keys, Rotations, Aliases, Grants}
-use Rattle.kms_json.specs.Objects.{with_any, put_any, list_data, number_data}
+use Rattle.kms_json.specs.declared.replies.Reply.TheVariants.{Metadata, RotationStatus, Keys, Rotations, Aliases, Grants, Tags}
+use Rattle.kms_json.specs.Objects.{with_any, put_any, list_data, number_data, one_text}
 use Rattle.kms_json.specs.States.{deletion_date}
-use Rattle.kms_json.specs.PageReplies.{page_data, marker_data}
-use Rattle.kms_json.specs.KeyReplies.{key_data}
+use Rattle.kms_json.specs.PageReplies.{part_data, page_data, marker_data}
+use Rattle.kms_json.specs.KeyReplies.{encryption_algorithm, mac_algorithm, key_data}
 use Rattle.kms_json.specs.AliasReplies.{alias_data}
 use Rattle.kms_json.specs.RotationReplies.{one_rotation_data, rotation_members}
 use Rattle.kms_json.specs.GrantReplies.{put_pairs, constraint_data, operations_data, grant_data}
+use Rattle.kms_json.specs.TagReplies.{tag_data}
 use Rattle.kms_json.specs.Replies.{reply_data}
 
 abbrev IsExact : Data → Type 0
@@ -68,12 +69,15 @@ list_exact : {A : Type 0} (f : A → Data) → ((a : A) → IsExact (f a)) → (
 list_exact f h [] = refl
 list_exact f h (row ∷ rows) = both (has_float (f row)) _ (h row) (list_exact f h rows)
 
-page_exact : (name : List ℕ) (rows : Data) (next : Option ℕ) → IsExact rows → IsExact (page_data name rows next)
-page_exact name rows next p =
+part_exact : (name : List ℕ) (rows : Data) (marker : Option Data) → IsExact rows → IfSome marker IsExact → IsExact (part_data name rows marker)
+part_exact name rows marker p q =
     let first = put name rows no_members in
-    let second = put_any (codes "NextMarker") (option_map marker_data next) first in
-    put_exact (codes "Truncated") (boolean (is_some next)) second refl
-    (put_any_exact (codes "NextMarker") (option_map marker_data next) first (mapped marker_data (λ _. refl) next) (put_exact name rows no_members p refl))
+    let second = put_any (codes "NextMarker") marker first in
+    put_exact (codes "Truncated") (boolean (is_some marker)) second refl
+    (put_any_exact (codes "NextMarker") marker first q (put_exact name rows no_members p refl))
+
+page_exact : (name : List ℕ) (rows : Data) (next : Option ℕ) → IsExact rows → IsExact (page_data name rows next)
+page_exact name rows next p = part_exact name rows (option_map marker_data next) p (mapped marker_data (λ _. refl) next)
 
 -- ---- grants
 
@@ -100,10 +104,16 @@ rotation_exact None = refl
 rotation_exact (Some rotation) = refl
 
 pub reply_exact : (reply : Reply) → IsExact (reply_data reply)
-reply_exact (Metadata key) = both (members_have_float (with_any (codes "DeletionDate") (option_map number_data (deletion_date key.state)) _)) false (with_any_exact (codes "DeletionDate") (option_map number_data (deletion_date key.state)) _ (mapped number_data (λ _. refl) (deletion_date key.state)) refl) refl
+reply_exact (Metadata key) =
+    both (members_have_float (with_any (codes "DeletionDate") (option_map number_data (deletion_date key.state)) _)) false
+    (with_any_exact (codes "DeletionDate") (option_map number_data (deletion_date key.state)) _ (mapped number_data (λ _. refl) (deletion_date key.state))
+    (with_any_exact (codes "EncryptionAlgorithms") (option_map one_text (encryption_algorithm key.kind)) _ (mapped one_text (λ _. refl) (encryption_algorithm key.kind))
+    (with_any_exact (codes "MacAlgorithms") (option_map one_text (mac_algorithm key.kind)) _ (mapped one_text (λ _. refl) (mac_algorithm key.kind)) refl)))
+    refl
 reply_exact (RotationStatus key rotation) = rotation_exact rotation
 reply_exact (Keys page) = page_exact (codes "Keys") _ page.next (list_exact (key_data page.account page.region) (λ _. refl) page.keys)
 reply_exact (Rotations page) = page_exact (codes "Rotations") _ page.next (list_exact (one_rotation_data _) (λ _. refl) page.rotations)
 reply_exact (Aliases page) = page_exact (codes "Aliases") _ page.next (list_exact (alias_data page.account page.region) (λ _. refl) page.aliases)
 reply_exact (Grants page) = page_exact (codes "Grants") _ page.next (list_exact (grant_data page.account page.region) (grant_exact page.account page.region) page.grants)
+reply_exact (Tags page) = part_exact (codes "Tags") _ (option_map string page.next) (list_exact tag_data (λ _. refl) page.tags) (mapped string (λ _. refl) page.next)
 reply_exact _ = refl

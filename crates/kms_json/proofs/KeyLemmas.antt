@@ -1,61 +1,75 @@
 -- The members of a key's description, put in one after another.
 use Rattle.std.proofs.Common.{◌≡◌, ℕ, List, codes, Bool, false, Option, Some, None, refl, ap, ◌∙◌}
 use Rattle.std.specs.Option.{option_map}
-use Rattle.serde_json.specs.Data.{Members, member, no_members, object, string, boolean, array, item, no_items, put}
+use Rattle.serde_json.specs.Data.{Members, member, no_members, object, string, boolean, put}
+use Rattle.hmac_keys.specs.Kind.{usage_text, spec_text}
 use Rattle.kms_json.specs.declared.replies.KeyMetadata.{KeyMetadata}
 use Rattle.kms_json.specs.States.{state_name, is_enabled, deletion_date}
-use Rattle.kms_json.specs.Objects.{symmetric_default, with_text, with_any, put_any, number_data}
-use Rattle.kms_json.specs.KeyReplies.{described_as}
+use Rattle.kms_json.specs.Objects.{with_text, with_any, put_any, number_data, one_text}
+use Rattle.kms_json.specs.KeyReplies.{encryption_algorithm, mac_algorithm, described_as}
 
-module _ (account arn id description name : List ℕ) (created : ℕ) (enabled : Bool) where
-  abbrev pub puts : Option ℕ → Members
-  puts date =
+module _ (account arn id description name usage spec : List ℕ) (created : ℕ) (enabled : Bool) where
+  abbrev pub puts : Option ℕ → Option (List ℕ) → Option (List ℕ) → Members
+  puts date encrypts makes =
       put (codes "Origin") (string (codes "AWS_KMS"))
       (put (codes "MultiRegion") (boolean false)
-      (put (codes "KeyUsage") (string (codes "ENCRYPT_DECRYPT"))
+      (put_any (codes "MacAlgorithms") (option_map one_text makes)
+      (put (codes "KeyUsage") (string usage)
       (put (codes "KeyState") (string name)
-      (put (codes "KeySpec") (string symmetric_default)
+      (put (codes "KeySpec") (string spec)
       (put (codes "KeyManager") (string (codes "CUSTOMER"))
       (put (codes "KeyId") (string id)
-      (put (codes "EncryptionAlgorithms") (array (item (string symmetric_default) no_items))
+      (put_any (codes "EncryptionAlgorithms") (option_map one_text encrypts)
       (put (codes "Enabled") (boolean enabled)
       (put (codes "Description") (string description)
       (put_any (codes "DeletionDate") (option_map number_data date)
-      (put (codes "CustomerMasterKeySpec") (string symmetric_default)
+      (put (codes "CustomerMasterKeySpec") (string spec)
       (put (codes "CreationDate") (number_data created)
       (put (codes "Arn") (string arn)
-      (put (codes "AWSAccountId") (string account) no_members))))))))))))))
+      (put (codes "AWSAccountId") (string account) no_members)))))))))))))))
 
-  abbrev in_order : Option ℕ → Members
-  in_order date =
+  abbrev in_order : Option ℕ → Option (List ℕ) → Option (List ℕ) → Members
+  in_order date encrypts makes =
       with_text (codes "AWSAccountId") account
       (with_text (codes "Arn") arn
       (member (codes "CreationDate") (number_data created)
-      (with_text (codes "CustomerMasterKeySpec") symmetric_default
+      (with_text (codes "CustomerMasterKeySpec") spec
       (with_any (codes "DeletionDate") (option_map number_data date)
       (with_text (codes "Description") description
       (member (codes "Enabled") (boolean enabled)
-      (member (codes "EncryptionAlgorithms") (array (item (string symmetric_default) no_items))
+      (with_any (codes "EncryptionAlgorithms") (option_map one_text encrypts)
       (with_text (codes "KeyId") id
       (with_text (codes "KeyManager") (codes "CUSTOMER")
-      (with_text (codes "KeySpec") symmetric_default
+      (with_text (codes "KeySpec") spec
       (with_text (codes "KeyState") name
-      (with_text (codes "KeyUsage") (codes "ENCRYPT_DECRYPT")
+      (with_text (codes "KeyUsage") usage
+      (with_any (codes "MacAlgorithms") (option_map one_text makes)
       (member (codes "MultiRegion") (boolean false)
-      (with_text (codes "Origin") (codes "AWS_KMS") no_members))))))))))))))
+      (with_text (codes "Origin") (codes "AWS_KMS") no_members)))))))))))))))
 
-  puts_in_order : (date : Option ℕ) → puts date ≡ in_order date
-  puts_in_order None = refl
-  puts_in_order (Some date) = refl
+  puts_in_order : (date : Option ℕ) (encrypts makes : Option (List ℕ)) → puts date encrypts makes ≡ in_order date encrypts makes
+  puts_in_order None None None = refl
+  puts_in_order None None (Some makes) = refl
+  puts_in_order None (Some encrypts) None = refl
+  puts_in_order None (Some encrypts) (Some makes) = refl
+  puts_in_order (Some date) None None = refl
+  puts_in_order (Some date) None (Some makes) = refl
+  puts_in_order (Some date) (Some encrypts) None = refl
+  puts_in_order (Some date) (Some encrypts) (Some makes) = refl
 
 -- they are those of the key
-pub described_is : (account arn id description name : List ℕ) (enabled : Bool) (date : Option ℕ) (key : KeyMetadata)
+pub described_is : (account arn id description name usage spec : List ℕ) (enabled : Bool) (date : Option ℕ) (encrypts makes : Option (List ℕ)) (key : KeyMetadata)
     → description ≡ key.description → name ≡ state_name key.state → enabled ≡ is_enabled key.state → date ≡ deletion_date key.state
-    → object (puts account arn id description name key.created enabled date) ≡ described_as account arn key id
-described_is account arn id description name enabled date key described named able dated =
+    → usage ≡ usage_text key.kind → spec ≡ spec_text key.kind → encrypts ≡ encryption_algorithm key.kind → makes ≡ mac_algorithm key.kind
+    → object (puts account arn id description name usage spec key.created enabled date encrypts makes) ≡ described_as account arn key id
+described_is account arn id description name usage spec enabled date encrypts makes key described named able dated used specified encrypting making =
     ap object
-    (puts_in_order account arn id description name key.created enabled date
-    ∙ ap (λ (t : List ℕ). in_order account arn id t name key.created enabled date) described
-    ∙ ap (λ (t : List ℕ). in_order account arn id key.description t key.created enabled date) named
-    ∙ ap (λ (b : Bool). in_order account arn id key.description (state_name key.state) key.created b date) able
-    ∙ ap (in_order account arn id key.description (state_name key.state) key.created (is_enabled key.state)) dated)
+    (puts_in_order account arn id description name usage spec key.created enabled date encrypts makes
+    ∙ ap (λ (t : List ℕ). in_order account arn id t name usage spec key.created enabled date encrypts makes) described
+    ∙ ap (λ (t : List ℕ). in_order account arn id key.description t usage spec key.created enabled date encrypts makes) named
+    ∙ ap (λ (t : List ℕ). in_order account arn id key.description (state_name key.state) t spec key.created enabled date encrypts makes) used
+    ∙ ap (λ (t : List ℕ). in_order account arn id key.description (state_name key.state) (usage_text key.kind) t key.created enabled date encrypts makes) specified
+    ∙ ap (λ (b : Bool). in_order account arn id key.description (state_name key.state) (usage_text key.kind) (spec_text key.kind) key.created b date encrypts makes) able
+    ∙ ap (λ (o : Option ℕ). in_order account arn id key.description (state_name key.state) (usage_text key.kind) (spec_text key.kind) key.created (is_enabled key.state) o encrypts makes) dated
+    ∙ ap (λ (o : Option (List ℕ)). in_order account arn id key.description (state_name key.state) (usage_text key.kind) (spec_text key.kind) key.created (is_enabled key.state) (deletion_date key.state) o makes) encrypting
+    ∙ ap (in_order account arn id key.description (state_name key.state) (usage_text key.kind) (spec_text key.kind) key.created (is_enabled key.state) (deletion_date key.state) (encryption_algorithm key.kind)) making)

@@ -1,9 +1,10 @@
 -- What a valid value keeps to, by its field's kind.
-use Rattle.std.proofs.Common.{◌≡◌, ℕ, ◌≤◌, ◌&&◌, List, length, codes, Bool, true, false, not, Option, Some, None, refl, ap, ◌∙◌, subst, if◌then◌else◌, nat_le, unwrap_or, leb-true, arith}
+use Rattle.std.proofs.Common.{◌≡◌, ℕ, ◌≤◌, ◌&&◌, List, [], length, codes, Bool, true, false, not, Option, Some, None, refl, ap, ◌∙◌, subst, if◌then◌else◌, nat_le, unwrap_or, leb-true, arith}
 use Rattle.std.specs.Option.{IfSome, option_and_then, option_map}
 use Rattle.std.specs.Str.{bytes_eq}
 use Rattle.enc_context.specs.Encoding.{encoding_of}
 use Rattle.enc_context.specs.declared.pairs.Pair.{Pair}
+use Rattle.resource_tags.specs.declared.tags.Tag.{Tag}
 use Rattle.serde_json.specs.Data.{Data, null, boolean, number, string, array, object}
 use Rattle.serde_json.specs.Find.{get}
 use Rattle.kms_names.specs.Reading.{is_alias_text}
@@ -12,8 +13,8 @@ use Rattle.kms_json.specs.declared.asks.grants.GrantConstraint.TheVariants as co
 use Rattle.kms_json.specs.declared.fields.Kind.TheVariants as kind
 use Rattle.kms_json.specs.declared.given.Given.{Given}
 use Rattle.kms_json.specs.declared.given.Given.TheVariants as given
-use Rattle.kms_json.specs.Given.{is_absent, is_there, text_if, text_in, bytes_in, context_in, constraint_in, whole_in, number_or, number_in}
-use Rattle.kms_json.specs.Fields.{value_given, is_given, is_between, is_some_between, context_given, constraint_by, fitting, is_grant_name}
+use Rattle.kms_json.specs.Given.{is_absent, is_there, text_if, text_in, bytes_in, context_in, constraint_in, tags_if, tags_in, whole_in, number_or, number_in}
+use Rattle.kms_json.specs.Fields.{value_given, is_given, is_between, is_some_between, context_given, constraint_by, fitting, is_grant_name, are_tags}
 use Rattle.kms_json.specs.CryptographyAsks.{spec_size, data_key_size}
 use Rattle.kms_json.specs.Asks.{IsSizedConstraint}
 
@@ -74,6 +75,20 @@ number_within least most default low high value e = some_between least most defa
 pub name_within : (value : Given) → (if is_absent value then true else is_grant_name (text_in value)) ≡ true → IfSome (text_if value) (λ text. length text ≤ 256)
 name_within (given.Text text) e = leb-true (length text) 256 (both (nat_le (length text) 256) _ (both (nat_le 1 (length text)) _ e).1).0
 name_within value e = tt
+
+-- ---- tags
+
+few : (o : Option (List Tag)) → are_tags o ≡ true → length (unwrap_or o []) ≤ 50
+few None e = cc
+few (Some tags) e = leb-true (length tags) 50 (both (nat_le (length tags) 50) _ e).0
+
+pub tags_there : (value : Given) → (if is_absent value then false else are_tags (tags_if value)) ≡ true → length (tags_in value) ≤ 50
+tags_there value e = few (tags_if value) (there (is_absent value) _ e)
+
+-- there are none where they are absent
+pub tags_within : (value : Given) → (if is_absent value then true else are_tags (tags_if value)) ≡ true → length (tags_in value) ≤ 50
+tags_within given.Absent e = omega arith
+tags_within value e = few (tags_if value) e
 
 -- ---- constraints
 

@@ -12,10 +12,10 @@ use Rattle.kms_json.specs.Asks.{IsSized, body_data, is_object, asked_by, asked_w
 use Rattle.kms_json.proofs.ValueLemmas.{value_in}
 use Rattle.kms_json.proofs.BuildLemmas.{asked_is}
 use Rattle.kms_json.proofs.ReadFacts.{IsRead, of_object, AreKept, are_kept}
-use Rattle.kms_json.proofs.KindFacts.{text_there, bytes_there, number_there, alias_there, text_within, text_if_within, number_within, name_within, constraint_sized, sized_within}
+use Rattle.kms_json.proofs.KindFacts.{text_there, bytes_there, number_there, alias_there, text_within, text_if_within, number_within, name_within, tags_there, tags_within, constraint_sized, sized_within}
 
 sized : (operation : Operation) (d : Data) (values : List Given) → AreKept (fields_of operation) d values → IsSized (built operation (held (fields_of operation) values))
-sized op.CreateKey d vs kept = text_within 8192 (value_in 1 vs) kept.1.0.1
+sized op.CreateKey d vs kept = (text_within 8192 (value_in 1 vs) kept.1.0.1, tags_within (value_in 8 vs) kept.1.1.1.1.1.1.1.1.0.1)
 sized op.UpdateKeyDescription d vs kept = (text_there 0 8192 (value_in 1 vs) kept.1.0.1).1
 sized op.ScheduleKeyDeletion d vs kept = number_within 7 30 30 (omega arith) (omega arith) (value_in 1 vs) kept.1.0.1
 sized op.EnableKeyRotation d vs kept = number_within 90 2560 365 (omega arith) (omega arith) (value_in 1 vs) kept.1.0.1
@@ -30,6 +30,8 @@ sized op.ListKeyRotations d vs kept = number_within 1 1000 100 (omega arith) (om
 sized op.ListAliases d vs kept = number_within 1 100 50 (omega arith) (omega arith) (value_in 1 vs) kept.1.0.1
 sized op.ListGrants d vs kept = number_within 1 100 50 (omega arith) (omega arith) (value_in 1 vs) kept.1.0.1
 sized op.ListRetirableGrants d vs kept = number_within 1 100 50 (omega arith) (omega arith) (value_in 1 vs) kept.1.0.1
+sized op.ListResourceTags d vs kept = number_within 1 50 50 (omega arith) (omega arith) (value_in 1 vs) kept.1.0.1
+sized op.TagResource d vs kept = tags_there (value_in 1 vs) kept.1.0.1
 sized op.Encrypt d vs kept = bytes_there 1 4096 (value_in 1 vs) kept.1.0.1
 sized op.GenerateDataKey d vs kept = sized_within d (value_in 3 vs) (value_in 2 vs) kept.1.1.1.0.0 kept.1.1.0.1
 sized op.GenerateDataKeyWithoutPlaintext d vs kept = sized_within d (value_in 2 vs) (value_in 3 vs) kept.1.1.0.0 kept.1.1.1.0.1

@@ -1,14 +1,12 @@
 -- The values of fields in their order are what the body gives by the fields' names.
-use Rattle.std.proofs.Common.{◌≡◌, ◌==◌, ℕ, zero, suc, List, [], ◌∷◌, length, drop, false, not, Option, Some, None, unwrap_or, refl, sym, ap, ◌∙◌, if◌then◌else◌, rules, tests}
+use Rattle.std.proofs.Common.{◌≡◌, ℕ, zero, suc, List, [], ◌∷◌, length, drop, Option, Some, None, unwrap_or, refl, sym, ap, ◌∙◌, if◌then◌else◌}
 use Rattle.std.specs.Option.{option_map, option_and_then}
 use Rattle.std.specs.Str.{bytes_eq}
 use Rattle.serde_json.specs.Data.{Data}
 use Rattle.serde_json.specs.Find.{get}
-use Rattle.serde_json.specs.View.{items_view}
-use Rattle.serde_json.specs.declared.value.Value.{Value}
 use Rattle.kms_json.specs.declared.given.Given.{Given}
 use Rattle.kms_json.specs.declared.given.Given.TheVariants as given
-use Rattle.kms_json.specs.Fields.{FieldRow, value_given, values_of, given_by, any_items}
+use Rattle.kms_json.specs.Fields.{FieldRow, value_given, values_of, given_by}
 use Rattle.kms_json.specs.Building.{first_of, held}
 
 -- ---- the value at a place
@@ -47,14 +45,3 @@ pub held_is : (rows : List FieldRow) (body : Data) (values : List Given) → val
 held_is [] body values e name = refl
 held_is (row ∷ rows) body values e name =
     held_here row rows body name (value_given row.kind (get row.name body)) (values_of rows body) values (λ vs is. held_is rows body vs is name) e
-
--- ---- a list has items where it isn't empty
-
-counted : (items : List Value) → not (length items == 0) ≡ any_items (items_view items)
-counted [] = refl
-counted (first ∷ others) =
-    let some : (length (first ∷ others) == 0) ≡ false = search (rules, tests) in
-    ap not some
-
-pub items_counted : (n : ℕ) (items : List Value) → n ≡ length items → not (n == 0) ≡ any_items (items_view items)
-items_counted n items e = ap (λ (m : ℕ). not (m == 0)) e ∙ counted items

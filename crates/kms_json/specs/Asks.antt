@@ -71,7 +71,7 @@ asked target body = asked_where (operation_named target) body
 abbrev pub IsPageOf : ℕ → Page → Type 0
 IsPageOf most page = (1 ≤ page.limit) × (page.limit ≤ most)
 
--- plaintexts have 1 to 4,096 bytes, data keys and random bytes are 1 to 1,024, and parts of lists have at most 1,000 or 100 rows; this is so of all that is asked
+-- plaintexts have 1 to 4,096 bytes, data keys and random bytes are 1 to 1,024, and parts of lists have at most 1,000, 100 or 50 rows; this is so of all that is asked
 abbrev pub IsSizedReading : Reading → Type 0
 IsSizedReading (reading.ListKeys page) = IsPageOf 1000 page
 IsSizedReading (reading.ListKeyPolicies key_id page) = IsPageOf 1000 page
@@ -79,6 +79,7 @@ IsSizedReading (reading.ListKeyRotations key_id page) = IsPageOf 1000 page
 IsSizedReading (reading.ListAliases key_id page) = IsPageOf 100 page
 IsSizedReading (reading.ListGrants fields) = IsPageOf 100 fields.page
 IsSizedReading (reading.ListRetirableGrants retiring page) = IsPageOf 100 page
+IsSizedReading (reading.ListResourceTags key_id page) = IsPageOf 50 page
 IsSizedReading (reading.Encrypt fields) = (1 ≤ length fields.plaintext) × (length fields.plaintext ≤ 4096)
 IsSizedReading (reading.GenerateDataKey key recipient) = (1 ≤ key.size) × (key.size ≤ 1024)
 IsSizedReading (reading.GenerateDataKeyWithoutPlaintext key) = (1 ≤ key.size) × (key.size ≤ 1024)
@@ -97,10 +98,10 @@ IsSizedGrant fields =
     (length fields.grantee ≤ 256) × IfSome fields.retiring (λ text. length text ≤ 256) × IfSome fields.name (λ text. length text ≤ 256)
     × IsSizedConstraint fields.constraint
 
--- descriptions have at most 8,192 bytes, a key waits 7 to 30 days for its deletion, and rotates each 90 to 2,560 days, and aliases have names of their form;
+-- descriptions have at most 8,192 bytes, tags are at most 50, a key waits 7 to 30 days for its deletion, and rotates each 90 to 2,560 days, and aliases have names of their form;
 -- this is so of all that is asked
 abbrev pub IsSizedChanging : Changing → Type 0
-IsSizedChanging (changing.CreateKey fields) = length fields.description ≤ 8192
+IsSizedChanging (changing.CreateKey fields) = (length fields.description ≤ 8192) × (length fields.tags ≤ 50)
 IsSizedChanging (changing.UpdateKeyDescription key_id description) = length description ≤ 8192
 IsSizedChanging (changing.ScheduleKeyDeletion key_id days) = (7 ≤ days) × (days ≤ 30)
 IsSizedChanging (changing.EnableKeyRotation key_id period) = (90 ≤ period) × (period ≤ 2560)
@@ -108,6 +109,7 @@ IsSizedChanging (changing.CreateAlias alias key_id) = is_alias_text alias ≡ tr
 IsSizedChanging (changing.UpdateAlias alias key_id) = is_alias_text alias ≡ true
 IsSizedChanging (changing.DeleteAlias alias) = is_alias_text alias ≡ true
 IsSizedChanging (changing.CreateGrant fields) = IsSizedGrant fields
+IsSizedChanging (changing.TagResource key_id tags) = length tags ≤ 50
 IsSizedChanging _ = Unit {0}
 
 abbrev pub IsSized : AskBody → Type 0

@@ -4,7 +4,7 @@ use Rattle.kms_names.specs.Action.{action_name}
 use Rattle.kms_names.specs.Principal.{principal_text}
 use Rattle.serde_json.specs.Data.{Data, object, member, no_members, string}
 use Rattle.kms_json.specs.declared.refusals.Refusal.{Refusal}
-use Rattle.kms_json.specs.declared.refusals.Refusal.TheVariants.{MissingAuthentication, IncompleteSignature, UnrecognizedClient, RequestExpired, InvalidSignature, UnknownOperation, Serialization, Validation, InvalidAliasName, DependencyTimeout, NotFound, InvalidArn, InvalidGrantId, InvalidCiphertext, IncorrectKey, AccessDenied, InvalidGrantToken, Disabled, InvalidState, UnsupportedOperation, InvalidKeyUsage, AlreadyExists, InvalidMarker, MalformedPolicy, LimitExceeded, DryRun}
+use Rattle.kms_json.specs.declared.refusals.Refusal.TheVariants.{MissingAuthentication, IncompleteSignature, UnrecognizedClient, RequestExpired, InvalidSignature, UnknownOperation, Serialization, Validation, InvalidAliasName, DependencyTimeout, NotFound, InvalidArn, InvalidGrantId, InvalidCiphertext, IncorrectKey, AccessDenied, InvalidGrantToken, Disabled, InvalidState, UnsupportedOperation, InvalidKeyUsage, InvalidMac, AlreadyExists, InvalidMarker, InvalidTags, MalformedPolicy, LimitExceeded, DryRun}
 use Rattle.kms_json.specs.declared.refusals.Missing.{Missing}
 use Rattle.kms_json.specs.declared.refusals.Missing.TheVariants as missing
 use Rattle.kms_json.specs.declared.refusals.Limit.{Limit}
@@ -44,8 +44,10 @@ exception_name (Disabled arn) = codes "DisabledException"
 exception_name (InvalidState arn state) = codes "KMSInvalidStateException"
 exception_name (UnsupportedOperation field) = codes "UnsupportedOperationException"
 exception_name InvalidKeyUsage = codes "InvalidKeyUsageException"
+exception_name InvalidMac = codes "KMSInvalidMacException"
 exception_name AlreadyExists = codes "AlreadyExistsException"
 exception_name InvalidMarker = codes "InvalidMarkerException"
+exception_name InvalidTags = codes "TagException"
 exception_name (MalformedPolicy flaw) = codes "MalformedPolicyDocumentException"
 exception_name (LimitExceeded what) = codes "LimitExceededException"
 exception_name DryRun = codes "DryRunOperationException"
@@ -61,6 +63,7 @@ limit_word limit.KeyGrants = codes "key grants"
 limit_word limit.Grants = codes "grants"
 limit_word limit.Aliases = codes "aliases"
 limit_word limit.Rotations = codes "rotations"
+limit_word limit.Tags = codes "tags"
 limit_word limit.Ivs = codes "ivs"
 limit_word limit.Draws = codes "draws"
 limit_word limit.Entries = codes "entries"
@@ -72,10 +75,10 @@ unsupported_name unsupported.CustomerMasterKeySpec = codes "CustomerMasterKeySpe
 unsupported_name unsupported.KeySpec = codes "KeySpec"
 unsupported_name unsupported.Origin = codes "Origin"
 unsupported_name unsupported.CustomKeyStoreId = codes "CustomKeyStoreId"
-unsupported_name unsupported.Tags = codes "Tags"
 unsupported_name unsupported.MultiRegion = codes "MultiRegion"
 unsupported_name unsupported.XksKeyId = codes "XksKeyId"
 unsupported_name unsupported.Recipient = codes "Recipient"
+unsupported_name unsupported.KeyId = codes "KeyId"
 
 -- what is wrong with a policy; a path is a JSON pointer (RFC 6901)
 abbrev pub flaw_text : PolicyFlaw → List ℕ
@@ -101,8 +104,10 @@ fixed_text InvalidCiphertext = codes "The ciphertext does not open."
 fixed_text IncorrectKey = codes "The ciphertext is of another key."
 fixed_text InvalidGrantToken = codes "A grant token names no live grant."
 fixed_text InvalidKeyUsage = codes "The algorithm does not fit the key."
+fixed_text InvalidMac = codes "The MAC is not valid."
 fixed_text AlreadyExists = codes "The alias exists."
 fixed_text InvalidMarker = codes "The marker is not valid."
+fixed_text InvalidTags = codes "The tags are not valid."
 fixed_text DryRun = codes "The call would have been allowed."
 fixed_text _ = []
 

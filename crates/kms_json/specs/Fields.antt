@@ -2,7 +2,7 @@
 use Rattle.std.specs.Prelude.{ℕ, List, [], ◌∷◌, length, nat_le, ◌==◌, ◌&&◌, ◌||◌, Bool, true, false, not, codes, if◌then◌else◌, Option, Some, None, option_map, option_and_then, unwrap_or, is_some, ℤ, pos, negsuc}
 use Rattle.std.specs.Char.{is_ascii_alphanumeric}
 use Rattle.std.specs.List.{list_all, list_any}
-use Rattle.std.specs.Str.{bytes_eq}
+use Rattle.std.specs.Str.{bytes_eq, chars}
 use Rattle.base64.specs.Engines.{standard}
 use Rattle.base64.specs.GeneralPurpose.{decoded_of}
 use Rattle.serde_json.specs.Data.{Data, null, Items, no_items, item, Members, no_members, member}
@@ -11,6 +11,7 @@ use Rattle.kms_names.specs.GrantOps.{all_grant_ops, grant_op_name}
 use Rattle.kms_names.specs.Reading.{is_alias_text}
 use Rattle.enc_context.specs.declared.pairs.Pair.{Pair}
 use Rattle.enc_context.specs.Encoding.{encoding_of}
+use Rattle.resource_tags.specs.declared.tags.Tag.{Tag}
 use Rattle.kms_json.specs.declared.asks.grants.GrantConstraint.{GrantConstraint}
 use Rattle.kms_json.specs.declared.asks.grants.GrantConstraint.TheVariants as constraint
 use Rattle.kms_json.specs.declared.fields.Kind.{Kind}
@@ -24,7 +25,7 @@ use Rattle.kms_json.specs.declared.given.Given.{Given}
 use Rattle.kms_json.specs.declared.given.Given.TheVariants as given
 use Rattle.kms_json.specs.declared.refusals.Refusal.{Refusal}
 use Rattle.kms_json.specs.declared.refusals.Refusal.TheVariants as refusal
-use Rattle.kms_json.specs.Given.{is_absent, is_there, text_in, texts_in, bytes_in, context_in, constraint_if, whole_in}
+use Rattle.kms_json.specs.Given.{is_absent, is_there, text_in, texts_in, bytes_in, context_in, constraint_if, tags_if, whole_in}
 
 -- whether a field is to be given: it is; it may be; it is exactly where the field of another name isn't; or it is where neither of two others is, and isn't
 -- where both are
@@ -144,10 +145,38 @@ natural (negsuc n) = None
 abbrev pub whole_of : Data → Option ℤ
 whole_of d = option_and_then as_integer (as_number d)
 
--- whether there is an item
-abbrev pub any_items : Items → Bool
-any_items no_items = false
-any_items (item d ds) = true
+-- what a member is to a tag: its text, where it is given, if it is a text then
+abbrev pub text_given : Option Data → Option (Option (List ℕ))
+text_given None = Some None
+text_given (Some null) = Some None
+text_given (Some d) = option_map Some (as_str d)
+
+-- the tag of a key and a value, where both are given
+abbrev pub tag_by : Option (List ℕ) → Option (List ℕ) → Option Tag
+tag_by (Some key) (Some value) = Some record { key = key; value = value }
+tag_by (Some key) None = None
+tag_by None value = None
+
+-- the tag of an object, where it has both; its unknown members are passed over
+abbrev pub tag_at : Data → Option (Option Tag)
+tag_at d = option_and_then (λ key. option_map (tag_by key) (text_given (get (codes "TagValue") d))) (text_given (get (codes "TagKey") d))
+
+abbrev pub tag_of : Data → Option (Option Tag)
+tag_of d = option_and_then (λ ms. tag_at d) (as_object d)
+
+-- one more tag before others, where all are there
+abbrev pub with_tag : Option Tag → Option (List Tag) → Option (List Tag)
+with_tag (Some tag) (Some tags) = Some (tag ∷ tags)
+with_tag (Some tag) None = None
+with_tag None tags = None
+
+-- items that are all tags by their types, as tags where each has its key and its value
+abbrev pub tags_in_items : Items → Option (Option (List Tag))
+tags_in_items no_items = Some (Some [])
+tags_in_items (item d ds) = option_and_then (λ tag. option_map (with_tag tag) (tags_in_items ds)) (tag_of d)
+
+abbrev pub list_of_tags : Data → Option (Option (List Tag))
+list_of_tags d = option_and_then tags_in_items (as_array d)
 
 -- what a JSON value is to a field of this kind, if it has the kind's type
 abbrev pub value_of : Kind → Data → Option Given
@@ -163,9 +192,10 @@ value_of kind.GrantOperations d = option_map given.Texts (list_of_texts d)
 value_of (kind.Bytes least most) d = option_map given.Bytes (bytes_of d)
 value_of kind.Context d = context_of d
 value_of kind.GrantConstraint d = constraint_of d
+value_of kind.Tags d = option_map given.Tags (list_of_tags d)
+value_of kind.TagKeys d = option_map given.Texts (list_of_texts d)
 value_of (kind.Whole least most) d = option_map (λ z. given.Whole (natural z)) (whole_of d)
 value_of kind.Flag d = option_map given.Flag (as_bool d)
-value_of kind.List d = option_map (λ items. given.Items (any_items items)) (as_array d)
 value_of kind.Object d = option_map (λ ms. given.Something) (as_object d)
 
 -- null counts as absent
@@ -215,6 +245,23 @@ is_operation_name name = list_any (λ op. bytes_eq name (grant_op_name op)) all_
 abbrev pub are_operation_names : List (List ℕ) → Bool
 are_operation_names names = nat_le 1 (length names) && list_all is_operation_name names
 
+-- the key of a tag has 1 to 128 characters
+abbrev pub is_tag_key : List ℕ → Bool
+is_tag_key key = is_between 1 128 (length (chars key))
+
+-- the value of a tag has at most 256 characters
+abbrev pub is_tag : Tag → Bool
+is_tag tag = is_tag_key tag.key && nat_le (length (chars tag.value)) 256
+
+-- at most 50 tags, each with its key and its value
+abbrev pub are_tags : Option (List Tag) → Bool
+are_tags None = false
+are_tags (Some tags) = nat_le (length tags) 50 && list_all is_tag tags
+
+-- 1 to 50 keys of tags
+abbrev pub are_tag_keys : List (List ℕ) → Bool
+are_tag_keys keys = is_between 1 50 (length keys) && list_all is_tag_key keys
+
 -- a value that is given keeps to its kind's bounds
 abbrev pub fits : Kind → Given → Bool
 fits (kind.Text least most) value = is_between least most (length (text_in value))
@@ -229,9 +276,10 @@ fits kind.GrantOperations value = are_operation_names (texts_in value)
 fits (kind.Bytes least most) value = is_between least most (length (bytes_in value))
 fits kind.Context value = is_some (context_in value)
 fits kind.GrantConstraint value = is_some (constraint_if value)
+fits kind.Tags value = are_tags (tags_if value)
+fits kind.TagKeys value = are_tag_keys (texts_in value)
 fits (kind.Whole least most) value = is_some_between least most (whole_in value)
 fits kind.Flag value = true
-fits kind.List value = true
 fits kind.Object value = true
 
 -- a field that isn't given may be absent

@@ -3,6 +3,7 @@ use Rattle.std.specs.Prelude.{ℕ, List, [], Bool, true, false, not, Option, Som
 use Rattle.kms_names.specs.GrantOps.{is_named, those}
 use Rattle.kms_names.specs.declared.operations.GrantOps.{GrantOps}
 use Rattle.enc_context.specs.declared.pairs.Pair.{Pair}
+use Rattle.resource_tags.specs.declared.tags.Tag.{Tag}
 use Rattle.kms_json.specs.declared.asks.grants.GrantConstraint.{GrantConstraint}
 use Rattle.kms_json.specs.declared.asks.grants.GrantConstraint.TheVariants as constraint
 use Rattle.kms_json.specs.declared.given.Given.{Given}
@@ -42,6 +43,13 @@ abbrev pub constraint_if : Given → Option GrantConstraint
 constraint_if (given.Constraint c) = c
 constraint_if _ = None
 
+abbrev pub tags_if : Given → Option (List Tag)
+tags_if (given.Tags tags) = tags
+tags_if _ = None
+
+abbrev pub tags_in : Given → List Tag
+tags_in value = unwrap_or (tags_if value) []
+
 -- no constraint asks nothing
 abbrev pub constraint_in : Given → GrantConstraint
 constraint_in value = unwrap_or (constraint_if value) constraint.Free
@@ -64,8 +72,3 @@ number_in value = number_or value 0
 abbrev pub flag_in : Given → Bool
 flag_in (given.Flag b) = b
 flag_in _ = false
-
--- whether it is a list of one or more items
-abbrev pub items_in : Given → Bool
-items_in (given.Items any) = any
-items_in _ = false

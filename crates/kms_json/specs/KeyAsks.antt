@@ -1,12 +1,12 @@
 -- The fields of the operations on keys, in the order in which they are judged, and what each asks by what is given to them (AWS KMS API Reference, CreateKey, UpdateKeyDescription, DescribeKey and ListKeys).
 use Rattle.std.specs.Prelude.{List, [], ◌∷◌, codes, ℕ}
-use Rattle.kms_json.specs.declared.fields.Kind.TheVariants.{Text, SomeText, AnyText, Flag, List as Items}
+use Rattle.kms_json.specs.declared.fields.Kind.TheVariants.{Text, SomeText, AnyText, Flag, Tags}
 use Rattle.kms_json.specs.declared.given.Given.{Given}
 use Rattle.kms_json.specs.declared.asks.Changing.{Changing}
 use Rattle.kms_json.specs.declared.asks.Changing.TheVariants as changing
 use Rattle.kms_json.specs.declared.asks.Reading.{Reading}
 use Rattle.kms_json.specs.declared.asks.Reading.TheVariants as reading
-use Rattle.kms_json.specs.Given.{is_there, text_if, text_in, texts_in, flag_in, items_in}
+use Rattle.kms_json.specs.Given.{is_there, text_if, text_in, texts_in, flag_in, tags_in}
 use Rattle.kms_json.specs.Fields.{FieldRow, always, maybe, field, grant_tokens, key_reference, page_of}
 use Rattle.kms_json.specs.PageAsks.{page}
 
@@ -20,7 +20,7 @@ create_key_fields =
     field (codes "Origin") AnyText maybe ∷
     field (codes "CustomKeyStoreId") AnyText maybe ∷
     field (codes "BypassPolicyLockoutSafetyCheck") Flag maybe ∷
-    field (codes "Tags") Items maybe ∷
+    field (codes "Tags") Tags maybe ∷
     field (codes "MultiRegion") Flag maybe ∷
     field (codes "XksKeyId") AnyText maybe ∷ []
 
@@ -47,7 +47,7 @@ create_key at = changing.CreateKey record {
   origin = text_if (at (codes "Origin"));
   custom_key_store_id = is_there (at (codes "CustomKeyStoreId"));
   bypass_lockout_check = flag_in (at (codes "BypassPolicyLockoutSafetyCheck"));
-  tags = items_in (at (codes "Tags"));
+  tags = tags_in (at (codes "Tags"));
   multi_region = flag_in (at (codes "MultiRegion"));
   xks_key_id = is_there (at (codes "XksKeyId"));
 }

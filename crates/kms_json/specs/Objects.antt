@@ -6,11 +6,15 @@ use Rattle.serde_json.specs.Data.{Data, Members, member, put, string, number, un
 use Rattle.serde_json.specs.View.{items_of}
 use Rattle.kms_json.specs.declared.objects.Member.{Member}
 use Rattle.kms_json.specs.declared.objects.Item.{Item}
-use Rattle.kms_json.specs.declared.objects.Item.TheVariants.{Text, Base64, Number, Flag, OneText, NumberIfAny, TextIfAny}
+use Rattle.kms_json.specs.declared.objects.Item.TheVariants.{Text, Base64, Number, Flag, OneText, OneTextIfAny, NumberIfAny, TextIfAny}
 
 -- the name of the one key spec, and of the one algorithm, of symmetric keys
 abbrev pub symmetric_default : List ℕ
 symmetric_default = codes "SYMMETRIC_DEFAULT"
+
+-- the name of the one algorithm of HMAC keys
+abbrev pub hmac_sha_256 : List ℕ
+hmac_sha_256 = codes "HMAC_SHA_256"
 
 -- bytes as the text of their base64 in the standard alphabet, with padding (RFC 4648, section 4)
 unfoldable pub base64_text : List ℕ → List ℕ
@@ -24,6 +28,10 @@ with_text name text more = member name (string text) more
 abbrev pub number_data : ℕ → Data
 number_data n = number (unsigned n)
 
+-- a list of one text
+abbrev pub one_text : List ℕ → Data
+one_text text = array (item (string text) no_items)
+
 -- a member with a value, if there is one
 abbrev pub with_any : List ℕ → Option Data → Members → Members
 with_any name None more = more
@@ -34,7 +42,8 @@ item_data (Text text) = Some (string text.now)
 item_data (Base64 bytes) = Some (string (base64_text bytes.now))
 item_data (Number n) = Some (number_data n)
 item_data (Flag b) = Some (boolean b)
-item_data (OneText text) = Some (array (item (string text.now) no_items))
+item_data (OneText text) = Some (one_text text.now)
+item_data (OneTextIfAny text) = option_map one_text (option_map (λ t. t.now) text)
 item_data (NumberIfAny n) = option_map number_data n
 item_data (TextIfAny text) = option_map (λ t. string t.now) text
 

@@ -17,6 +17,8 @@ use Rattle.kms_json.specs.RotationAsks as rotation
 use Rattle.kms_json.specs.AliasAsks as aliases
 use Rattle.kms_json.specs.GrantAsks as grants
 use Rattle.kms_json.specs.CryptographyAsks as cryptography
+use Rattle.kms_json.specs.MacAsks as macs
+use Rattle.kms_json.specs.TagAsks as tags
 
 -- an operation's name, its fields in the order in which they are judged, and what it asks by what is given to each
 pub record Shape : Type 0 where
@@ -64,6 +66,11 @@ shape_of op.ReEncrypt = reads (codes "ReEncrypt") cryptography.re_encrypt_fields
 shape_of op.GenerateDataKey = reads (codes "GenerateDataKey") cryptography.generate_data_key_fields cryptography.generate_data_key
 shape_of op.GenerateDataKeyWithoutPlaintext = reads (codes "GenerateDataKeyWithoutPlaintext") cryptography.generate_data_key_without_plaintext_fields cryptography.generate_data_key_without_plaintext
 shape_of op.GenerateRandom = reads (codes "GenerateRandom") cryptography.generate_random_fields cryptography.generate_random
+shape_of op.GenerateMac = reads (codes "GenerateMac") macs.generate_mac_fields macs.generate_mac
+shape_of op.VerifyMac = reads (codes "VerifyMac") macs.verify_mac_fields macs.verify_mac
+shape_of op.TagResource = changes (codes "TagResource") tags.tag_resource_fields tags.tag_resource
+shape_of op.UntagResource = changes (codes "UntagResource") tags.untag_resource_fields tags.untag_resource
+shape_of op.ListResourceTags = reads (codes "ListResourceTags") tags.list_resource_tags_fields tags.list_resource_tags
 
 abbrev pub fields_of : Operation → List FieldRow
 fields_of operation = (shape_of operation).fields
@@ -78,7 +85,7 @@ all_operations =
     op.DisableKey ∷ op.ScheduleKeyDeletion ∷ op.CancelKeyDeletion ∷ op.EnableKeyRotation ∷ op.DisableKeyRotation ∷ op.RotateKeyOnDemand ∷
     op.GetKeyRotationStatus ∷ op.ListKeyRotations ∷ op.CreateAlias ∷ op.UpdateAlias ∷ op.DeleteAlias ∷ op.ListAliases ∷ op.CreateGrant ∷
     op.RetireGrant ∷ op.RevokeGrant ∷ op.ListGrants ∷ op.ListRetirableGrants ∷ op.Encrypt ∷ op.Decrypt ∷ op.ReEncrypt ∷ op.GenerateDataKey ∷
-    op.GenerateDataKeyWithoutPlaintext ∷ op.GenerateRandom ∷ []
+    op.GenerateDataKeyWithoutPlaintext ∷ op.GenerateRandom ∷ op.GenerateMac ∷ op.VerifyMac ∷ op.TagResource ∷ op.UntagResource ∷ op.ListResourceTags ∷ []
 
 -- a name and its operation
 pub record NameRow : Type 0 where

@@ -12,6 +12,8 @@ use Rattle.kms_json.specs.RotationReplies as rotation
 use Rattle.kms_json.specs.AliasReplies as aliases
 use Rattle.kms_json.specs.GrantReplies as grants
 use Rattle.kms_json.specs.CryptographyReplies as cryptography
+use Rattle.kms_json.specs.MacReplies as macs
+use Rattle.kms_json.specs.TagReplies as tags
 
 -- what is served has the status 200
 abbrev pub status_of : Reply → ℕ
@@ -38,5 +40,8 @@ reply_data (reply.ReEncrypted blob arn source_arn) = cryptography.re_encrypted_d
 reply_data (reply.DataKey blob plaintext arn) = cryptography.data_key_data (base64_text blob) (base64_text plaintext) arn
 reply_data (reply.SealedDataKey blob arn) = cryptography.sealed_data_key_data (base64_text blob) arn
 reply_data (reply.Random plaintext) = cryptography.random_data (base64_text plaintext)
+reply_data (reply.Mac mac arn) = macs.mac_data (base64_text mac) arn
+reply_data (reply.MacValid arn) = macs.mac_valid_data arn
+reply_data (reply.Tags page) = tags.tags_data page
 reply_data reply.Done = object no_members
 reply_data (reply.Refused refusal) = refusal_data refusal

@@ -6,13 +6,16 @@ mod copies;
 mod cryptography;
 mod grants;
 mod keys;
+mod macs;
 mod pages;
 
 pub use cryptography::{DataKey, Decrypt, Encrypt, ReEncrypt};
 pub use grants::{CreateGrant, GrantConstraint, ListGrants, RetiredGrant};
 pub use keys::CreateKey;
 use kms_names::{NoMemory, Principal, Text, TextList};
+pub use macs::{GenerateMac, VerifyMac};
 pub use pages::Page;
+use resource_tags::TagList;
 
 /// An operation that changes the account, with its fields.
 #[derive(Drop)]
@@ -94,6 +97,18 @@ pub enum Changing {
         grant_id: Text,
         dry_run: bool,
     },
+    /// TagResource: the reference to the key, a text of 1 to 2,048 bytes, and at most 50 tags, with keys
+    /// of 1 to 128 characters and values of at most 256.
+    TagResource {
+        key_id: Text,
+        tags: TagList,
+    },
+    /// UntagResource: the reference to the key, a text of 1 to 2,048 bytes, and 1 to 50 keys of tags, of
+    /// 1 to 128 characters.
+    UntagResource {
+        key_id: Text,
+        keys: TextList,
+    },
 }
 
 /// An operation that doesn't change the account, with its fields.
@@ -161,6 +176,16 @@ pub enum Reading {
         size: u64,
         custom_key_store: bool,
         recipient: bool,
+    },
+    /// GenerateMac.
+    GenerateMac(GenerateMac),
+    /// VerifyMac.
+    VerifyMac(VerifyMac),
+    /// ListResourceTags of the key that `key_id` refers to, a text of 1 to 2,048 bytes: at most 50 tags,
+    /// 50 where no limit is given.
+    ListResourceTags {
+        key_id: Text,
+        page: Page,
     },
 }
 

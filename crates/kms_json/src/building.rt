@@ -8,9 +8,11 @@ mod aliases;
 mod cryptography;
 mod grants;
 mod keys;
+mod macs;
 mod policies;
 mod rotation;
 mod states;
+mod tags;
 
 use crate::asks::AskBody::{Change, Read};
 use crate::asks::{AskBody, Page};
@@ -79,5 +81,10 @@ pub fn asked_from(alloc: Global, operation: Operation, mut values: VecDeque<Give
             cryptography::generate_data_key_without_plaintext(alloc, values),
         ),
         Operation::GenerateRandom => Read(cryptography::generate_random(values)),
+        Operation::GenerateMac => Read(macs::generate_mac(alloc, values)),
+        Operation::VerifyMac => Read(macs::verify_mac(alloc, values)),
+        Operation::TagResource => Change(tags::tag_resource(alloc, values)),
+        Operation::UntagResource => Change(tags::untag_resource(alloc, values)),
+        Operation::ListResourceTags => Read(tags::list_resource_tags(alloc, values)),
     }
 }

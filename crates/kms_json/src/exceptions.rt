@@ -41,8 +41,10 @@ fn name_of(refusal: &Refusal) -> &'static str
         Refusal::InvalidState { .. } => "KMSInvalidStateException",
         Refusal::UnsupportedOperation(_) => "UnsupportedOperationException",
         Refusal::InvalidKeyUsage => "InvalidKeyUsageException",
+        Refusal::InvalidMac => "KMSInvalidMacException",
         Refusal::AlreadyExists => "AlreadyExistsException",
         Refusal::InvalidMarker => "InvalidMarkerException",
+        Refusal::InvalidTags => "TagException",
         Refusal::MalformedPolicy(_) => "MalformedPolicyDocumentException",
         Refusal::LimitExceeded(_) => "LimitExceededException",
         Refusal::DryRun => "DryRunOperationException",
@@ -68,6 +70,7 @@ fn word_of_limit(what: Limit) -> &'static str
         Limit::Grants => "grants",
         Limit::Aliases => "aliases",
         Limit::Rotations => "rotations",
+        Limit::Tags => "tags",
         Limit::Ivs => "ivs",
         Limit::Draws => "draws",
         Limit::Entries => "entries",
@@ -84,10 +87,10 @@ fn name_of_unsupported(field: Unsupported) -> &'static str
         Unsupported::KeySpec => "KeySpec",
         Unsupported::Origin => "Origin",
         Unsupported::CustomKeyStoreId => "CustomKeyStoreId",
-        Unsupported::Tags => "Tags",
         Unsupported::MultiRegion => "MultiRegion",
         Unsupported::XksKeyId => "XksKeyId",
         Unsupported::Recipient => "Recipient",
+        Unsupported::KeyId => "KeyId",
     }
 }
 
@@ -169,8 +172,10 @@ fn fixed_text_of(refusal: &Refusal) -> &'static str
         Refusal::IncorrectKey => "The ciphertext is of another key.",
         Refusal::InvalidGrantToken => "A grant token names no live grant.",
         Refusal::InvalidKeyUsage => "The algorithm does not fit the key.",
+        Refusal::InvalidMac => "The MAC is not valid.",
         Refusal::AlreadyExists => "The alias exists.",
         Refusal::InvalidMarker => "The marker is not valid.",
+        Refusal::InvalidTags => "The tags are not valid.",
         Refusal::DryRun => "The call would have been allowed.",
         _ => "",
     }

@@ -1,13 +1,15 @@
 // Fields of a request's body, read in their order and then judged in it.
 ghost use Rattle.std.specs.Prelude.{◌≡◌, map, length, IfOk, option_map};
 ghost use Rattle.std.specs.List.{list_all};
+ghost use Rattle.std.specs.Str.{chars};
 ghost use Rattle.serde_json.specs.View.{view};
 ghost use Rattle.kms_names.specs.Reading.{is_alias_text};
-ghost use Rattle.kms_json.specs.Fields.{row_of, wanted_by, fits, may_be_absent, may_be_given, is_valid, values_of, first_invalid, refused_by, refusal_at, is_policy_name, is_data_key_spec, is_grant_name_character, is_grant_name, is_operation_name, are_operation_names, is_some_between};
+ghost use Rattle.kms_json.specs.Fields.{row_of, wanted_by, fits, may_be_absent, may_be_given, is_valid, values_of, first_invalid, refused_by, refusal_at, is_policy_name, is_data_key_spec, is_grant_name_character, is_grant_name, is_operation_name, are_operation_names, is_tag_key, is_tag, are_tags, are_tag_keys, is_some_between};
 
 use crate::given::Given;
 use crate::members::{is_given, value_given};
 use kms_names::{GrantOp, NoMemory, Text, is_alias_name};
+use resource_tags::{MOST_TAGS, Tag};
 use serde_json::Value;
 use std::alloc::Global;
 use std::collections::VecDeque;
@@ -39,12 +41,14 @@ pub enum Kind {
     Context,
     /// The constraint of a grant: at most one context, of at most 4,096 encoded bytes.
     GrantConstraint,
+    /// A list of at most 50 tags, each a key of 1 to 128 characters and a value of at most 256.
+    Tags,
+    /// A list of 1 to 50 keys of tags.
+    TagKeys,
     /// A whole number from the least to the most.
     Whole { least: u64, most: u64 },
     /// A truth value.
     Flag,
-    /// A list.
-    List,
     /// An object.
     Object,
 }
@@ -129,6 +133,53 @@ fn are_operations(names: &[Text]) -> bool
     !names.is_empty() && are_all_operations(names)
 }
 
+// How many characters a text has.
+fn character_count(text: &str) -> usize
+    ensures { result ≡ length (chars text.now) }
+{
+    text.chars().count()
+}
+
+fn is_tag_key(key: &str) -> bool
+    ensures { result ≡ is_tag_key key.now }
+{
+    let count = character_count(key);
+    1 <= count && count <= 128
+}
+
+fn is_tag(tag: &Tag) -> bool
+    ensures { result ≡ is_tag tag.now }
+{
+    is_tag_key(tag.key.as_str()) && character_count(tag.value.as_str()) <= 256
+}
+
+fn are_all_tags(tags: &[Tag]) -> bool
+    ensures { result ≡ list_all is_tag tags.now }
+{
+    tags.iter().all(is_tag)
+}
+
+fn are_tags(tags: Option<&[Tag]>) -> bool
+    ensures { result ≡ are_tags (option_map (λ t. t.now) tags.entry) }
+{
+    match tags {
+        Some(tags) => tags.len() <= MOST_TAGS && are_all_tags(tags),
+        None => false,
+    }
+}
+
+fn are_all_tag_keys(keys: &[Text]) -> bool
+    ensures { result ≡ list_all is_tag_key keys.now }
+{
+    keys.iter().all(|key| is_tag_key(key.as_str()))
+}
+
+fn are_tag_keys(keys: &[Text]) -> bool
+    ensures { result ≡ are_tag_keys keys.now }
+{
+    1 <= keys.len() && keys.len() <= MOST_TAGS && are_all_tag_keys(keys)
+}
+
 fn number_between(least: u64, most: u64, number: Option<u64>) -> bool
     ensures { result ≡ is_some_between least most number }
 {
@@ -161,7 +212,9 @@ fn fits(kind: Kind, value: &Given) -> bool
         Kind::Texts { most } => value.texts().len() <= most,
         Kind::GrantOperations => are_operations(value.texts()),
         Kind::GrantConstraint => value.has_constraint(),
-        Kind::AnyText | Kind::Flag | Kind::List | Kind::Object => true,
+        Kind::Tags => are_tags(value.tags()),
+        Kind::TagKeys => are_tag_keys(value.texts()),
+        Kind::AnyText | Kind::Flag | Kind::Object => true,
     }
 }
 

@@ -1,10 +1,11 @@
 // What a body gives to a field, by its form.
 ghost use Rattle.std.specs.Prelude.{◌≡◌};
-ghost use Rattle.kms_json.specs.Given.{text_if, text_in, texts_in, bytes_in, context_in, pairs_in, constraint_in, number_in, number_or, flag_in, items_in, is_there, operations_named};
+ghost use Rattle.kms_json.specs.Given.{text_if, text_in, texts_in, bytes_in, context_in, pairs_in, constraint_in, tags_in, number_in, number_or, flag_in, is_there, operations_named};
 
 use crate::asks::GrantConstraint;
 use enc_context::Context;
 use kms_names::{Bytes, GrantOps, Text, TextList};
+use resource_tags::{Tag, TagList};
 use std::alloc::Global;
 
 /// What a member is to its field.
@@ -20,22 +21,22 @@ pub enum Given {
     Context(Option<Context>),
     /// The constraint of a grant, or none where it is two, or its encoding has more than 4,096 bytes.
     Constraint(Option<GrantConstraint>),
+    /// A list of tags, or none where one lacks its key or its value.
+    Tags(Option<TagList>),
     /// A list of texts.
     Texts(TextList),
     /// A whole number, or none where it is negative.
     Whole(Option<u64>),
     /// A truth value.
     Flag(bool),
-    /// A list, and whether it has items.
-    Items(bool),
     /// It is given, and nothing more is asked of it.
     Something,
 }
 
 impl Given {
     ghost use Rattle.std.specs.Prelude.{◌≡◌};
-    ghost use Rattle.std.specs.Prelude.{is_some};
-    ghost use Rattle.kms_json.specs.Given.{is_absent, is_there, text_in, bytes_in, context_in, whole_in, constraint_if, texts_in};
+    ghost use Rattle.std.specs.Prelude.{is_some, option_map};
+    ghost use Rattle.kms_json.specs.Given.{is_absent, is_there, text_in, bytes_in, context_in, whole_in, constraint_if, tags_if, texts_in};
 
     /// Whether the member isn't given.
     pub fn is_absent(&self) -> bool
@@ -101,6 +102,16 @@ impl Given {
         }
     }
 
+    /// The tags, if it is a list of tags that all have their keys and values.
+    pub fn tags(&self) -> Option<&[Tag]>
+        ensures { option_map (λ tags. tags.now) result ≡ tags_if self.now }
+    {
+        match self {
+            Given::Tags(Some(tags)) => Some(tags.as_slice()),
+            _ => None,
+        }
+    }
+
     /// The texts, or none where it is no list of texts.
     pub fn texts(&self) -> &[Text]
         ensures { result.now ≡ texts_in self.now }
@@ -159,6 +170,16 @@ pub fn constraint_in(value: Given) -> GrantConstraint
     match value {
         Given::Constraint(Some(constraint)) => constraint,
         _ => GrantConstraint::Free,
+    }
+}
+
+/// The tags, or none where it is no list of tags. No memory is taken.
+pub fn tags_in(alloc: Global, value: Given) -> TagList
+    ensures { result ≡ tags_in value }
+{
+    match value {
+        Given::Tags(Some(tags)) => tags,
+        _ => TagList::new(Vec::new(alloc)),
     }
 }
 
@@ -221,11 +242,4 @@ pub fn flag_in(value: Given) -> bool
         Given::Flag(flag) => flag,
         _ => false,
     }
-}
-
-/// Whether it is a list of one or more items.
-pub fn items_in(value: Given) -> bool
-    ensures { result ≡ items_in value }
-{
-    matches!(value, Given::Items(true))
 }

@@ -17,18 +17,20 @@ mod refusals;
 mod replies;
 mod states;
 mod tables;
+mod tags;
 mod threads;
 mod writing;
 
 pub use asks::{
-    Ask, AskBody, Changing, CreateGrant, CreateKey, DataKey, Decrypt, Encrypt, GrantConstraint,
-    JsonFault, ListGrants, Page, ReEncrypt, Reading, RetiredGrant,
+    Ask, AskBody, Changing, CreateGrant, CreateKey, DataKey, Decrypt, Encrypt, GenerateMac,
+    GrantConstraint, JsonFault, ListGrants, Page, ReEncrypt, Reading, RetiredGrant, VerifyMac,
 };
 pub use bodies::read_ask;
 pub use refusals::{Limit, Missing, PolicyFlaw, Refusal, Unsupported};
 pub use replies::{
-    AliasList, AliasPage, AutomaticRotation, GrantList, GrantPage, KeyIdList, KeyMetadata, KeyPage,
-    ListedAlias, ListedGrant, Reply, Rotation, RotationList, RotationPage, SYMMETRIC_DEFAULT,
+    AliasList, AliasPage, AutomaticRotation, GrantList, GrantPage, HMAC_SHA_256, KeyIdList,
+    KeyMetadata, KeyPage, ListedAlias, ListedGrant, Reply, Rotation, RotationList, RotationPage,
+    SYMMETRIC_DEFAULT, TagPage,
 };
 pub use states::KeyState;
 pub use threads::asks_and_replies_cross_threads;

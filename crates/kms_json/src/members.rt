@@ -10,6 +10,7 @@ ghost use Rattle.kms_json.specs.Fields.{is_given, context_of, value_of, value_gi
 use crate::constraints::constraint_of;
 use crate::fields::Kind;
 use crate::given::Given;
+use crate::tags::tags_of;
 use base64::DecodeAllocError;
 use base64::engine::general_purpose::STANDARD;
 use enc_context::{Context, ContextFault, Pair};
@@ -114,16 +115,6 @@ fn texts_of(alloc: Global, value: &Value) -> Result<Option<Given>, NoMemory>
     }
 }
 
-// A list, and whether it has items.
-fn list_of(value: &Value) -> Option<Given>
-    ensures { result ≡ value_of kind.List (view value.now) }
-{
-    match value.as_array() {
-        Some(items) => Some(Given::Items(!items.is_empty())),
-        None => None,
-    }
-}
-
 fn object_of(value: &Value) -> Option<Given>
     ensures { result ≡ value_of kind.Object (view value.now) }
 {
@@ -164,13 +155,13 @@ fn value_of(alloc: Global, kind: Kind, value: &Value) -> Result<Option<Given>, N
         | Kind::PolicyName
         | Kind::DataKeySpec
         | Kind::GrantName => text_of(alloc, value),
-        Kind::Texts { .. } | Kind::GrantOperations => texts_of(alloc, value),
+        Kind::Texts { .. } | Kind::GrantOperations | Kind::TagKeys => texts_of(alloc, value),
         Kind::Bytes { .. } => bytes_of(alloc, value),
         Kind::Context => context_of(alloc, value),
         Kind::GrantConstraint => constraint_of(alloc, value),
+        Kind::Tags => tags_of(alloc, value),
         Kind::Whole { .. } => Ok(whole_of(value)),
         Kind::Flag => Ok(value.as_bool().map(Given::Flag)),
-        Kind::List => Ok(list_of(value)),
         Kind::Object => Ok(object_of(value)),
     }
 }

@@ -17,7 +17,10 @@ pub enum Item<'a> {
     Base64(&'a Bytes),
     Number(u64),
     Flag(bool),
+    /// A list of one text.
     OneText(&'a str),
+    /// A list of one text, or nothing: then the member is left out.
+    OneTextIfAny(Option<&'a str>),
     /// A number, or nothing: then the member is left out.
     NumberIfAny(Option<u64>),
     /// A text, or nothing: then the member is left out.
@@ -45,6 +48,8 @@ fn item_value(alloc: Global, item: Item<'_>) -> Result<Option<Value>, NoMemory>
         Item::Number(number) => Some(Value::from(number)),
         Item::Flag(flag) => Some(Value::Bool(flag)),
         Item::OneText(text) => Some(serde_json::json!(in alloc; [text])?),
+        Item::OneTextIfAny(Some(text)) => Some(serde_json::json!(in alloc; [text])?),
+        Item::OneTextIfAny(None) => None,
         Item::NumberIfAny(number) => number.map(Value::from),
         Item::TextIfAny(Some(text)) => Some(Value::try_from_str(alloc, text)?),
         Item::TextIfAny(None) => None,

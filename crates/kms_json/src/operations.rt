@@ -6,7 +6,8 @@ ghost use Rattle.kms_json.specs.Fields.{row_of};
 
 use crate::fields::Field;
 use crate::tables::{
-    KEY_ALONE, LIST_OF_KEY, aliases, cryptography, grants, keys, policies, rotation, states,
+    KEY_ALONE, LIST_OF_KEY, aliases, cryptography, grants, keys, macs, policies, rotation, states,
+    tags,
 };
 
 /// An operation of the AWS KMS API that this service serves.
@@ -43,13 +44,18 @@ pub enum Operation {
     GenerateDataKey,
     GenerateDataKeyWithoutPlaintext,
     GenerateRandom,
+    GenerateMac,
+    VerifyMac,
+    TagResource,
+    UntagResource,
+    ListResourceTags,
 }
 
 // The name of an operation.
 #[derive(Clone, Copy)]
 struct Name(&'static str, Operation);
 
-const NAMES: [Name; 31] = [
+const NAMES: [Name; 36] = [
     Name("CreateKey", Operation::CreateKey),
     Name("DescribeKey", Operation::DescribeKey),
     Name("ListKeys", Operation::ListKeys),
@@ -84,6 +90,11 @@ const NAMES: [Name; 31] = [
         Operation::GenerateDataKeyWithoutPlaintext,
     ),
     Name("GenerateRandom", Operation::GenerateRandom),
+    Name("GenerateMac", Operation::GenerateMac),
+    Name("VerifyMac", Operation::VerifyMac),
+    Name("TagResource", Operation::TagResource),
+    Name("UntagResource", Operation::UntagResource),
+    Name("ListResourceTags", Operation::ListResourceTags),
 ];
 
 // Whether a value of X-Amz-Target is the service's name, a full stop and this name.
@@ -151,5 +162,10 @@ pub fn fields(operation: Operation) -> &'static [Field]
         Operation::GenerateDataKeyWithoutPlaintext =>
             &cryptography::GENERATE_DATA_KEY_WITHOUT_PLAINTEXT,
         Operation::GenerateRandom => &cryptography::GENERATE_RANDOM,
+        Operation::GenerateMac => &macs::GENERATE_MAC,
+        Operation::VerifyMac => &macs::VERIFY_MAC,
+        Operation::TagResource => &tags::TAG_RESOURCE,
+        Operation::UntagResource => &tags::UNTAG_RESOURCE,
+        Operation::ListResourceTags => &tags::LIST_RESOURCE_TAGS,
     }
 }

@@ -21,6 +21,8 @@ pub enum Limit {
     Aliases,
     /// The rotations on demand of a key.
     Rotations,
+    /// The tags of a key.
+    Tags,
     /// The initialization vectors of a pass.
     Ivs,
     /// The words of a pass's random stream.
@@ -39,10 +41,11 @@ pub enum Unsupported {
     KeySpec,
     Origin,
     CustomKeyStoreId,
-    Tags,
     MultiRegion,
     XksKeyId,
     Recipient,
+    /// The reference to a key of a kind that the operation isn't for.
+    KeyId,
 }
 
 /// What is wrong with a key policy. A path is a JSON pointer (RFC 6901) into it.
@@ -115,10 +118,14 @@ pub enum Refusal {
     UnsupportedOperation(Unsupported),
     /// InvalidKeyUsageException.
     InvalidKeyUsage,
+    /// KMSInvalidMacException.
+    InvalidMac,
     /// AlreadyExistsException, of an alias.
     AlreadyExists,
     /// InvalidMarkerException.
     InvalidMarker,
+    /// TagException.
+    InvalidTags,
     /// MalformedPolicyDocumentException, with what is wrong.
     MalformedPolicy(PolicyFlaw),
     /// LimitExceededException.

@@ -3,15 +3,19 @@ mod lists;
 
 use crate::refusals::Refusal;
 use crate::states::KeyState;
+use hmac_keys::KeyKind;
 use kms_names::{AccountNumber, Bytes, GrantId, KeyId, Text};
 pub use lists::{
     AliasList, AliasPage, GrantList, GrantPage, KeyIdList, KeyPage, ListedAlias, ListedGrant,
-    Rotation, RotationList, RotationPage,
+    Rotation, RotationList, RotationPage, TagPage,
 };
 
 /// The name of the one key spec, and of the one algorithm, of symmetric keys (AWS KMS API Reference,
 /// KeyMetadata).
 pub const SYMMETRIC_DEFAULT: &str = "SYMMETRIC_DEFAULT";
+
+/// The name of the one algorithm of HMAC keys (AWS KMS API Reference, KeyMetadata).
+pub const HMAC_SHA_256: &str = "HMAC_SHA_256";
 
 /// A key as replies describe it (AWS KMS API Reference, KeyMetadata).
 #[derive(Drop)]
@@ -22,6 +26,8 @@ pub struct KeyMetadata {
     pub region: Text,
     /// The key's id.
     pub key: KeyId,
+    /// Its kind.
+    pub kind: KeyKind,
     /// When it was made, in seconds since 1970.
     pub created: u64,
     /// Its description.
@@ -112,6 +118,17 @@ pub enum Reply {
     Random {
         plaintext: Bytes,
     },
+    /// What GenerateMac answers: the MAC, and the ARN of its key.
+    Mac {
+        mac: Bytes,
+        arn: Text,
+    },
+    /// What VerifyMac answers where the MAC is valid: the ARN of its key.
+    MacValid {
+        arn: Text,
+    },
+    /// What ListResourceTags answers.
+    Tags(TagPage),
     /// The request is served, and the body has no members.
     Done,
     /// The request isn't served.
@@ -173,6 +190,9 @@ impl Drop for Reply {
             } => {}
             Reply::SealedDataKey { blob: _, arn: _ } => {}
             Reply::Random { plaintext: _ } => {}
+            Reply::Mac { mac: _, arn: _ } => {}
+            Reply::MacValid { arn: _ } => {}
+            Reply::Tags(_) => {}
             Reply::Done => {}
             Reply::Refused(_) => {}
         }

@@ -3,9 +3,11 @@ pub mod aliases;
 pub mod cryptography;
 pub mod grants;
 pub mod keys;
+pub mod macs;
 pub mod policies;
 pub mod rotation;
 pub mod states;
+pub mod tags;
 
 use crate::fields::{Field, Kind, Presence};
 

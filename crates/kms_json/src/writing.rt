@@ -8,10 +8,12 @@ mod aliases;
 mod cryptography;
 mod grants;
 mod keys;
+mod macs;
 mod pages;
 mod policies;
 mod rotation;
 mod states;
+mod tags;
 
 use crate::exceptions::refusal_value;
 use crate::replies::Reply;
@@ -57,6 +59,9 @@ fn reply_value(alloc: Global, reply: &Reply) -> Result<Value, NoMemory>
         } => data_key(alloc, blob, plaintext, arn.as_str()),
         Reply::SealedDataKey { blob, arn } => sealed_data_key(alloc, blob, arn.as_str()),
         Reply::Random { plaintext } => random(alloc, plaintext),
+        Reply::Mac { mac, arn } => macs::mac(alloc, mac, arn.as_str()),
+        Reply::MacValid { arn } => macs::mac_valid(alloc, arn.as_str()),
+        Reply::Tags(list) => tags::tag_list(alloc, list),
         Reply::Done => Ok(Value::Object(Map::new(alloc))),
         Reply::Refused(refusal) => refusal_value(alloc, refusal),
     }

@@ -1,14 +1,14 @@
 -- What becomes of tags.
-use Rattle.std.proofs.Common.{◌≡◌, ℕ, ◌≤◌, ◌||◌, Bool, true, false, not, List, [], ◌∷◌, length, Option, Some, None, if◌then◌else◌, refl, sym, ap, ◌∙◌, arith}
+use Rattle.std.proofs.Common.{◌≡◌, ℕ, suc, ◌≤◌, ◌+◌, ◌||◌, Bool, true, false, not, List, [], ◌∷◌, length, length-append, filter, Option, Some, None, if◌then◌else◌, refl, ap, ◌∙◌, arith}
 use Rattle.std.proofs.lemmas.List.Filters.{length-filter_both}
 use Rattle.std.proofs.lemmas.Cmp.{tied_back}
 use Rattle.std.specs.Cmp.{IsTotalOrder}
 use Rattle.std.specs.Cmp.Lexicographic.{nat_list_cmp_total}
 use Rattle.std.specs.Option.{option_or}
-use Rattle.std.specs.Ordering.{is_eq}
+use Rattle.std.specs.Ordering.{is_eq, is_lt, is_gt}
 use Rattle.std.specs.declared.cmp.Ordering.{Ordering}
 use Rattle.std.specs.declared.cmp.Ordering.TheVariants.{Less, Equal, Greater}
-use Rattle.persist_map.specs.Pairs.{has_key, value_at, with_pair, without_key}
+use Rattle.persist_map.specs.Pairs.{has_key, is_below, is_above, value_at, with_pair, without_key}
 use Rattle.persist_map.proofs.Laws.{value_at-with_pair, value_at-with_pair-other, value_at-without_key, value_at-without_key-other}
 use Rattle.resource_tags.specs.declared.tags.Tag.{Tag}
 use Rattle.resource_tags.specs.Tags.{Tags, by_bytes, with_tags, without_tags}
@@ -66,3 +66,35 @@ pub dropped_gone : DroppedTagsAreGone
 dropped_gone tags [] key = refl
 dropped_gone tags (other ∷ keys) key =
     dropped_gone (without_key by_bytes tags other) keys key ∙ one_dropped tags other keys key (is_eq (by_bytes key other)) refl
+
+-- items that pass one of two tests that exclude one another are no more than all
+apart : {A : Type 0} (p q : A → Bool) → ((a : A) → p a ≡ true → q a ≡ false) → (items : List A) → length (filter p items) + length (filter q items) ≤ length items
+apart p q exclude [] = omega arith
+apart p q exclude (a ∷ items) = by_tests (p a) (q a) (exclude a) (apart p q exclude items)
+  where
+    by_tests : (x y : Bool) → (x ≡ true → y ≡ false) → length (filter p items) + length (filter q items) ≤ length items
+        → length (if x then a ∷ filter p items else filter p items) + length (if y then a ∷ filter q items else filter q items) ≤ suc (length items)
+    by_tests true true h e = absurd (let bad : true ≡ false = h refl in cc)
+    by_tests true false h e = omega (arith, e)
+    by_tests false true h e = omega (arith, e)
+    by_tests false false h e = omega (arith, e)
+
+-- a tag that is put makes one more at most
+one_more : (tags : Tags) (key value : List ℕ) → length (with_pair by_bytes tags key value) ≤ length tags + 1
+one_more tags key value =
+    let below : List ℕ × List ℕ → Bool = λ tag. is_below by_bytes key tag in
+    let above : List ℕ × List ℕ → Bool = λ tag. is_above by_bytes key tag in
+    omega (arith, length-append (filter below tags) ((key, value) ∷ filter above tags), apart below above (λ tag. is_lt_or_gt (by_bytes tag.0 key)) tags)
+  where
+    is_lt_or_gt : (o : Ordering) → is_lt o ≡ true → is_gt o ≡ false
+    is_lt_or_gt Less e = refl
+    is_lt_or_gt Equal e = cc
+    is_lt_or_gt Greater e = cc
+
+pub grows : (tags : Tags) (more : List Tag) → length (with_tags tags more) ≤ length tags + length more
+grows tags [] = omega arith
+grows tags (tag ∷ more) = omega (arith, one_more tags tag.key tag.value, grows (with_pair by_bytes tags tag.key tag.value) more)
+
+-- where there are none, 50 of them aren't too many
+pub few_from_none : (more : List Tag) → length more ≤ 50 → length (with_tags [] more) ≤ 50
+few_from_none more few = omega (arith, few, grows [] more)

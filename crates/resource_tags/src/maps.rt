@@ -9,7 +9,7 @@ ghost use Rattle.resource_tags.specs.declared.maps.TagFault.TheVariants.{TooMany
 
 use crate::tags::Tag;
 use kms_names::{NoMemory, Text};
-use persist_map::PMap;
+use persist_map::{PFrom, PMap};
 use std::alloc::Global;
 use std::marker::Model;
 
@@ -119,6 +119,13 @@ impl TagMap {
             all = all.remove(key)?;
         }
         Ok(TagMap { tags: all })
+    }
+
+    /// The keys and values, in ascending byte order of the keys. It takes no memory.
+    pub fn iter(&self) -> PFrom<'_, Text, Text>
+        ensures { result ≡ self.now }
+    {
+        self.tags.iter()
     }
 
     /// The value of a key. It takes no memory.

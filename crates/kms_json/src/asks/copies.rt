@@ -76,6 +76,14 @@ impl Changing {
                 grant_id: grant_id.copy()?,
                 dry_run: *dry_run,
             },
+            Changing::TagResource { key_id, tags } => Changing::TagResource {
+                key_id: key_id.copy()?,
+                tags: tags.copy()?,
+            },
+            Changing::UntagResource { key_id, keys } => Changing::UntagResource {
+                key_id: key_id.copy()?,
+                keys: keys.copy()?,
+            },
         })
     }
 }
@@ -134,6 +142,12 @@ impl Reading {
                 size: *size,
                 custom_key_store: *custom_key_store,
                 recipient: *recipient,
+            },
+            Reading::GenerateMac(fields) => Reading::GenerateMac(fields.copy()?),
+            Reading::VerifyMac(fields) => Reading::VerifyMac(fields.copy()?),
+            Reading::ListResourceTags { key_id, page } => Reading::ListResourceTags {
+                key_id: key_id.copy()?,
+                page: page.copy()?,
             },
         })
     }

@@ -3,6 +3,7 @@ ghost use Rattle.std.specs.Prelude.{◌≡◌, IfOk};
 
 use super::pages::copied;
 use kms_names::{NoMemory, Text};
+use resource_tags::TagList;
 
 /// What CreateKey takes (AWS KMS API Reference, CreateKey).
 #[derive(Drop)]
@@ -23,8 +24,9 @@ pub struct CreateKey {
     pub custom_key_store_id: bool,
     /// Whether the caller may lock itself out by the policy (BypassPolicyLockoutSafetyCheck).
     pub bypass_lockout_check: bool,
-    /// Whether there are tags.
-    pub tags: bool,
+    /// Its tags, at most 50, with keys of 1 to 128 characters and values of at most 256; there are none
+    /// where they aren't given.
+    pub tags: TagList,
     /// Whether the key is to be one of several regions.
     pub multi_region: bool,
     /// Whether a key of an external key store is given.
@@ -45,7 +47,7 @@ impl CreateKey {
             origin: copied(&self.origin)?,
             custom_key_store_id: self.custom_key_store_id,
             bypass_lockout_check: self.bypass_lockout_check,
-            tags: self.tags,
+            tags: self.tags.copy()?,
             multi_region: self.multi_region,
             xks_key_id: self.xks_key_id,
         })

@@ -5,7 +5,7 @@ ghost use Rattle.kms_json.specs.KeyAsks as asked;
 
 use super::{next, page};
 use crate::asks::{Changing, CreateKey, Reading};
-use crate::given::{Given, flag_in, is_given, items_in, text_if, text_in, texts_in};
+use crate::given::{Given, flag_in, is_given, tags_in, text_if, text_in, texts_in};
 use std::alloc::Global;
 use std::collections::VecDeque;
 
@@ -22,7 +22,7 @@ pub fn create_key(alloc: Global, values: &mut VecDeque<Given>) -> Changing
         origin: text_if(next(values)),
         custom_key_store_id: is_given(next(values)),
         bypass_lockout_check: flag_in(next(values)),
-        tags: items_in(next(values)),
+        tags: tags_in(alloc, next(values)),
         multi_region: flag_in(next(values)),
         xks_key_id: is_given(next(values)),
     })

@@ -6,6 +6,7 @@ ghost use Rattle.kms_json.specs.declared.replies.lists.Rotation.{Rotation};
 
 use crate::asks::GrantConstraint;
 use kms_names::{AccountNumber, AliasName, GrantId, GrantOps, KeyId, Principal, Text};
+use resource_tags::TagList;
 use std::marker::Model;
 
 /// An alias as lists show it (AWS KMS API Reference, AliasListEntry).
@@ -211,4 +212,13 @@ pub struct RotationPage {
     pub rotations: RotationList,
     /// The marker behind which the next part begins, where more rows remain.
     pub next: Option<u64>,
+}
+
+/// A part of the list of a key's tags (AWS KMS API Reference, ListResourceTags).
+#[derive(Drop)]
+pub struct TagPage {
+    /// The tags, in order.
+    pub tags: TagList,
+    /// The marker behind which the next part begins, where more rows remain.
+    pub next: Option<Text>,
 }

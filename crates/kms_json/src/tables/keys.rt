@@ -20,7 +20,7 @@ pub static CREATE_KEY: [Field; 11] = [
         Kind::Flag,
         Presence::Optional,
     ),
-    Field("Tags", Kind::List, Presence::Optional),
+    Field("Tags", Kind::Tags, Presence::Optional),
     Field("MultiRegion", Kind::Flag, Presence::Optional),
     Field("XksKeyId", Kind::AnyText, Presence::Optional),
 ];

@@ -1,14 +1,35 @@
 // What the operations on keys answer.
-ghost use Rattle.std.specs.Prelude.{◌≡◌, IfOk};
+ghost use Rattle.std.specs.Prelude.{◌≡◌, IfOk, option_map};
 ghost use Rattle.serde_json.specs.View.{view};
 ghost use Rattle.kms_json.specs.KeyReplies as answered;
 
 use super::pages::page;
 use crate::objects::{Item, Member, RowWriter, list_of, object_of};
-use crate::replies::{KeyMetadata, KeyPage, SYMMETRIC_DEFAULT};
+use crate::replies::{HMAC_SHA_256, KeyMetadata, KeyPage, SYMMETRIC_DEFAULT};
+use hmac_keys::KeyKind;
 use kms_names::{AccountNumber, KeyId, NoMemory, key_arn, key_text};
 use serde_json::{Value, json};
 use std::alloc::Global;
+
+// The algorithm by which keys of a kind encrypt, where they do.
+fn encryption_algorithm(kind: KeyKind) -> Option<&'static str>
+    ensures { option_map (λ t. t.now) result ≡ answered.encryption_algorithm kind }
+{
+    match kind {
+        KeyKind::Symmetric => Some(SYMMETRIC_DEFAULT),
+        KeyKind::Hmac256 => None,
+    }
+}
+
+// The one by which they make MACs, where they do.
+fn mac_algorithm(kind: KeyKind) -> Option<&'static str>
+    ensures { option_map (λ t. t.now) result ≡ answered.mac_algorithm kind }
+{
+    match kind {
+        KeyKind::Symmetric => None,
+        KeyKind::Hmac256 => Some(HMAC_SHA_256),
+    }
+}
 
 // The members of a key's description.
 fn described<'a>(
@@ -21,20 +42,25 @@ fn described<'a>(
     ensures { IfOk result (λ v. view v ≡ answered.described_as account.now arn.now key.now id.now) }
 {
     let state = key.state;
+    let spec = key.kind.spec_text();
     let members = [
         Member("AWSAccountId", Item::Text(account)),
         Member("Arn", Item::Text(arn)),
         Member("CreationDate", Item::Number(key.created)),
-        Member("CustomerMasterKeySpec", Item::Text(SYMMETRIC_DEFAULT)),
+        Member("CustomerMasterKeySpec", Item::Text(spec)),
         Member("DeletionDate", Item::NumberIfAny(state.deletion_date())),
         Member("Description", Item::Text(key.description.as_str())),
         Member("Enabled", Item::Flag(state.is_enabled())),
-        Member("EncryptionAlgorithms", Item::OneText(SYMMETRIC_DEFAULT)),
+        Member(
+            "EncryptionAlgorithms",
+            Item::OneTextIfAny(encryption_algorithm(key.kind)),
+        ),
         Member("KeyId", Item::Text(id)),
         Member("KeyManager", Item::Text("CUSTOMER")),
-        Member("KeySpec", Item::Text(SYMMETRIC_DEFAULT)),
+        Member("KeySpec", Item::Text(spec)),
         Member("KeyState", Item::Text(state.name())),
-        Member("KeyUsage", Item::Text("ENCRYPT_DECRYPT")),
+        Member("KeyUsage", Item::Text(key.kind.usage_text())),
+        Member("MacAlgorithms", Item::OneTextIfAny(mac_algorithm(key.kind))),
         Member("MultiRegion", Item::Flag(false)),
         Member("Origin", Item::Text("AWS_KMS")),
     ];

@@ -1,7 +1,7 @@
 // Parts of lists.
 ghost use Rattle.std.specs.Prelude.{◌≡◌, IfOk, option_map};
 ghost use Rattle.serde_json.specs.View.{view};
-ghost use Rattle.kms_json.specs.PageReplies.{marker_data, page_data};
+ghost use Rattle.kms_json.specs.PageReplies.{marker_data, part_data, page_data};
 
 use crate::objects::put_if_any;
 use kms_names::NoMemory;
@@ -19,6 +19,23 @@ fn marker(alloc: Global, next: Option<u64>) -> Result<Option<Value>, NoMemory>
 }
 
 /// A part of a list: its rows under their name, and the marker of the next part, where more rows remain.
+pub fn part(
+    alloc: Global,
+    name: &'static str,
+    rows: Value,
+    marker: Option<Value>,
+) -> Result<Value, NoMemory>
+    ensures { IfOk result (λ v. view v ≡ part_data name.now (view rows) (option_map (λ m. view m) marker)) }
+{
+    let truncated = marker.is_some();
+    let mut members = Map::new(alloc);
+    serde_json::put(&mut members, alloc, name, rows)?;
+    put_if_any(alloc, &mut members, "NextMarker", marker)?;
+    serde_json::put(&mut members, alloc, "Truncated", Value::Bool(truncated))?;
+    Ok(Value::Object(members))
+}
+
+/// The same of a list whose markers are numbers.
 pub fn page(
     alloc: Global,
     name: &'static str,
@@ -27,14 +44,5 @@ pub fn page(
 ) -> Result<Value, NoMemory>
     ensures { IfOk result (λ v. view v ≡ page_data name.now (view rows) next) }
 {
-    let mut members = Map::new(alloc);
-    serde_json::put(&mut members, alloc, name, rows)?;
-    put_if_any(alloc, &mut members, "NextMarker", marker(alloc, next)?)?;
-    serde_json::put(
-        &mut members,
-        alloc,
-        "Truncated",
-        Value::Bool(next.is_some()),
-    )?;
-    Ok(Value::Object(members))
+    part(alloc, name, rows, marker(alloc, next)?)
 }

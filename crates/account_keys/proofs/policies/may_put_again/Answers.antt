@@ -10,4 +10,4 @@ pub returns : goal.returns
 unfolding may_put_again
 returns c =
     ok_where c.may_on_key.result
-    (λ (b : Bool) is. is ∙ ap (λ (said : Particulars). may_on_key c.args.view.now c.args.policy.now action.PutKeyPolicy c.args.key.now said) c.of_policy-said.ensures) c.may_on_key.ensures
+    (λ (b : Bool) is. is ∙ ap (λ (said : Particulars). may_on_key c.args.view.now c.args.policy.now action.PutKeyPolicy c.args.key.now.key said) c.of_policy-said.ensures) c.may_on_key.ensures

@@ -13,7 +13,7 @@ returns-in-Some c =
     let view = c.args.self.now.view.now in
     let row = c.in-Some.lent in
     let action = action_of c.args.self.now.change in
-    let said = c.of_key-said.ensures ∙ ap (λ (r : KeyRow). of_key view r.key) c.row.ensures.row in
-    let one = passes_one view (on_key c.action.result row c.of_key-said.result) (on_key action row (of_key view row.key)) c.authorize_on.result
+    let said = c.of_key-said.ensures ∙ ap (λ (r : KeyRow). of_key view r) c.row.ensures.row in
+    let one = passes_one view (on_key c.action.result row c.of_key-said.result) (on_key action row (of_key view row)) c.authorize_on.result
     (ap₂ (λ (a : Action) (s : Particulars). on_key a row s) c.action.ensures said) c.authorize_on.ensures in
     subst (λ (key : Option KeyRow). Passes (denied view (question_on view action key)) c.authorize_on.result) (sym c.in-Some.is) one

@@ -11,6 +11,6 @@ pub returns : goal.returns
 returns c =
     let view = c.args.self.now.view.now in
     let row = c.args.found.now.row in
-    let said = c.of_key-said.ensures ∙ ap (λ (r : KeyRow). of_key view r.key) c.row.ensures.row in
-    passes_one view (on_key c.action.result row c.of_key-said.result) (on_key (action_on c.args.self.now.what) row (of_key view row.key)) c.authorize_on.result
+    let said = c.of_key-said.ensures ∙ ap (λ (r : KeyRow). of_key view r) c.row.ensures.row in
+    passes_one view (on_key c.action.result row c.of_key-said.result) (on_key (action_on c.args.self.now.what) row (of_key view row)) c.authorize_on.result
     (ap₂ (λ (a : Action) (s : Particulars). on_key a row s) c.action.ensures said) c.authorize_on.ensures

@@ -1,4 +1,4 @@
-use Rattle.std.proofs.Common.{◌≡◌, ◌∷◌, ◌≤◌, drop, length, suc, sym, subst, ap, ◌∙◌, add-one, le_trans}
+use Rattle.std.proofs.Common.{◌∷◌, ◌≤◌, drop, length, suc, sym, subst, ap, ◌∙◌, add-one, le_trans}
 use Rattle.std.proofs.Math.Seq.{drop-cons}
 use Rattle.resource_tags.specs.Tags.{without_tags}
 use Rattle.resource_tags.proofs.TagFacts.{shrinks}
