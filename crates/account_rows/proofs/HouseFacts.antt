@@ -32,7 +32,7 @@ choose true row new old is = is
 choose false row new old is = old
 
 days_by : (n time : ℕ) (w : What) → GivesDays w → KeepsBy (λ (row : KeyRow). HasDays row.period) (key_change n time w)
-days_by n time (what.CreateKey key description policy) gives = tt
+days_by n time (what.CreateKey key kind description policy tags) gives = tt
 days_by n time (what.Enable key) gives = λ row is. is
 days_by n time (what.Disable key) gives = λ row is. is
 days_by n time (what.Schedule key date days) gives = λ row is. is
@@ -42,6 +42,8 @@ days_by n time (what.RotationOff key) gives = λ row is. tt
 days_by n time (what.RotateNow key) gives = λ row is. is
 days_by n time (what.Policy key text) gives = λ row is. is
 days_by n time (what.Description key text) gives = λ row is. is
+days_by n time (what.Tag key tags) gives = λ row is. is
+days_by n time (what.Untag key keys) gives = λ row is. is
 days_by n time what.House gives = λ row is. choose (is_due row time) row (rotated time row) is is
 days_by n time _ gives = tt
 

@@ -9,3 +9,4 @@ pub mod KeyFacts
 pub mod KeptFacts
 pub mod DateFacts
 pub mod EntryFacts
+pub mod TagFacts

@@ -10,6 +10,8 @@ use Rattle.std.proofs.lemmas.List.Sums.{fold-append}
 use Rattle.std.proofs.lemmas.Slice.Eq.{bytes_eq-Decides}
 use Rattle.key_states.specs.declared.rows.KeyRow.{KeyRow}
 use Rattle.key_states.specs.States.{is_due}
+use Rattle.hmac_keys.specs.declared.kinds.KeyKind.{KeyKind}
+use Rattle.resource_tags.specs.declared.tags.Tag.{Tag}
 use Rattle.account_rows.specs.declared.entries.Entry.{Entry}
 use Rattle.account_rows.specs.declared.entries.What.{What}
 use Rattle.account_rows.specs.declared.entries.What.TheVariants as what
@@ -115,6 +117,8 @@ follows_by n time (what.RotationOff key) = λ row. alike _ row refl refl refl re
 follows_by n time (what.RotateNow key) = λ row. versioned time true row.next row
 follows_by n time (what.Policy key text) = λ row. alike _ row refl refl refl refl
 follows_by n time (what.Description key text) = λ row. alike _ row refl refl refl refl
+follows_by n time (what.Tag key tags) = λ row. alike _ row refl refl refl refl
+follows_by n time (what.Untag key keys) = λ row. alike _ row refl refl refl refl
 follows_by n time _ = tt
 
 -- a key that is made has P, and what becomes of a row that has P has it too
@@ -143,7 +147,7 @@ module _ (P : KeyRow → Type 0) where
 
 -- a key that an entry makes is such a row
 abbrev pub IsNew : (KeyRow → Type 0) → ℕ → ℕ → What → Type 0
-IsNew P place time (what.CreateKey key description policy) = P (new_key place time key description policy)
+IsNew P place time (what.CreateKey key kind description policy tags) = P (new_key place time key kind description policy tags)
 IsNew P place time _ = Unit {0}
 
 module _ (P : KeyRow → Type 0) (keeps : (row new : KeyRow) → Follows row new → P row → P new) where
@@ -154,7 +158,7 @@ module _ (P : KeyRow → Type 0) (keeps : (row new : KeyRow) → Follows row new
   NewBy (Some (houses time)) = Unit {0}
 
   new_by : (n time : ℕ) (w : What) → IsNew P n time w → NewBy (key_change n time w)
-  new_by n time (what.CreateKey key description policy) new = new
+  new_by n time (what.CreateKey key kind description policy tags) new = new
   new_by n time _ new = tt
 
   keeps_by : (by : Option KeyChange) → FollowsBy by → NewBy by → KeepsBy P by
@@ -187,10 +191,11 @@ found_key (x ∷ xs) id row e = by_test (bytes_eq x.key id) (bytes_eq-Decides x.
 later_row : (n : ℕ) (row : KeyRow) → IsRowOf n row → IsRowOf (n + 1) row
 later_row n row is = record { before = omega (arith, is.before); named = is.named; turned = omega (arith, is.turned); counted = omega (arith, is.counted); some = is.some }
 
-new_rows : (time n : ℕ) (key description policy : List ℕ) (rows : List KeyRow) → place_in key ≡ n → AreRows n rows → AreRows (n + 1) (rows ++ new_key n time key description policy ∷ [])
-new_rows time n key description policy rows here are = record {
-  rise = all_pairs_push (λ (p q : KeyRow). p.born < q.born) rows (new_key n time key description policy) are.rise (λ k d lt. (are.each k d lt).before);
-  each = All-push (IsRowOf (n + 1)) rows (new_key n time key description policy) (All-weaker (IsRowOf n) (IsRowOf (n + 1)) (later_row n) rows are.each)
+new_rows : (time n : ℕ) (key : List ℕ) (kind : KeyKind) (description policy : List ℕ) (tags : List Tag) (rows : List KeyRow) → place_in key ≡ n → AreRows n rows
+    → AreRows (n + 1) (rows ++ new_key n time key kind description policy tags ∷ [])
+new_rows time n key kind description policy tags rows here are = record {
+  rise = all_pairs_push (λ (p q : KeyRow). p.born < q.born) rows (new_key n time key kind description policy tags) are.rise (λ k d lt. (are.each k d lt).before);
+  each = All-push (IsRowOf (n + 1)) rows (new_key n time key kind description policy tags) (All-weaker (IsRowOf n) (IsRowOf (n + 1)) (later_row n) rows are.each)
       (record { before = omega arith; named = here; turned = omega arith; counted = omega arith; some = omega arith });
 }
 
@@ -200,17 +205,18 @@ later_rows n rows are = record { rise = are.rise; each = All-weaker (IsRowOf n) 
 -- a key that is made has an id that ends with the place, and was made there
 abbrev MadeBy : ℕ → Option KeyChange → Type 0
 MadeBy n None = Unit {0}
-MadeBy n (Some (makes row)) = (time : ℕ) × (key : List ℕ) × (description : List ℕ) × (policy : List ℕ) × (row ≡ new_key n time key description policy) × (place_in key ≡ n)
+MadeBy n (Some (makes row)) =
+    (time : ℕ) × (key : List ℕ) × (kind : KeyKind) × (description : List ℕ) × (policy : List ℕ) × (tags : List Tag) × (row ≡ new_key n time key kind description policy tags) × (place_in key ≡ n)
 MadeBy n (Some (changes key f)) = Unit {0}
 MadeBy n (Some (houses time)) = Unit {0}
 
 made_by : (n time : ℕ) (w : What) → IsMadeHere n w → MadeBy n (key_change n time w)
-made_by n time (what.CreateKey key description policy) here = (time, key, description, policy, refl, here)
+made_by n time (what.CreateKey key kind description policy tags) here = (time, key, kind, description, policy, tags, refl, here)
 made_by n time _ here = tt
 
 rows_by : (n : ℕ) (by : Option KeyChange) (rows : List KeyRow) → FollowsBy by → MadeBy n by → AreRows n rows → AreRows (n + 1) (keys_by by rows)
 rows_by n None rows follows made are = later_rows n rows are
-rows_by n (Some (makes row)) rows follows made are = subst (λ (r : KeyRow). AreRows (n + 1) (rows ++ r ∷ [])) (sym made.4) (new_rows made.0 n made.1 made.2 made.3 rows made.5 are)
+rows_by n (Some (makes row)) rows follows made are = subst (λ (r : KeyRow). AreRows (n + 1) (rows ++ r ∷ [])) (sym made.6) (new_rows made.0 n made.1 made.2 made.3 made.4 made.5 rows made.7 are)
 rows_by n (Some (changes key f)) rows follows made are = changed_rows key f follows n rows are
 rows_by n (Some (houses time)) rows follows made are = house_rows time n rows are
 

@@ -7,17 +7,13 @@ use Rattle.account_rows.specs.declared.entries.Entry.{Entry}
 use Rattle.account_rows.specs.declared.entries.What.{What}
 use Rattle.account_rows.specs.declared.entries.What.TheVariants as what
 use Rattle.account_rows.specs.History.{State, step, nothing_yet, replay, key_with, place_in, IsMadeHere, AreRows}
+pub use Rattle.account_rows.specs.History.{AreMadeFrom}
 use Rattle.account_rows.proofs.RowFacts.{Follows, IsNew, all_after, found_all, found_key, replay-entries, rows_after, no_rows}
 use Rattle.account_rows.proofs.Lookups.{unique}
 
 -- the rows of an id have at least so many versions
 abbrev pub AtLeast : ℕ → List ℕ → List KeyRow → Type 0
 AtLeast versions id rows = All (λ (row : KeyRow). row.key ≡ id → versions ≤ length row.versions) rows
-
--- the keys that entries make from a place on have ids that end with their places
-abbrev pub AreMadeFrom : ℕ → List Entry → Type 0
-AreMadeFrom place [] = Unit {0}
-AreMadeFrom place (entry ∷ more) = IsMadeHere place entry.what × AreMadeFrom (place + 1) more
 
 -- the row that is found is the only one of its id
 pub the_one : (n : ℕ) (rows : List KeyRow) (id : List ℕ) (row : KeyRow) → AreRows n rows → key_with rows id ≡ Some row → AtLeast (length row.versions) id rows
@@ -34,7 +30,7 @@ module _ (versions : ℕ) (id : List ℕ) where
   keeps row new follows least is = omega (arith, least (sym follows.key ∙ is), follows.more)
 
   new_at : (n time : ℕ) (w : What) → IsMadeHere n w → place_in id < n → IsNew (λ (row : KeyRow). row.key ≡ id → versions ≤ length row.versions) n time w
-  new_at n time (what.CreateKey key description policy) here before = λ is. absurd (omega (arith, ap place_in is, here, before))
+  new_at n time (what.CreateKey key kind description policy tags) here before = λ is. absurd (omega (arith, ap place_in is, here, before))
   new_at n time _ here before = tt
 
   least_from : (state : State) (more : List Entry) → AreMadeFrom state.entries more → place_in id < state.entries → AtLeast versions id state.keys → AtLeast versions id (fold step state more).keys

@@ -9,8 +9,11 @@ use Rattle.key_states.specs.declared.states.State.TheVariants as state
 use Rattle.key_states.specs.declared.states.Stored.{Stored}
 use Rattle.key_states.specs.declared.states.Stored.TheVariants.{Enabled, Disabled, Pending}
 use Rattle.key_states.specs.States.{state_of, is_due}
+use Rattle.hmac_keys.specs.declared.kinds.KeyKind.{KeyKind}
+use Rattle.resource_tags.specs.declared.tags.Tag.{Tag as TagValue}
+use Rattle.resource_tags.specs.Tags.{with_tags, without_tags}
 use Rattle.account_rows.specs.declared.entries.What.{What}
-use Rattle.account_rows.specs.declared.entries.What.TheVariants.{CreateKey, Enable, Disable, Schedule, Cancel, RotationOn, RotationOff, RotateNow, Policy, Description, House}
+use Rattle.account_rows.specs.declared.entries.What.TheVariants.{CreateKey, Enable, Disable, Schedule, Cancel, RotationOn, RotationOff, RotateNow, Policy, Description, Tag, Untag, House}
 
 -- ---- one row
 
@@ -19,12 +22,13 @@ pub record HasVersions (row : KeyRow) : Type 0 where
   pub some : 1 ≤ length row.versions
   pub few : length row.versions ≤ 4294967295
 
--- a key as it is made: enabled, with one version, and without automatic rotation
-abbrev pub new_key : ℕ → ℕ → List ℕ → List ℕ → List ℕ → KeyRow
-new_key place time key description policy = record {
+-- a key as it is made: enabled, with one version, without automatic rotation, and with these tags
+abbrev pub new_key : ℕ → ℕ → List ℕ → KeyKind → List ℕ → List ℕ → List TagValue → KeyRow
+new_key place time key kind description policy tags = record {
   key = key;
   born = place;
   made = time;
+  kind = kind;
   description = description;
   policy = policy;
   stored = Enabled;
@@ -32,6 +36,7 @@ new_key place time key description policy = record {
   period = None;
   next = 0;
   on_demand = 0;
+  tags = with_tags [] tags;
 }
 
 abbrev pub with_policy : List ℕ → KeyRow → KeyRow
@@ -42,6 +47,14 @@ with_description text row = record row { description = text }
 
 abbrev pub with_stored : Stored → KeyRow → KeyRow
 with_stored stored row = record row { stored = stored }
+
+-- its tags once these were put
+abbrev pub tagged : List TagValue → KeyRow → KeyRow
+tagged tags row = record row { tags = with_tags row.tags tags }
+
+-- its tags of other keys than these
+abbrev pub untagged : List (List ℕ) → KeyRow → KeyRow
+untagged keys row = record row { tags = without_tags row.tags keys }
 
 -- another period of automatic rotation, and the next date
 abbrev pub with_period : Option ℕ → ℕ → KeyRow → KeyRow
@@ -100,7 +113,7 @@ pub data KeyChange : Type 0 where
 
 -- what an entry at this place and time does to the keys, where it touches them
 abbrev pub key_change : ℕ → ℕ → What → Option KeyChange
-key_change place time (CreateKey key description policy) = Some (makes (new_key place time key description policy))
+key_change place time (CreateKey key kind description policy tags) = Some (makes (new_key place time key kind description policy tags))
 key_change place time (Enable key) = Some (changes key (with_stored Enabled))
 key_change place time (Disable key) = Some (changes key (with_stored Disabled))
 key_change place time (Schedule key date days) = Some (changes key (with_stored (Pending date days)))
@@ -110,6 +123,8 @@ key_change place time (RotationOff key) = Some (changes key (λ row. with_period
 key_change place time (RotateNow key) = Some (changes key (λ row. with_version time true row.next row))
 key_change place time (Policy key text) = Some (changes key (with_policy text))
 key_change place time (Description key text) = Some (changes key (with_description text))
+key_change place time (Tag key tags) = Some (changes key (tagged tags))
+key_change place time (Untag key keys) = Some (changes key (untagged keys))
 key_change place time House = Some (houses time)
 key_change place time _ = None
 

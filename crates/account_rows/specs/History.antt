@@ -7,9 +7,11 @@ use Rattle.kms_names.specs.Place.{is_behind}
 use Rattle.key_states.specs.declared.rows.KeyRow.{KeyRow}
 use Rattle.alias_map.specs.declared.rows.AliasRow.{AliasRow}
 use Rattle.grant_table.specs.declared.rows.GrantRow.{GrantRow}
+use Rattle.resource_tags.specs.declared.tags.Tag.{Tag as TagValue}
+use Rattle.resource_tags.specs.Tags.{with_tags}
 use Rattle.account_rows.specs.declared.entries.Entry.{Entry}
 use Rattle.account_rows.specs.declared.entries.What.{What}
-use Rattle.account_rows.specs.declared.entries.What.TheVariants.{CreateKey, GrantAdd, House}
+use Rattle.account_rows.specs.declared.entries.What.TheVariants.{CreateKey, Tag, GrantAdd, House}
 use Rattle.account_rows.specs.Sizes.{size_of, bytes_in}
 use Rattle.account_rows.specs.Changes.{keys_after, wants_house}
 use Rattle.account_rows.specs.AliasChanges.{aliases_after}
@@ -89,14 +91,36 @@ place_in_grant id = from_be_bytes w64 (0 ∷ 0 ∷ drop 26 id)
 
 -- a key or grant that an entry makes has an id that ends with the entry's place
 abbrev pub IsMadeHere : ℕ → What → Type 0
-IsMadeHere place (CreateKey key description policy) = place_in key ≡ place
+IsMadeHere place (CreateKey key kind description policy tags) = place_in key ≡ place
 IsMadeHere place (GrantAdd grant key grantee retiring operations constraint name) = place_in_grant grant ≡ place
 IsMadeHere place _ = Unit {0}
 
--- an entry may come behind a history: its time is before the year 10000, and there is room for it
+-- the keys and grants that entries make from a place on have ids that end with their places
+abbrev pub AreMadeFrom : ℕ → List Entry → Type 0
+AreMadeFrom place [] = Unit {0}
+AreMadeFrom place (entry ∷ more) = IsMadeHere place entry.what × AreMadeFrom (place + 1) more
+
+-- the most tags that a key has
+abbrev pub most_tags : ℕ
+most_tags = 50
+
+-- at most so many stand on a row, where there is one, once these were put
+abbrev pub TagsFitOn : Option KeyRow → List TagValue → Type 0
+TagsFitOn None tags = Unit {0}
+TagsFitOn (Some row) tags = length (with_tags row.tags tags) ≤ most_tags
+
+-- at most so many stand on the key of an entry behind it, where these are the keys before it
+abbrev pub TagsFit : List KeyRow → What → Type 0
+TagsFit keys (CreateKey key kind description policy tags) = length (with_tags [] tags) ≤ most_tags
+TagsFit keys (Tag key tags) = TagsFitOn (key_with keys key) tags
+TagsFit keys _ = Unit {0}
+
+-- an entry may come behind a history: its time is before the year 10000, there is room for it, and at most 50 tags of its
+-- key stand behind it
 pub record IsFitting (history : List Entry) (entry : Entry) : Type 0 where
   pub bound : entry.time < year_10000
   pub made : IsMadeHere (length history) entry.what
+  pub tagged : TagsFit (replay history).keys entry.what
   pub few : length history < most_entries
   pub fits : bytes_in history + size_of entry.what ≤ most_bytes
 

@@ -6,3 +6,4 @@ pub mod History
 pub mod Keys
 pub mod Numbered
 pub mod Replaying
+pub mod Laws

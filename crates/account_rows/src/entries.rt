@@ -1,18 +1,24 @@
 //! Entries of the history.
 
 ghost use Rattle.std.specs.Prelude.{◌≡◌, ◌+◌, length, min, IfOk};
-ghost use Rattle.account_rows.specs.Sizes.{size_of, name_size, retiring_size, constraint_size};
+ghost use Rattle.account_rows.specs.Sizes.{size_of, name_size, retiring_size, constraint_size, tags_size, texts_size};
 
 use grant_table::{Constraint, copy_of_name, copy_of_principal};
-use kms_names::{AliasName, GrantId, GrantOps, KeyId, NoMemory, Principal, Text, principal_len};
+use hmac_keys::KeyKind;
+use kms_names::{
+    AliasName, GrantId, GrantOps, KeyId, NoMemory, Principal, Text, TextList, principal_len,
+};
+use resource_tags::TagList;
 
 /// What an entry did.
 pub enum What {
-    /// A key of this id was made, with this description and policy.
+    /// A key of this id and kind was made, with this description and policy, and with these tags.
     CreateKey {
         key: KeyId,
+        kind: KeyKind,
         description: Text,
         policy: Text,
+        tags: TagList,
     },
     /// A key was enabled.
     Enable {
@@ -57,6 +63,16 @@ pub enum What {
         key: KeyId,
         text: Text,
     },
+    /// A key was given tags, each in place of that of its key, if there was one.
+    Tag {
+        key: KeyId,
+        tags: TagList,
+    },
+    /// The tags of these keys were taken from a key.
+    Untag {
+        key: KeyId,
+        keys: TextList,
+    },
     /// An alias was made, or an alias of this name was given another key.
     AliasPut {
         name: AliasName,
@@ -90,8 +106,10 @@ impl Drop for What {
         match self {
             What::CreateKey {
                 key: _,
+                kind: _,
                 description: _,
                 policy: _,
+                tags: _,
             } => {}
             What::Enable { key: _ } => {}
             What::Disable { key: _ } => {}
@@ -106,6 +124,8 @@ impl Drop for What {
             What::RotateNow { key: _ } => {}
             What::Policy { key: _, text: _ } => {}
             What::Description { key: _, text: _ } => {}
+            What::Tag { key: _, tags: _ } => {}
+            What::Untag { key: _, keys: _ } => {}
             What::AliasPut { name: _, key: _ } => {}
             What::AliasDrop { name: _ } => {}
             What::GrantAdd {
@@ -138,6 +158,28 @@ fn with_text(bytes: u64, text: &Text) -> u64
     ensures { result ≡ min (bytes + length text.now) 18446744073709551615 }
 {
     with_bytes(bytes, text.as_str().len())
+}
+
+// The number with the bytes of the keys and values of tags.
+fn with_tags(bytes: u64, tags: &TagList) -> u64
+    ensures { result ≡ min (bytes + tags_size tags.now) 18446744073709551615 }
+{
+    let mut all = bytes;
+    for tag in tags.as_slice() {
+        all = with_text(with_text(all, &tag.key), &tag.value);
+    }
+    all
+}
+
+// The number with the bytes of texts.
+fn with_texts(bytes: u64, texts: &TextList) -> u64
+    ensures { result ≡ min (bytes + texts_size texts.now) 18446744073709551615 }
+{
+    let mut all = bytes;
+    for text in texts.as_slice() {
+        all = with_text(all, text);
+    }
+    all
 }
 
 // The bytes of a grant's name, where it has one.
@@ -178,12 +220,16 @@ impl What {
         Ok(match self {
             What::CreateKey {
                 key,
+                kind,
                 description,
                 policy,
+                tags,
             } => What::CreateKey {
                 key: *key,
+                kind: *kind,
                 description: description.copy()?,
                 policy: policy.copy()?,
+                tags: tags.copy()?,
             },
             What::Enable { key } => What::Enable { key: *key },
             What::Disable { key } => What::Disable { key: *key },
@@ -206,6 +252,14 @@ impl What {
             What::Description { key, text } => What::Description {
                 key: *key,
                 text: text.copy()?,
+            },
+            What::Tag { key, tags } => What::Tag {
+                key: *key,
+                tags: tags.copy()?,
+            },
+            What::Untag { key, keys } => What::Untag {
+                key: *key,
+                keys: keys.copy()?,
             },
             What::AliasPut { name, key } => What::AliasPut {
                 name: name.copy()?,
@@ -234,8 +288,9 @@ impl What {
         })
     }
 
-    /// How many bytes it counts: 64, and those of its texts, of its names, of the printed ARNs of a grant's principals, and
-    /// of the encoded context of its constraint, or as many as a u64 can say. No memory is taken.
+    /// How many bytes it counts: 64, and those of its texts, of its names, of the printed ARNs of a grant's principals, of
+    /// the encoded context of its constraint, of the keys and values of its tags, and of the keys of the tags that it drops,
+    /// or as many as a u64 can say. No memory is taken.
     pub fn size(&self) -> u64
         ensures { result ≡ min (size_of self.now) 18446744073709551615 }
     {
@@ -243,9 +298,12 @@ impl What {
             What::CreateKey {
                 description,
                 policy,
+                tags,
                 ..
-            } => with_text(with_text(ENTRY, description), policy),
+            } => with_tags(with_text(with_text(ENTRY, description), policy), tags),
             What::Policy { text, .. } | What::Description { text, .. } => with_text(ENTRY, text),
+            What::Tag { tags, .. } => with_tags(ENTRY, tags),
+            What::Untag { keys, .. } => with_texts(ENTRY, keys),
             What::AliasPut { name, .. } | What::AliasDrop { name } => {
                 with_bytes(ENTRY, name.as_str().len())
             }

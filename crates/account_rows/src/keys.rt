@@ -119,8 +119,8 @@ impl HeldKeys {
     ghost use Rattle.std.specs.Prelude.{All, List, ◌<◌};
     ghost use Rattle.kms_names.specs.Moment.{year_10000};
     ghost use Rattle.account_rows.specs.Changes.{changed, gone_keys, house_kept, keys_after, wants_house};
-    ghost use Rattle.account_rows.specs.History.{key_with, key_behind, AreRows};
-    ghost use Rattle.account_rows.specs.Replaying.{CanTurn, change_by};
+    ghost use Rattle.account_rows.specs.History.{key_with, key_behind, AreRows, TagsFit};
+    ghost use Rattle.account_rows.specs.Replaying.{CanTurn, MayChange, change_by};
     ghost use Rattle.account_rows.specs.Keys.{row_at, placed, unplaced, kept_more, gone_at, items_of, is_id, AreCovered, AreInOrder};
 
     /// No keys. No memory is taken.
@@ -220,6 +220,7 @@ impl HeldKeys {
     ) -> Result<HeldKeys, NoMemory>
         requires order { AreInOrder self.now }
         requires turns { All CanTurn self.now }
+        requires may { MayChange change.now (key_with self.now key.now) }
         ensures { IfOk result (λ keys. keys ≡ changed key.now (change_by change.now) self.now) }
     {
         match self.get(key) {
@@ -309,16 +310,19 @@ impl HeldKeys {
         requires time { entry.now.time < year_10000 }
         requires are { AreRows place self.now }
         requires turns { All CanTurn self.now }
+        requires tagged { TagsFit self.now entry.now.what }
         ensures { IfOk result (λ keys. keys ≡ keys_after place entry.now.time entry.now.what self.now) }
     {
         let time = entry.time;
         match &entry.what {
             What::CreateKey {
                 key,
+                kind,
                 description,
                 policy,
+                tags,
             } => {
-                let row = new_key(alloc, place, time, key, description, policy)?;
+                let row = new_key(alloc, place, time, key, *kind, description, policy, tags)?;
                 self.with(HeldKey::new(alloc, row, default)?)
             }
             What::Enable { key } => {
@@ -353,6 +357,8 @@ impl HeldKeys {
             What::Description { key, text } => {
                 self.changed(alloc, key, &Change::Description(text), default)
             }
+            What::Tag { key, tags } => self.changed(alloc, key, &Change::Tag(tags), default),
+            What::Untag { key, keys } => self.changed(alloc, key, &Change::Untag(keys), default),
             What::AliasPut { .. }
             | What::AliasDrop { .. }
             | What::GrantAdd { .. }

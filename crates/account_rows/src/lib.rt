@@ -8,12 +8,14 @@ mod entries;
 mod grants;
 mod held;
 mod keys;
+mod laws;
 mod replay;
 mod rows;
 mod threads;
 
 pub use entries::{Entry, What};
 pub use held::{HeldKey, Lent};
+pub use laws::tags_are_the_last_given;
 pub use replay::{days_after, is_gone, same_key};
 pub use rows::{BYTES, ENTRIES, Rows};
 pub use threads::rows_cross_threads;

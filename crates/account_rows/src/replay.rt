@@ -1,15 +1,18 @@
 //! What entries do to the row of a key.
 
-ghost use Rattle.std.specs.Prelude.{◌≡◌, ◌<◌, ◌++◌, ◌∷◌, [], IfOk};
+ghost use Rattle.std.specs.Prelude.{◌≡◌, ◌<◌, ◌≤◌, ◌++◌, ◌∷◌, [], Some, length, IfOk};
 ghost use Rattle.kms_names.specs.Moment.{year_10000};
 ghost use Rattle.std.specs.Str.{bytes_eq};
 ghost use Rattle.account_rows.specs.Changes.{days_after, is_gone, new_key, rotated_if_due, with_version};
-ghost use Rattle.account_rows.specs.History.{place_in};
-ghost use Rattle.account_rows.specs.Replaying.{CanTurn, change_by};
+ghost use Rattle.account_rows.specs.History.{place_in, most_tags};
+ghost use Rattle.account_rows.specs.Replaying.{CanTurn, MayChange, change_by};
+ghost use Rattle.resource_tags.specs.Tags.{with_tags};
 
 use crate::held::{DefaultPolicy, HeldKey};
+use hmac_keys::KeyKind;
 use key_states::{KeyRow, State, Stored, Version, VersionList};
-use kms_names::{KeyId, NoMemory, Text};
+use kms_names::{KeyId, NoMemory, Text, TextList};
+use resource_tags::{TagFault, TagList, TagMap};
 use std::alloc::Global;
 
 // How many seconds a day has.
@@ -24,6 +27,8 @@ pub(crate) enum Change<'a> {
     Version { time: u64 },
     Policy(&'a Text),
     Description(&'a Text),
+    Tag(&'a TagList),
+    Untag(&'a TextList),
 }
 
 /// Whether two ids are the same. It takes no memory.
@@ -50,16 +55,31 @@ pub fn days_after(time: u64, days: u32) -> u64
     time + u64::from(days) * DAY
 }
 
+// The tags once these were put, which are not too many.
+fn with_tags(tags: &TagMap, more: &TagList) -> Result<TagMap, NoMemory>
+    requires { length (with_tags tags.now more.now) ≤ most_tags }
+    ensures { IfOk result (λ all. all ≡ with_tags tags.now more.now) }
+{
+    match tags.put_all(more.as_slice()) {
+        Ok(all) => Ok(all),
+        Err(TagFault::NoMemory) => Err(NoMemory),
+        Err(TagFault::TooMany) => unreachable!(),
+    }
+}
+
 // A key as it is made.
 pub(crate) fn new_key(
     alloc: Global,
     place: u64,
     time: u64,
     key: &KeyId,
+    kind: KeyKind,
     description: &Text,
     policy: &Text,
+    tags: &TagList,
 ) -> Result<KeyRow, NoMemory>
-    ensures { IfOk result (λ row. row ≡ new_key place time key.now description.now policy.now) }
+    requires { length (with_tags [] tags.now) ≤ most_tags }
+    ensures { IfOk result (λ row. row ≡ new_key place time key.now kind description.now policy.now tags.now) }
 {
     let mut versions = Vec::with_capacity(alloc, 1)?;
     versions.push(Version {
@@ -70,6 +90,7 @@ pub(crate) fn new_key(
         key: *key,
         born: place,
         made: time,
+        kind,
         description: description.copy()?,
         policy: policy.copy()?,
         stored: Stored::Enabled,
@@ -77,6 +98,7 @@ pub(crate) fn new_key(
         period: None,
         next: 0,
         on_demand: 0,
+        tags: with_tags(&TagMap::new(alloc), tags)?,
     })
 }
 
@@ -113,6 +135,7 @@ fn with_version(
         key: row.key,
         born: row.born,
         made: row.made,
+        kind: row.kind,
         description: row.description.copy()?,
         policy: row.policy.copy()?,
         stored: row.stored,
@@ -124,6 +147,7 @@ fn with_version(
         } else {
             row.on_demand
         },
+        tags: row.tags.share()?,
     })
 }
 
@@ -135,7 +159,8 @@ impl<'a> Change<'a> {
         held: &HeldKey,
         default: &DefaultPolicy,
     ) -> Result<HeldKey, NoMemory>
-        requires { CanTurn held.now }
+        requires turns { CanTurn held.now }
+        requires may { MayChange self.now (Some held.now) }
         ensures { IfOk result (λ row. row ≡ change_by self.now held.now) }
     {
         if let Change::Policy(text) = self {
@@ -154,6 +179,8 @@ impl<'a> Change<'a> {
             }
             Change::NoPeriod => row.period = None,
             Change::Description(text) => row.description = text.copy()?,
+            Change::Tag(tags) => row.tags = with_tags(&row.tags, tags)?,
+            Change::Untag(keys) => row.tags = row.tags.drop_keys(keys.as_slice())?,
             Change::Version { .. } | Change::Policy(_) => {}
         }
         held.with_row(alloc, row)

@@ -1,5 +1,4 @@
-use Rattle.std.proofs.Common.{◌≡◌, ◌<◌, IfOk, List, ap, sym, subst, ◌∙◌}
-use Rattle.std.specs.Prelude.{All}
+use Rattle.std.proofs.Common.{◌≡◌, IfOk, List, ap, sym, subst, ◌∙◌}
 use Rattle.key_states.specs.declared.rows.KeyRow.{KeyRow}
 use Rattle.account_rows.specs.declared.entries.What.{What}
 use Rattle.account_rows.specs.Changes.{new_key, keys_after}
@@ -12,7 +11,7 @@ returns-in_ok-new-in-CreateKey c =
     let rows = c.args.self.now in
     let place = c.args.place in
     let entry = c.args.entry.now in
-    let new = new_key place entry.time c.in-CreateKey.key c.in-CreateKey.description c.in-CreateKey.policy in
+    let new = new_key place entry.time c.in-CreateKey.key c.in-CreateKey.kind c.in-CreateKey.description c.in-CreateKey.policy c.in-CreateKey.tags in
     let made = c.in_ok-new-in-CreateKey.ensures ∙ c.in_ok-row-in-CreateKey.ensures in
     subst (λ (l : List KeyRow). IfOk c.with.result (λ (keys : List KeyRow). keys ≡ l))
     (ap (placed rows) made ∙ placed_behind rows new (λ k d lt. (c.requires.are.each k d lt).before)

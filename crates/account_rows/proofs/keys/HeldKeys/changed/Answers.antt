@@ -1,13 +1,12 @@
-use Rattle.std.proofs.Common.{◌≡◌, Bor, IfOk, List, None, Some, refl, ap, sym, subst, ◌∙◌}
+use Rattle.std.proofs.Common.{◌≡◌, Bor, IfOk, List, refl, ap, sym, subst, ◌∙◌}
 use Rattle.std.specs.Option.{option_map}
 use Rattle.std.proofs.lemmas.List.Elements.{recursion_from_All}
 use Rattle.key_states.specs.declared.rows.KeyRow.{KeyRow}
 use Rattle.account_rows.specs.declared.replay.Change.{Change}
 use Rattle.account_rows.specs.declared.replay.Change.TheVariants as change
-use Rattle.account_rows.specs.Changes.{changed}
-use Rattle.account_rows.specs.History.{key_with, place_in}
+use Rattle.account_rows.specs.History.{place_in}
 use Rattle.account_rows.specs.Keys.{placed}
-use Rattle.account_rows.specs.Replaying.{CanTurn, change_by}
+use Rattle.account_rows.specs.Replaying.{CanTurn, MayChange, change_by}
 use Rattle.account_rows.proofs.KeyFacts.{rising, none_changed, changed_at}
 use Rattle.account_rows.proofs.RowFacts.{found_all}
 use Rattle.account_rows.proofs.keys.HeldKeys.changed.Goals as goal
@@ -23,11 +22,18 @@ change_born change.NoPeriod row = refl
 change_born (change.Version time) row = refl
 change_born (change.Policy text) row = refl
 change_born (change.Description text) row = refl
+change_born (change.Tag tags) row = refl
+change_born (change.Untag keys) row = refl
 
-pub of-requires : goal.of-requires
-of-requires c =
+pub of-requires-clause-turns : goal.of-requires-clause-turns
+of-requires-clause-turns c =
     let found = sym c.get.ensures ∙ ap (option_map lent) c.in-Some.is in
     found_all CanTurn c.args.self.now c.args.key.now c.in-Some.held.now found c.requires.turns
+
+pub of-requires-clause-may : goal.of-requires-clause-may
+of-requires-clause-may c =
+    let found = sym c.get.ensures ∙ ap (option_map lent) c.in-Some.is in
+    subst (MayChange c.args.change.now) found c.requires.may
 
 pub returns-in_ok-of-in-Some : goal.returns-in_ok-of-in-Some
 returns-in_ok-of-in-Some c =

@@ -5,7 +5,7 @@ use Rattle.alias_map.specs.declared.rows.AliasRow.{AliasRow}
 use Rattle.alias_map.specs.Aliases.{AreBefore}
 use Rattle.grant_table.specs.declared.rows.GrantRow.{GrantRow}
 use Rattle.account_rows.specs.declared.entries.Entry.{Entry}
-use Rattle.account_rows.specs.History.{replay, latest_of, most_bytes, AreRows, IsGrantOf, IsMadeHere, IsFitting}
+use Rattle.account_rows.specs.History.{replay, latest_of, most_bytes, AreRows, IsGrantOf, IsMadeHere, TagsFit, IsFitting}
 use Rattle.account_rows.specs.Changes.{keys_after}
 use Rattle.account_rows.specs.AliasChanges.{aliases_after}
 use Rattle.account_rows.specs.GrantChanges.{grants_after}
@@ -21,6 +21,10 @@ use Rattle.account_rows.proofs.rows.Rows.apply.Goals as goal
 
 small : (a b : ℕ) → a + b ≤ most_bytes → min b 18446744073709551615 ≡ b
 small a b le = grind (arith, le)
+
+pub after-requires-clause-tagged : goal.after-requires-clause-tagged
+after-requires-clause-tagged c =
+    subst (λ (rows : List KeyRow). TagsFit rows c.args.entry.now.what) (ap (λ (h : List Entry). (replay h).keys) (sym c.self.view_is) ∙ sym c.self.invariant.keys) c.requires.tagged
 
 pub aliases_after-requires-clause-before : goal.aliases_after-requires-clause-before
 aliases_after-requires-clause-before c =
