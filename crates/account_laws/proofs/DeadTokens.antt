@@ -16,7 +16,7 @@ use Rattle.kms_json.specs.declared.asks.Ask.{Ask}
 use Rattle.kms_json.specs.declared.asks.grants.RetiredGrant.TheVariants as retired
 use Rattle.grant_table.specs.declared.rows.GrantRow.{GrantRow}
 use Rattle.grant_table.specs.Grants.{grant_with}
-use Rattle.account_crypto.specs.Crypto.{encrypts, decrypts, re_encrypts, generates_data_key}
+use Rattle.account_crypto.specs.Crypto.{encrypts, decrypts, re_encrypts, generates_data_key, generates_mac, verifies_mac}
 use Rattle.account_crypto.specs.declared.data_keys.DataKeyForm.TheVariants as form
 use Rattle.account_keys.specs.Keys.{describes_key}
 use Rattle.account_keys.specs.Grants.{creates_grant, retires_grant}
@@ -83,6 +83,8 @@ module _ (view : View) (grant token : List ℕ) (gone : grant_with view.grants g
     re_encrypt = λ x c. let op = re_encrypts view x in refused view op.parts token is c (spent view.places) (λ found ready. op.takes);
     generate_sealed = λ x c. let op = generates_data_key view x form.Sealed in refused view op.parts token is c (spent view.places) (λ found ready. op.takes);
     generate_data_key = λ x recipient c. let op = generates_data_key view x (form.Plaintext recipient) in refused view op.parts token is c (spent view.places) (λ found ready. op.takes);
+    generate_mac = λ x c. let op = generates_mac view x in refused view op.parts token is c (spent view.places) (λ found ready. op.takes);
+    verify_mac = λ x c. let op = verifies_mac view x in refused view op.parts token is c (spent view.places) (λ found ready. op.takes);
     create_grant = λ x c. let op = creates_grant view x in refused view op.parts token is c (limited view) op.does;
     retire_grant = λ dry_run. let op = retires_grant view (retired.OfToken token) dry_run in unfound view op.parts refusal.InvalidGrantToken no_grant (limited view) op.does;
   }

@@ -27,6 +27,8 @@ use Rattle.kms_json.specs.declared.refusals.Refusal.TheVariants as refusal
 use Rattle.kms_json.specs.declared.refusals.Unsupported.TheVariants.{Recipient}
 use Rattle.account_steps.specs.declared.facts.RealmFacts.{RealmFacts}
 use Rattle.account_rows.specs.declared.entries.Entry.{Entry}
+use Rattle.hmac_keys.specs.declared.kinds.KeyKind.{KeyKind}
+use Rattle.hmac_keys.specs.declared.kinds.KeyKind.TheVariants.{Symmetric}
 use Rattle.key_states.specs.declared.rows.KeyRow.{KeyRow}
 use Rattle.key_states.specs.declared.states.State.TheVariants as state
 use Rattle.key_states.specs.declared.states.Stored.{Stored}
@@ -54,11 +56,13 @@ use Rattle.blob_format.proofs.BlobNames.{named_blob}
 use Rattle.account_core.proofs.GoingOn.{decide_goes_on}
 use Rattle.account_rows.specs.Changes.{HasVersions, is_gone, is_state_gone}
 use Rattle.account_rows.proofs.RowFacts.{found_key, found_all, latest-push}
-use Rattle.account_rows.proofs.VersionFacts.{versions_grow}
+use Rattle.account_rows.proofs.VersionFacts.{versions_grow, kind_stays}
 use Rattle.account_rows.proofs.HouseFacts.{kept_once}
 use Rattle.account_core.proofs.Fitting.{laws_of, comes_next, lawful_front, id_ends, grant_ends}
 use Rattle.account_steps.proofs.Asking.{one_passes}
-use Rattle.account_laws.proofs.LawSealings.{IsText, is_sealed, there_of}
+use Rattle.account_steps.proofs.Holding.{there_of, live_of}
+use Rattle.account_laws.proofs.StateFacts.{by_state}
+use Rattle.account_laws.proofs.LawSealings.{IsText, is_sealed}
 use Rattle.account_steps.proofs.Passing.{goes_through, stops_at_state}
 
 -- ---- the initialization vectors of a pass
@@ -185,28 +189,9 @@ module _ (view : View) (row : KeyRow) (version : ℕ) (there : key_held view row
       ∙ ap (λ (o : Option Refusal). unless o (source_in view action.Decrypt (alias_of given) blob (record { key = row.key; version = version }))) same
       ∙ ap (λ (o : Option KeyRow). and_then (ok_or o (refusal.AccessDenied view.caller action.Decrypt (arn_of view.facts row.key))) (λ r. Ok (record { row = r; alias = alias_of given; version = version; bytes = blob }))) there
 
-  -- the state of the key, as Decrypt goes by it
-  by_state : (stored : Stored) → row.stored ≡ stored → is_gone view.moment row ≡ false
-      → unfit_one view (record { action = action.Decrypt; key = row }) ≡ exception_of (arn_of view.facts row.key) stored
-  unfolding unfit_one
-  by_state at.Enabled is live = ap (λ (s : Stored). refused_state view row (refusal_of (need_of action.Decrypt) (state_of s view.moment))) is
-  by_state at.Disabled is live = ap (λ (s : Stored). refused_state view row (refusal_of (need_of action.Decrypt) (state_of s view.moment))) is
-  by_state (at.Pending date days) is live =
-      let not_yet : nat_le date view.moment ≡ false = pending_live date (ap (λ (s : Stored). is_state_gone (state_of s view.moment)) (sym is) ∙ live) in
-      ap (λ (s : Stored). refused_state view row (refusal_of (need_of action.Decrypt) (state_of s view.moment))) is
-      ∙ ap (λ (b : Bool). refused_state view row (refusal_of (need_of action.Decrypt) (if b then state.Gone else state.PendingDeletion))) not_yet
-      ∙ ap (λ (s : Stored). Some (refusal.InvalidState (arn_of view.facts row.key) (told_state s))) is
-    where
-      pending_live : (date : ℕ) → is_state_gone (if nat_le date view.moment then state.Gone else state.PendingDeletion) ≡ false → nat_le date view.moment ≡ false
-      pending_live date e = by_test (nat_le date view.moment) e
-        where
-          by_test : (b : Bool) → is_state_gone (if b then state.Gone else state.PendingDeletion) ≡ false → b ≡ false
-          by_test true e = cc
-          by_test false e = refl
-
   decrypted_is : (d : Decrypt) (given : Option Named) (plaintext : List ℕ) (e : Option Refusal) → key_if_given view d.key_id ≡ Ok given → other_key given row.key ≡ None → named_in d.blob ≡ Some (record { key = row.key; version = version })
       → version ≤ newest_version row → opened view.facts.root d.blob d.context ≡ Some plaintext → denied view ((decrypts view d).parts.questions (source given d.blob)) ≡ None → dead_token view d.grant_tokens ≡ None
-      → unfit_one view (record { action = action.Decrypt; key = row }) ≡ e → unfit d.algorithm ≡ None → d.recipient ≡ false → d.dry_run ≡ false
+      → unfit_one view (record { action = action.Decrypt; key = row }) ≡ e → unfit row.kind d.algorithm ≡ None → d.recipient ≡ false → d.dry_run ≡ false
       → (decided_read (reads view (decrypts view d)) view.places).reply ≡ unless_excepted e (reply.Decrypted plaintext (arn_of view.facts row.key))
   decrypted_is d given plaintext None is right named old opens_to allowed live state fit no_recipient no_dry_run =
       let own : (decrypts view d).parts.own (source given d.blob) ≡ Ok plaintext =
@@ -229,25 +214,17 @@ decrypt_reply facts history y places d enough body =
 
 -- who may decrypt under the key is allowed it
 may_open : (view : View) (d : Decrypt) (row : KeyRow) (alias : Option (List ℕ)) (context : List Pair) → AreIdentityPolicies (callers_policies view.facts.identities view.caller) → d.context ≡ context
-    → MayAsk view (on_key action.Decrypt row (of_context view row.key alias context)) → denied view (on_key action.Decrypt row (of_context view row.key alias d.context) ∷ []) ≡ None
+    → MayAsk view (on_key action.Decrypt row (of_context view row alias context)) → denied view (on_key action.Decrypt row (of_context view row alias d.context) ∷ []) ≡ None
 may_open view d row alias context kinds same may =
-    ap (λ (pairs : List Pair). denied view (on_key action.Decrypt row (of_context view row.key alias pairs) ∷ [])) same
-    ∙ ap (λ (o : Option Refusal). or_else o None) ((one_passes view kinds (on_key action.Decrypt row (of_context view row.key alias context))).1 may)
-
-live_of : (moment : ℕ) (o : Option KeyRow) (row : KeyRow) → unless_gone moment o ≡ Some row → is_gone moment row ≡ false
-live_of moment (Some found) row e = by_test (is_gone moment found) refl e
-  where
-    by_test : (b : Bool) → is_gone moment found ≡ b → (if b then None else Some found) ≡ Some row → is_gone moment row ≡ false
-    by_test true is e = cc
-    by_test false is e = let same : found ≡ row = cc in ap (is_gone moment) (sym same) ∙ is
-live_of moment None row e = cc
+    ap (λ (pairs : List Pair). denied view (on_key action.Decrypt row (of_context view row alias pairs) ∷ [])) same
+    ∙ ap (λ (o : Option Refusal). or_else o None) ((one_passes view kinds (on_key action.Decrypt row (of_context view row alias context))).1 may)
 
 -- the blob of a version that a key had at a history, at one that goes on from it
 opened_later : (facts : RealmFacts) (history more : List Entry) (y : Ask) (places : Places) (s : Sealing) (row : KeyRow) (version : ℕ) → IsLawful facts (history ++ more)
-    → key_with (replay history).keys row.key ≡ Some row → version ≤ newest_version row → Opens facts row version s.context s.plaintext s.blob → s.arn ≡ arn_of facts row.key
+    → key_with (replay history).keys row.key ≡ Some row → row.kind ≡ Symmetric → version ≤ newest_version row → Opens facts row version s.context s.plaintext s.blob → s.arn ≡ arn_of facts row.key
     → AreIdentityPolicies (callers_policies facts.identities y.caller) → (asks : AsksToOpen facts (history ++ more) y places s.blob s.context)
     → reply_to facts (history ++ more) y places ≡ unless_excepted (exception_of s.arn asks.held.stored) (reply.Decrypted s.plaintext s.arn)
-opened_later facts history more y places s row version lawful there had made arn_is kinds asks =
+opened_later facts history more y places s row version lawful there symmetric had made arn_is kinds asks =
     let d : Decrypt = asks.fields in
     let view : View = view_of facts (history ++ more) y places in
     let laws = laws_of facts (history ++ more) lawful in
@@ -258,13 +235,15 @@ opened_later facts history more y places s row version lawful there had made arn
     let held : key_held view later.key ≡ Some later = ap (key_held view) named_key ∙ asks.is_held in
     let grows : newest_version row ≤ newest_version later =
     versions_grow history more row.key row later laws.made there (ap (key_with view.keys) (sym made.key) ∙ found) id in
+    let kind : later.kind ≡ Symmetric = kind_stays history more row.key row later laws.made there (ap (key_with view.keys) (sym made.key) ∙ found) id ∙ symmetric in
+    let fit : unfit later.kind d.algorithm ≡ None = ap (λ (k : KeyKind). unfit k d.algorithm) kind ∙ asks.fit in
     let named : named_in d.blob ≡ Some (record { key = later.key; version = version }) =
     ap named_in asks.same_blob ∙ made.named ∙ ap (λ (key : List ℕ). Some (record { key = key; version = version })) (sym id) in
-    let state = by_state view later version held later.stored refl (live_of view.moment (key_with view.keys (name_in s.blob).key) later asks.is_held) in
+    let state = by_state view later action.Decrypt refl later.stored refl (live_of view.moment (key_with view.keys (name_in s.blob).key) later asks.is_held) in
     let answer = decrypted_is view later version held d asks.named s.plaintext (exception_of (arn_of facts later.key) later.stored)
     asks.is_named (ap (other_key asks.named) named_key ∙ asks.right_key) named (omega (arith, had, grows))
     (ap (λ (b : List ℕ). opened facts.root b d.context) asks.same_blob ∙ ap (opened facts.root s.blob) asks.same_context ∙ made.opens_to)
-    (may_open view d later (alias_of asks.named) s.context kinds asks.same_context asks.may) asks.live_tokens state asks.fit asks.no_recipient asks.no_dry_run in
+    (may_open view d later (alias_of asks.named) s.context kinds asks.same_context asks.may) asks.live_tokens state fit asks.no_recipient asks.no_dry_run in
     decrypt_reply facts (history ++ more) y places d asks.there asks.body
     ∙ answer
     ∙ ap (λ (arn : List ℕ). unless_excepted (exception_of arn later.stored) (reply.Decrypted s.plaintext arn)) (ap (arn_of facts) id ∙ sym arn_is)
@@ -276,7 +255,7 @@ decrypted_again facts history more x y places other_places s lawful proper seale
     let versions = sealing_versions facts history is.row before is.there in
     let size = key_size facts history is.row before is.there in
     let made = sealed_opens facts is.row s.context s.plaintext places size versions (is.size proper) in
-    opened_later facts history more y other_places s is.row (newest_version is.row) lawful is.there (omega arith)
+    opened_later facts history more y other_places s is.row (newest_version is.row) lawful is.there is.symmetric (omega arith)
     (subst (Opens facts is.row (newest_version is.row) s.context s.plaintext) (sym is.blob) made) is.arn kinds asks
 
 pub earlier_decrypted : EarlierBlobsAreDecrypted
@@ -291,7 +270,7 @@ earlier_decrypted facts history more y places s lawful is kinds asks =
       text_given = is.text_given;
       text_fits = is.text_fits;
     } in
-    opened_later facts history more y places s is.row is.version lawful is.there is.had
+    opened_later facts history more y places s is.row is.version lawful is.there is.symmetric is.had
     (subst (Opens facts is.row is.version s.context s.plaintext) (sym is.blob) (sealed_one_opens facts is.row is.version is.iv s.context s.plaintext can)) is.arn kinds asks
 
 -- ---- times

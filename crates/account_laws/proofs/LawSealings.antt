@@ -26,6 +26,8 @@ use Rattle.kms_json.specs.Asks.{IsSized, IsSizedReading}
 use Rattle.kms_json.proofs.Sizes.{asked_sized}
 use Rattle.account_steps.specs.declared.facts.RealmFacts.{RealmFacts}
 use Rattle.account_rows.specs.declared.entries.Entry.{Entry}
+use Rattle.hmac_keys.specs.declared.kinds.KeyKind.{KeyKind}
+use Rattle.hmac_keys.specs.declared.kinds.KeyKind.TheVariants.{Symmetric, Hmac256}
 use Rattle.key_states.specs.declared.rows.KeyRow.{KeyRow}
 use Rattle.account_crypto.specs.declared.re_encrypt.Turning.{Turning}
 use Rattle.account_steps.specs.declared.places.Uses.{Uses}
@@ -38,15 +40,15 @@ use Rattle.alias_map.specs.Aliases.{row_named}
 use Rattle.account_steps.specs.declared.checks.Named.{Named}
 use Rattle.account_steps.specs.View.{View, view_of, unless_gone, key_held, aliased}
 use Rattle.account_rows.specs.Changes.{is_gone}
-use Rattle.account_steps.specs.Steps.{unless, or_else, and_then, unfit, named_by_id, named_by, named_by_alias, key_of_alias, alias_of, key_referred, reference_of, key_of, key_if_given, blob_name, other_key, held_key, source_in, source_of, newest_version, opens, seals, draws, arn_of}
+use Rattle.account_steps.specs.Steps.{unless, or_else, and_then, other_kind, unfit, unfit_algorithm, alias_of, key_if_given, key_of, other_key, blob_name, held_key, source_in, source_of, newest_version, opens, seals, draws, arn_of}
 use Rattle.account_steps.specs.Parts.{Outcome, spent, no_more_draws, no_more_ivs, after}
 use Rattle.account_crypto.specs.Crypto.{one_iv, words_and_iv, encrypts, re_encrypts, generates_data_key}
 use Rattle.account_crypto.specs.declared.data_keys.DataKeyForm.TheVariants as form
 use Rattle.account_core.specs.Decide.{decide, IsProper}
 use Rattle.account_laws.specs.Laws.{Sealing, HasSealed, encrypted, re_encrypted, data_key, sealed_data_key}
 use Rattle.account_rows.proofs.RowFacts.{found_key}
-use Rattle.account_steps.proofs.Passing.{found_of, next_of, ok_of, ok_same, read_passed}
-use Rattle.account_steps.proofs.Holding.{there_of, IsThere, key_there}
+use Rattle.account_steps.proofs.Passing.{found_of, none_of, next_of, ok_same, read_passed}
+use Rattle.account_steps.proofs.Holding.{key_there}
 use Rattle.account_laws.proofs.Serving.{Serves, serves_of}
 
 -- ---- an initialization vector that is left
@@ -95,11 +97,26 @@ sized_draw facts size places text is sized =
     let size_is : length text ≡ size = ap length is ∙ draws_size facts size places in
     (omega (arith, sized.0), omega (arith, sized.1))
 
+-- ---- the kind of the key
+
+-- a key that is of the kind that is wanted
+symmetric_of : (kind : KeyKind) → other_kind Symmetric kind ≡ None → kind ≡ Symmetric
+symmetric_of Symmetric e = refl
+symmetric_of Hmac256 e = cc
+
+first_of : (first second : Option Refusal) → or_else first second ≡ None → first ≡ None
+first_of (Some why) second e = e
+first_of None second e = refl
+
+symmetric_by : (kind : KeyKind) (algorithm : Option (List ℕ)) → unfit kind algorithm ≡ None → kind ≡ Symmetric
+symmetric_by kind algorithm e = symmetric_of kind (first_of (other_kind Symmetric kind) (unfit_algorithm algorithm) e)
+
 -- ---- what was sealed, under which key, with which initialization vector
 
 pub record IsSealed (facts : RealmFacts) (history : List Entry) (x : Ask) (places : Places) (s : Sealing) : Type 0 where
   pub row : KeyRow
   pub there : key_with (replay history).keys row.key ≡ Some row
+  pub symmetric : row.kind ≡ Symmetric
   pub blob : s.blob ≡ seals facts row s.context s.plaintext places
   pub arn : s.arn ≡ arn_of facts row.key
   pub few : places.ivs < 2 ^ 48
@@ -138,7 +155,7 @@ module _ (facts : RealmFacts) (history : List Entry) (x : Ask) (places : Places)
 
   -- the turning's keys, and what it opens to
   record HasTurned (r : ReEncrypt) (turning : Turning) : Type 0 where
-    there : IsThere view turning.to
+    there : key_with (replay history).keys turning.to.row.key ≡ Some turning.to.row
     source : IsSourceOf r.blob turning.source
 
   turning_is : (r : ReEncrypt) (turning : Turning) → (re_encrypts view r).parts.found ≡ Ok turning → HasTurned r turning
@@ -155,10 +172,15 @@ module _ (facts : RealmFacts) (history : List Entry) (x : Ask) (places : Places)
   turned : (r : ReEncrypt) (turning : Turning) (text plaintext : List ℕ) → HasTurned r turning → (re_encrypts view r).parts.own turning ≡ Ok text
       → opened facts.root r.blob r.source_context ≡ Some plaintext → plaintext ≡ text
   turned r turning text plaintext turns own opens_to =
-      let second = next_of (unfit r.source_algorithm) (unless (unfit r.algorithm) (opens facts turning.source r.source_context)) text own in
-      let third = next_of (unfit r.algorithm) (opens facts turning.source r.source_context) text second in
+      let second = next_of (unfit turning.source.row.kind r.source_algorithm) (unless (unfit turning.to.row.kind r.algorithm) (opens facts turning.source r.source_context)) text own in
+      let third = next_of (unfit turning.to.row.kind r.algorithm) (opens facts turning.source r.source_context) text second in
       opened_is (nat_le turning.source.version (newest_version turning.source.row)) (opened facts.root turning.source.bytes r.source_context) text plaintext third
       (ap (λ (bytes : List ℕ). opened facts.root bytes r.source_context) turns.source ∙ opens_to)
+
+  turned_kind : (r : ReEncrypt) (turning : Turning) (text : List ℕ) → (re_encrypts view r).parts.own turning ≡ Ok text → turning.to.row.kind ≡ Symmetric
+  turned_kind r turning text own =
+      let second = next_of (unfit turning.source.row.kind r.source_algorithm) (unless (unfit turning.to.row.kind r.algorithm) (opens facts turning.source r.source_context)) text own in
+      symmetric_by turning.to.row.kind r.algorithm (none_of (unfit turning.to.row.kind r.algorithm) (opens facts turning.source r.source_context) text second)
 
 -- ---- a request that was answered with a sealed text
 
@@ -173,6 +195,7 @@ is_sealed facts history x places s (encrypted e blob arn body replied) =
     record {
       row = p.found.row;
       there = key_there seen e.key_id p.found p.found_is;
+      symmetric = symmetric_by p.found.row.kind e.algorithm (none_of (unfit p.found.row.kind e.algorithm) (Ok tt) p.ready p.own_is);
       blob = cc;
       arn = cc;
       few = one.few;
@@ -193,6 +216,7 @@ is_sealed facts history x places s (re_encrypted r blob plaintext arn source_arn
     record {
       row = p.found.to.row;
       there = turns.there;
+      symmetric = turned_kind facts history x places r p.found p.ready p.own_is;
       blob = blob_is ∙ ap (λ (t : List ℕ). seals facts p.found.to.row r.context t places) (sym same);
       arn = cc;
       few = one.few;
@@ -212,6 +236,7 @@ is_sealed facts history x places s (data_key key recipient blob plaintext arn bo
     record {
       row = p.found.row;
       there = key_there seen key.key_id p.found p.found_is;
+      symmetric = symmetric_of p.found.row.kind (none_of (other_kind Symmetric p.found.row.kind) _ p.ready p.own_is);
       blob = blob_is ∙ ap (λ (t : List ℕ). seals facts p.found.row key.context t places) (sym drawn);
       arn = cc;
       few = one.few;
@@ -229,6 +254,7 @@ is_sealed facts history x places s (sealed_data_key key blob arn body replied) =
     record {
       row = p.found.row;
       there = key_there seen key.key_id p.found p.found_is;
+      symmetric = symmetric_of p.found.row.kind (none_of (other_kind Symmetric p.found.row.kind) _ p.ready p.own_is);
       blob = cc;
       arn = cc;
       few = one.few;

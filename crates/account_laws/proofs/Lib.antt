@@ -4,5 +4,7 @@ mod Retiring
 mod DeadTokens
 mod Standing
 mod Joining
+mod StateFacts
 mod LawSealings
 pub mod LawFacts
+mod MacFacts

@@ -23,6 +23,7 @@ use Rattle.kms_json.specs.declared.replies.Reply.{Reply}
 use Rattle.kms_json.specs.declared.replies.Reply.TheVariants as reply
 use Rattle.kms_json.specs.declared.replies.Reply.TheVariants.{Refused}
 use Rattle.kms_json.specs.declared.states.KeyState.TheVariants as told
+use Rattle.hmac_keys.specs.declared.kinds.KeyKind.TheVariants.{Symmetric}
 use Rattle.key_states.specs.declared.states.Stored.{Stored}
 use Rattle.key_states.specs.declared.states.Stored.TheVariants as stored
 use Rattle.account_steps.specs.declared.facts.RealmFacts.{RealmFacts}
@@ -38,7 +39,7 @@ use Rattle.grant_table.specs.declared.rows.GrantRow.{GrantRow}
 use Rattle.grant_table.specs.Grants.{grant_with}
 use Rattle.account_rows.specs.History.{State, replay, key_with, housekeeping_of}
 use Rattle.account_steps.specs.View.{View, view_of, key_held}
-use Rattle.account_steps.specs.Steps.{unfit, draws, key_if_given, other_key, alias_of, arn_of, newest_version}
+use Rattle.account_steps.specs.Steps.{unfit_algorithm, draws, key_if_given, other_key, alias_of, arn_of, newest_version}
 use Rattle.account_steps.specs.declared.checks.Named.{Named}
 use Rattle.authority.specs.Setting.{Particulars}
 use Rattle.account_steps.specs.Authority.{Question, on_key, on_other, retiring, action_of, resource_of, asked_of, denied, setting_of, granted, IsGranted, MayRetire, MayAsk}
@@ -88,9 +89,9 @@ pub record AsksToOpen (facts : RealmFacts) (history : List Entry) (y : Ask) (pla
   pub right_key : other_key named (name_in blob).key ≡ None
   pub held : KeyRow
   pub is_held : key_held (view_of facts history y places) (name_in blob).key ≡ Some held
-  pub may : MayAsk (view_of facts history y places) (on_key action.Decrypt held (of_context (view_of facts history y places) held.key (alias_of named) context))
+  pub may : MayAsk (view_of facts history y places) (on_key action.Decrypt held (of_context (view_of facts history y places) held (alias_of named) context))
   pub live_tokens : dead_token (view_of facts history y places) fields.grant_tokens ≡ None
-  pub fit : unfit fields.algorithm ≡ None
+  pub fit : unfit_algorithm fields.algorithm ≡ None
   pub no_recipient : fields.recipient ≡ false
   pub no_dry_run : fields.dry_run ≡ false
   pub there : lacking (length history) y.after ≡ None
@@ -116,12 +117,13 @@ SealedIsDecryptedAgain =
     → reply_to facts (history ++ more) y other_places ≡ unless_excepted (exception_of sealing.arn asks.held.stored) (reply.Decrypted sealing.plaintext sealing.arn)
 
 -- a blob of form 1, as earlier versions sealed it: of this text under this context, with any initialization vector, under the
--- material of a version that a key had at this history
+-- material of a version that a symmetric key had at this history
 pub record SealedEarlier (facts : RealmFacts) (history : List Entry) (sealing : Sealing) : Type 0 where
   pub row : KeyRow
   pub version : ℕ
   pub iv : List ℕ
   pub there : key_with (replay history).keys row.key ≡ Some row
+  pub symmetric : row.kind ≡ Symmetric
   pub version_from_one : 1 ≤ version
   pub had : version ≤ newest_version row
   pub iv_size : length iv ≡ 12

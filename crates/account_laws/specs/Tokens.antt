@@ -8,6 +8,8 @@ use Rattle.kms_json.specs.declared.asks.cryptography.Decrypt.{Decrypt}
 use Rattle.kms_json.specs.declared.asks.cryptography.ReEncrypt.{ReEncrypt}
 use Rattle.kms_json.specs.declared.asks.cryptography.DataKey.{DataKey}
 use Rattle.kms_json.specs.declared.asks.grants.CreateGrant.{CreateGrant}
+use Rattle.kms_json.specs.declared.asks.macs.GenerateMac.{GenerateMac}
+use Rattle.kms_json.specs.declared.asks.macs.VerifyMac.{VerifyMac}
 use Rattle.kms_json.specs.declared.asks.grants.RetiredGrant.TheVariants as retired
 use Rattle.kms_json.specs.declared.refusals.Refusal.TheVariants as refusal
 use Rattle.account_steps.specs.declared.facts.RealmFacts.{RealmFacts}
@@ -17,7 +19,7 @@ use Rattle.account_rows.specs.declared.entries.What.TheVariants as what
 use Rattle.account_steps.specs.View.{View, view_of}
 use Rattle.account_steps.specs.Authority.{denied}
 use Rattle.account_steps.specs.Parts.{Parts, grant_id_of}
-use Rattle.account_crypto.specs.Crypto.{encrypts, decrypts, re_encrypts, generates_data_key}
+use Rattle.account_crypto.specs.Crypto.{encrypts, decrypts, re_encrypts, generates_data_key, generates_mac, verifies_mac}
 use Rattle.account_crypto.specs.declared.data_keys.DataKeyForm.TheVariants as form
 use Rattle.account_keys.specs.Keys.{describes_key}
 use Rattle.account_keys.specs.Grants.{creates_grant}
@@ -42,6 +44,8 @@ pub record RefusesToken (view : View) (token : List ℕ) : Type 0 where
       → read_outcome view (reading.GenerateDataKeyWithoutPlaintext x) ≡ Err refusal.InvalidGrantToken
   pub generate_data_key : (x : DataKey) (recipient : Bool) → ComesToTokens view (generates_data_key view x (form.Plaintext recipient)).parts token
       → read_outcome view (reading.GenerateDataKey x recipient) ≡ Err refusal.InvalidGrantToken
+  pub generate_mac : (x : GenerateMac) → ComesToTokens view (generates_mac view x).parts token → read_outcome view (reading.GenerateMac x) ≡ Err refusal.InvalidGrantToken
+  pub verify_mac : (x : VerifyMac) → ComesToTokens view (verifies_mac view x).parts token → read_outcome view (reading.VerifyMac x) ≡ Err refusal.InvalidGrantToken
   pub create_grant : (x : CreateGrant) → ComesToTokens view (creates_grant view x).parts token → change_outcome view (changing.CreateGrant x) ≡ Err refusal.InvalidGrantToken
   pub retire_grant : (dry_run : Bool) → change_outcome view (changing.RetireGrant (retired.OfToken token) dry_run) ≡ Err refusal.InvalidGrantToken
 

@@ -1,6 +1,7 @@
 //! Laws of what the account answers. Each stands as the contract of a function that does nothing.
 
 ghost use Rattle.account_laws.specs.Laws.{SealedIsDecryptedAgain, EarlierBlobsAreDecrypted, OnePassRepeatsNoIv, PassesShareNoIv, BootsShareNoIv, TimesNeverFall, HouseIsKeptOnce, KeysDiffer, GrantsDiffer, PassesWhereStatementsAllow, PassesWithoutACeiling, NamesTheFirstDenied, GrantsPermit, DroppedGrantsStayAway, RowsStandInOrder, ListsOfLawfulHistoriesAreWhole};
+ghost use Rattle.account_laws.specs.Macs.{MacsAreVerifiedAgain};
 ghost use Rattle.account_laws.specs.Tokens.{DeadTokensAreRefused};
 ghost use Rattle.account_steps.specs.View.{View};
 ghost use Rattle.account_lists.specs.Lists.{PartsOfListsMakeTheWhole};
@@ -14,6 +15,15 @@ ghost use Rattle.account_lists.specs.Lists.{PartsOfListsMakeTheWhole};
 /// is scheduled, the reply is the exception of that state.
 pub fn sealed_is_decrypted_again()
     ensures { SealedIsDecryptedAgain }
+{}
+
+/// The MAC that GenerateMac answered for a message is valid to VerifyMac, at that history and at every lawful one that
+/// goes on from it, where the key is there and enabled: by the same algorithm, for any pass and any caller whom statements
+/// or grants allow it, where the request has no DryRun, and waits for no entry that isn't there. Every other MAC is
+/// KMSInvalidMacException there. Where the key is disabled, or its deletion is scheduled, the reply is the exception of that
+/// state.
+pub fn macs_are_verified_again()
+    ensures { MacsAreVerifiedAgain }
 {}
 
 /// A blob of form 1, which earlier versions made, is decrypted in the same way: one of a text that was

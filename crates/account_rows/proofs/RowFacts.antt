@@ -25,12 +25,13 @@ use Rattle.account_rows.specs.Sizes.{size_of, bytes_in}
 pub record Follows (row new : KeyRow) : Type 0 where
   pub key : new.key ≡ row.key
   pub born : new.born ≡ row.born
+  pub kind : new.kind ≡ row.kind
   pub turned : new.on_demand ≤ row.on_demand + 1
   pub more : length row.versions ≤ length new.versions
   pub few : length new.versions ≤ length row.versions + 1
 
 pub follows_itself : (row : KeyRow) → Follows row row
-follows_itself row = record { key = refl; born = refl; turned = omega arith; more = omega arith; few = omega arith }
+follows_itself row = record { key = refl; born = refl; kind = refl; turned = omega arith; more = omega arith; few = omega arith }
 
 on_demand_more : (b : Bool) (n : ℕ) → (if b then n + 1 else n) ≤ n + 1
 on_demand_more true n = omega arith
@@ -40,15 +41,17 @@ versioned : (time : ℕ) (on_demand : Bool) (next : ℕ) (row : KeyRow) → Foll
 versioned time on_demand next row = record {
   key = refl;
   born = refl;
+  kind = refl;
   turned = on_demand_more on_demand row.on_demand;
   more = omega (arith, length-append row.versions (record { time = time; on_demand = on_demand } ∷ []));
   few = omega (arith, length-append row.versions (record { time = time; on_demand = on_demand } ∷ []));
 }
 
-alike : (new row : KeyRow) → new.key ≡ row.key → new.born ≡ row.born → new.on_demand ≡ row.on_demand → new.versions ≡ row.versions → Follows row new
-alike new row key born on_demand versions = record {
+alike : (new row : KeyRow) → new.key ≡ row.key → new.born ≡ row.born → new.kind ≡ row.kind → new.on_demand ≡ row.on_demand → new.versions ≡ row.versions → Follows row new
+alike new row key born kind on_demand versions = record {
   key = key;
   born = born;
+  kind = kind;
   turned = omega (arith, on_demand);
   more = omega (arith, ap length versions);
   few = omega (arith, ap length versions);
@@ -108,17 +111,17 @@ FollowsBy (Some (changes key f)) = (row : KeyRow) → Follows row (f row)
 FollowsBy (Some (houses time)) = Unit {0}
 
 follows_by : (n time : ℕ) (w : What) → FollowsBy (key_change n time w)
-follows_by n time (what.Enable key) = λ row. alike _ row refl refl refl refl
-follows_by n time (what.Disable key) = λ row. alike _ row refl refl refl refl
-follows_by n time (what.Schedule key date days) = λ row. alike _ row refl refl refl refl
-follows_by n time (what.Cancel key) = λ row. alike _ row refl refl refl refl
-follows_by n time (what.RotationOn key period) = λ row. alike _ row refl refl refl refl
-follows_by n time (what.RotationOff key) = λ row. alike _ row refl refl refl refl
+follows_by n time (what.Enable key) = λ row. alike _ row refl refl refl refl refl
+follows_by n time (what.Disable key) = λ row. alike _ row refl refl refl refl refl
+follows_by n time (what.Schedule key date days) = λ row. alike _ row refl refl refl refl refl
+follows_by n time (what.Cancel key) = λ row. alike _ row refl refl refl refl refl
+follows_by n time (what.RotationOn key period) = λ row. alike _ row refl refl refl refl refl
+follows_by n time (what.RotationOff key) = λ row. alike _ row refl refl refl refl refl
 follows_by n time (what.RotateNow key) = λ row. versioned time true row.next row
-follows_by n time (what.Policy key text) = λ row. alike _ row refl refl refl refl
-follows_by n time (what.Description key text) = λ row. alike _ row refl refl refl refl
-follows_by n time (what.Tag key tags) = λ row. alike _ row refl refl refl refl
-follows_by n time (what.Untag key keys) = λ row. alike _ row refl refl refl refl
+follows_by n time (what.Policy key text) = λ row. alike _ row refl refl refl refl refl
+follows_by n time (what.Description key text) = λ row. alike _ row refl refl refl refl refl
+follows_by n time (what.Tag key tags) = λ row. alike _ row refl refl refl refl refl
+follows_by n time (what.Untag key keys) = λ row. alike _ row refl refl refl refl refl
 follows_by n time _ = tt
 
 -- a key that is made has P, and what becomes of a row that has P has it too

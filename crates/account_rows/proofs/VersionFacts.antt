@@ -1,4 +1,4 @@
--- The versions of a key only grow, as long as it is there.
+-- The versions of a key only grow, and its kind stays, as long as it is there.
 use Rattle.std.proofs.Common.{◌≡◌, ℕ, ◌+◌, ◌<◌, ◌≤◌, List, [], ◌∷◌, ◌++◌, length, get_or, fold, Some, refl, sym, ◌∙◌, ap, subst, arith}
 use Rattle.std.specs.Prelude.{All}
 use Rattle.std.proofs.lemmas.List.Sums.{fold-append}
@@ -11,33 +11,33 @@ pub use Rattle.account_rows.specs.History.{AreMadeFrom}
 use Rattle.account_rows.proofs.RowFacts.{Follows, IsNew, all_after, found_all, found_key, replay-entries, rows_after, no_rows}
 use Rattle.account_rows.proofs.Lookups.{unique}
 
--- the rows of an id have at least so many versions
-abbrev pub AtLeast : ℕ → List ℕ → List KeyRow → Type 0
-AtLeast versions id rows = All (λ (row : KeyRow). row.key ≡ id → versions ≤ length row.versions) rows
+-- the rows of an id have a property
+abbrev pub AllOf : (KeyRow → Type 0) → List ℕ → List KeyRow → Type 0
+AllOf P id rows = All (λ (row : KeyRow). row.key ≡ id → P row) rows
 
 -- the row that is found is the only one of its id
-pub the_one : (n : ℕ) (rows : List KeyRow) (id : List ℕ) (row : KeyRow) → AreRows n rows → key_with rows id ≡ Some row → AtLeast (length row.versions) id rows
-the_one n rows id row are found k d lt is =
+pub the_one : (P : KeyRow → Type 0) (n : ℕ) (rows : List KeyRow) (id : List ℕ) (row : KeyRow) → AreRows n rows → key_with rows id ≡ Some row → P row → AllOf P id rows
+the_one P n rows id row are found p k d lt is =
     let there = unique n rows are id k d lt is in
-    let same : row ≡ get_or rows k d = some_same row (get_or rows k d) (sym found ∙ there) in
-    omega (arith, ap (λ (r : KeyRow). length r.versions) same)
+    subst P (some_same row (get_or rows k d) (sym found ∙ there)) p
   where
     some_same : (a b : KeyRow) → Some a ≡ Some b → a ≡ b
     some_same a b e = cc
 
-module _ (versions : ℕ) (id : List ℕ) where
-  keeps : (row new : KeyRow) → Follows row new → (row.key ≡ id → versions ≤ length row.versions) → new.key ≡ id → versions ≤ length new.versions
-  keeps row new follows least is = omega (arith, least (sym follows.key ∙ is), follows.more)
+-- one that each entry leaves as it is
+module _ (P : KeyRow → Type 0) (stays : (row new : KeyRow) → Follows row new → P row → P new) (id : List ℕ) where
+  keeps : (row new : KeyRow) → Follows row new → (row.key ≡ id → P row) → new.key ≡ id → P new
+  keeps row new follows has is = stays row new follows (has (sym follows.key ∙ is))
 
-  new_at : (n time : ℕ) (w : What) → IsMadeHere n w → place_in id < n → IsNew (λ (row : KeyRow). row.key ≡ id → versions ≤ length row.versions) n time w
+  new_at : (n time : ℕ) (w : What) → IsMadeHere n w → place_in id < n → IsNew (λ (row : KeyRow). row.key ≡ id → P row) n time w
   new_at n time (what.CreateKey key kind description policy tags) here before = λ is. absurd (omega (arith, ap place_in is, here, before))
   new_at n time _ here before = tt
 
-  least_from : (state : State) (more : List Entry) → AreMadeFrom state.entries more → place_in id < state.entries → AtLeast versions id state.keys → AtLeast versions id (fold step state more).keys
-  least_from state [] made before least = least
-  least_from state (entry ∷ more) made before least =
-      least_from (step state entry) more made.1 (omega (arith, before))
-      (all_after (λ (row : KeyRow). row.key ≡ id → versions ≤ length row.versions) keeps state.entries entry.time entry.what state.keys (new_at state.entries entry.time entry.what made.0 before) least)
+  all_from : (state : State) (more : List Entry) → AreMadeFrom state.entries more → place_in id < state.entries → AllOf P id state.keys → AllOf P id (fold step state more).keys
+  all_from state [] made before all = all
+  all_from state (entry ∷ more) made before all =
+      all_from (step state entry) more made.1 (omega (arith, before))
+      (all_after (λ (row : KeyRow). row.key ≡ id → P row) keeps state.entries entry.time entry.what state.keys (new_at state.entries entry.time entry.what made.0 before) all)
 
 made_behind : (n : ℕ) (history more : List Entry) → AreMadeFrom n (history ++ more) → AreMadeFrom (n + length history) more
 made_behind n [] more made = subst (λ (m : ℕ). AreMadeFrom m more) (omega arith) made
@@ -61,20 +61,19 @@ pub made_rows : (history more : List Entry) → AreMadeFrom 0 (history ++ more) 
 made_rows history more made =
     subst (λ (n : ℕ). AreRows n (replay history).keys) (omega arith) (rows_from nothing_yet history (made_front 0 history more made) (no_rows 0 [] refl))
 
--- a key that is there at a history and at a longer one has no fewer versions at the longer one
-pub versions_grow : (history more : List Entry) (id : List ℕ) (row later : KeyRow) → AreMadeFrom 0 (history ++ more)
-    → key_with (replay history).keys id ≡ Some row → key_with (replay (history ++ more)).keys id ≡ Some later → later.key ≡ id → length row.versions ≤ length later.versions
-versions_grow history more id row later made found found_later is =
+-- a key that is there at a history and at a longer one still has it at the longer one
+pub row_stays : (P : KeyRow → Type 0) (stays : (row new : KeyRow) → Follows row new → P row → P new) (history more : List Entry) (id : List ℕ) (row later : KeyRow) → AreMadeFrom 0 (history ++ more)
+    → key_with (replay history).keys id ≡ Some row → key_with (replay (history ++ more)).keys id ≡ Some later → later.key ≡ id → P row → P later
+row_stays P stays history more id row later made found found_later is has =
     let are : AreRows (length history) (replay history).keys = made_rows history more made in
     let entries : (replay history).entries ≡ length history = replay-entries history in
     let row_of = found_all (λ (r : KeyRow). (r.key ≡ id) → place_in id < length history) (replay history).keys id row found (λ k d lt same. before k d lt same) in
-    let least = least_from (length row.versions) id (replay history) more
+    let all = all_from P stays id (replay history) more
     (subst (λ (n : ℕ). AreMadeFrom n more) (from_zero (length history) ∙ sym entries) (made_behind 0 history more made))
     (subst (λ (n : ℕ). place_in id < n) (sym entries) (row_of (key_of row found)))
-    (the_one (length history) (replay history).keys id row are found) in
-    let end : AtLeast (length row.versions) id (replay (history ++ more)).keys =
-    subst (λ (s : State). AtLeast (length row.versions) id s.keys) (sym (fold-append step nothing_yet history more)) least in
-    found_all (λ (r : KeyRow). r.key ≡ id → length row.versions ≤ length r.versions) (replay (history ++ more)).keys id later found_later end is
+    (the_one P (length history) (replay history).keys id row are found has) in
+    let end : AllOf P id (replay (history ++ more)).keys = subst (λ (s : State). AllOf P id s.keys) (sym (fold-append step nothing_yet history more)) all in
+    found_all (λ (r : KeyRow). r.key ≡ id → P r) (replay (history ++ more)).keys id later found_later end is
   where
     from_zero : (n : ℕ) → 0 + n ≡ n
     from_zero n = omega arith
@@ -84,3 +83,15 @@ versions_grow history more id row later made found found_later is =
 
     key_of : (r : KeyRow) → key_with (replay history).keys id ≡ Some r → r.key ≡ id
     key_of r e = found_key (replay history).keys id r e
+
+-- it has no fewer versions
+pub versions_grow : (history more : List Entry) (id : List ℕ) (row later : KeyRow) → AreMadeFrom 0 (history ++ more)
+    → key_with (replay history).keys id ≡ Some row → key_with (replay (history ++ more)).keys id ≡ Some later → later.key ≡ id → length row.versions ≤ length later.versions
+versions_grow history more id row later made found found_later is =
+    row_stays (λ (r : KeyRow). length row.versions ≤ length r.versions) (λ r new follows some. omega (arith, some, follows.more)) history more id row later made found found_later is (omega arith)
+
+-- it is of the same kind
+pub kind_stays : (history more : List Entry) (id : List ℕ) (row later : KeyRow) → AreMadeFrom 0 (history ++ more)
+    → key_with (replay history).keys id ≡ Some row → key_with (replay (history ++ more)).keys id ≡ Some later → later.key ≡ id → later.kind ≡ row.kind
+kind_stays history more id row later made found found_later is =
+    row_stays (λ (r : KeyRow). r.kind ≡ row.kind) (λ r new follows same. follows.kind ∙ same) history more id row later made found found_later is refl

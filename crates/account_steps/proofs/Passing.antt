@@ -124,6 +124,16 @@ module _ {F R E : Type 0} (view : View) (parts : Parts F R) (limit : E → Optio
       ∙ ap (λ (o : Option Refusal). and_then (unless o (fit_of found)) rest) live
       ∙ ap (λ (o : Option Refusal). and_then (unless o (own_of found)) rest) unfit
 
+  pub stops_at_own : (found : F) (why : Refusal) → parts.found ≡ Ok found → denied view (parts.questions found) ≡ None → dead_token view parts.tokens ≡ None → unfit_state view (parts.uses found) ≡ None → parts.own found ≡ Err why
+      → outcome view parts limit effect ≡ Err why
+  stops_at_own found why found_is allowed live fit own =
+      let rest : F × R → Result (Outcome E) Refusal = λ p. unless (limit (effect p.0 p.1)) (asked p) in
+      ap (λ (f : Result F Refusal). and_then (and_then f (λ (v : F). unless (denied view (parts.questions v)) (live_of v))) rest) found_is
+      ∙ ap (λ (o : Option Refusal). and_then (unless o (live_of found)) rest) allowed
+      ∙ ap (λ (o : Option Refusal). and_then (unless o (fit_of found)) rest) live
+      ∙ ap (λ (o : Option Refusal). and_then (unless o (own_of found)) rest) fit
+      ∙ ap (λ (r : Result R Refusal). and_then (and_then r (λ (ready : R). Ok (found, ready))) rest) own
+
 -- ---- of the two kinds
 
 abbrev pub ReadPassed : {F R : Type 0} → View → ReadParts F R → Outcome Uses → Type 0

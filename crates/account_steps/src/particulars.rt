@@ -81,7 +81,7 @@ pub fn of_none<'a>() -> Particulars<'a>
 
 /// A request about a key that it makes, of this kind.
 pub fn of_new_key<'a>(kind: KindSaid<'a>) -> Particulars<'a>
-    ensures { result ≡ of_new_key kind }
+    ensures { result ≡ of_new_key kind.entry }
 {
     Particulars {
         kind: Some(kind),
