@@ -1,5 +1,5 @@
 -- What the operations on tags do: no key has too many tags after them.
-use Rattle.std.proofs.Common.{◌≡◌, ℕ, ◌≤◌, ◌<◌, nat_lt, Bool, true, false, List, length, Option, Some, None, Ok, sym, subst, if◌then◌else◌, arith}
+use Rattle.std.proofs.Common.{◌≡◌, ℕ, ◌≤◌, nat_lt, Bool, true, false, List, length, Option, Some, None, Ok, refl, sym, subst, if◌then◌else◌, arith}
 use Rattle.std.proofs.lemmas.Bool.Decides.{nat_tests}
 use Rattle.kms_json.specs.declared.refusals.Limit.TheVariants as limit
 use Rattle.kms_json.specs.declared.refusals.Refusal.{Refusal}

@@ -1,6 +1,6 @@
 -- Parts of the list of a key's tags (AWS KMS API Reference, ListResourceTags, the members Limit, Marker, NextMarker and
 -- Truncated).
-use Rattle.std.specs.Prelude.{ℕ, List, [], ◌∷◌, length, take, map, filter, nat_lt, if◌then◌else◌, Bool, true, Option, Some, None, option_map, Result, Ok, Err}
+use Rattle.std.specs.Prelude.{ℕ, List, length, take, map, filter, nat_lt, if◌then◌else◌, Bool, true, Option, Some, None, option_map, Result, Ok, Err}
 use Rattle.std.specs.Char.{is_ascii_uppercase}
 use Rattle.std.specs.List.{last_or, list_any}
 use Rattle.std.specs.Ordering.{is_gt}

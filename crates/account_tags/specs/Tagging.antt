@@ -12,7 +12,6 @@ use Rattle.kms_json.specs.declared.refusals.Refusal.{Refusal}
 use Rattle.kms_json.specs.declared.refusals.Refusal.TheVariants as refusal
 use Rattle.kms_json.specs.declared.replies.Reply.TheVariants as reply
 use Rattle.key_states.specs.declared.rows.KeyRow.{KeyRow}
-use Rattle.account_rows.specs.declared.entries.What.{What}
 use Rattle.account_rows.specs.declared.entries.What.TheVariants as what
 use Rattle.account_steps.specs.Places.{nothing_used}
 use Rattle.account_steps.specs.Steps.{unless, improper, only_key_of}

@@ -74,12 +74,7 @@ impl<'a> Reads for ListingTags<'a> {
         ready: Option<Bytes>,
         _line: &mut DrawLine,
     ) -> Result<Reply, NoMemory> {
-        let page = part_of(
-            alloc,
-            &found.row().tags,
-            self.page.limit as usize,
-            &ready,
-        )?;
+        let page = part_of(alloc, &found.row().tags, self.page.limit as usize, &ready)?;
         Ok(Reply::Tags(page))
     }
 }

@@ -58,11 +58,7 @@ fn is_behind(after: &Option<Bytes>, key: &Text) -> bool
 }
 
 // The tags whose keys are above these bytes, or all.
-fn tags_behind(
-    alloc: Global,
-    tags: &TagMap,
-    after: &Option<Bytes>,
-) -> Result<Vec<Tag>, NoMemory>
+fn tags_behind(alloc: Global, tags: &TagMap, after: &Option<Bytes>) -> Result<Vec<Tag>, NoMemory>
     ensures { IfOk result (λ found. found.items ≡ tags_behind after.now tags.now) }
 {
     let mut found = Vec::new(alloc);

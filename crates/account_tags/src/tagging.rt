@@ -4,9 +4,7 @@ ghost use Rattle.account_steps.specs.Steps.{Passes};
 ghost use Rattle.account_tags.specs.Tagging.{too_many, has_some, tags_key, untags_key};
 
 use account_rows::{Lent, What};
-use account_steps::{
-    Changes, Made, Request, Stop, View, improper, of_key, only_key_of, refuse,
-};
+use account_steps::{Changes, Made, Request, Stop, View, improper, of_key, only_key_of, refuse};
 use authority::Particulars;
 use kms_json::{Limit, Refusal, Reply};
 use kms_names::{Action, NoMemory, Text, TextList};

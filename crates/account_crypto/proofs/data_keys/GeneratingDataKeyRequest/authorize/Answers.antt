@@ -12,6 +12,6 @@ returns c =
     let view = c.args.self.now.view.now in
     let row = c.args.found.now.row in
     let context = c.args.self.now.request.now.context in
-    let said = c.of_context-said.ensures ∙ ap (λ (r : KeyRow). of_context view r c.args.found.now.alias context) c.row.ensures.row in
+    let said = c.of_context-said.ensures ∙ ap (λ (r : KeyRow). of_context view r c.args.found.now.alias context) c.row-row.ensures.row in
     passes_one view (on_key c.action.result row c.of_context-said.result) (on_key (data_key_action c.args.self.now.form) row (of_context view row c.args.found.now.alias context)) c.authorize_on.result
     (ap₂ (λ (a : Action) (s : Particulars). on_key a row s) c.action.ensures said) c.authorize_on.ensures
