@@ -1,11 +1,12 @@
 -- Parts of the list of a key's tags (AWS KMS API Reference, ListResourceTags, the members Limit, Marker, NextMarker and
 -- Truncated).
-use Rattle.std.specs.Prelude.{ℕ, List, length, take, map, filter, nat_lt, if◌then◌else◌, Bool, true, Option, Some, None, option_map, Result, Ok, Err}
+use Rattle.std.specs.Prelude.{◌≡◌, ◌↔◌, ℕ, ◌≤◌, List, ◌++◌, length, take, map, filter, nat_lt, if◌then◌else◌, Bool, true, Option, Some, None, option_map, Result, Ok, Err}
 use Rattle.std.specs.Char.{is_ascii_uppercase}
 use Rattle.std.specs.List.{last_or, list_any}
 use Rattle.std.specs.Ordering.{is_gt}
 use Rattle.std.specs.Result.{result_ok}
-use Rattle.hex.specs.Hex.{encode_lower, decode_of}
+use Rattle.hex.specs.Hex.{IsBytes, encode_lower, decode_of}
+use Rattle.persist_map.specs.Pairs.{Ascends}
 use Rattle.resource_tags.specs.Tags.{Tags, by_bytes}
 use Rattle.resource_tags.specs.declared.tags.Tag.{Tag}
 use Rattle.kms_json.specs.declared.refusals.Refusal.{Refusal}
@@ -56,3 +57,23 @@ first_of limit tags = record { tags = take limit tags; next = next_of limit tags
 -- at most so many of the tags whose keys are above these bytes
 abbrev pub part_of : Tags → ℕ → Option (List ℕ) → TagPage
 part_of tags limit after = first_of limit (tags_behind after tags)
+
+-- ---- the law of parts
+
+-- the parts of a key's tags one after another, each behind the last key of the one before it, which that one's marker
+-- gives, and all of their tags
+pub data PartsFrom (tags : Tags) (limit : ℕ) : Option (List ℕ) → List Tag → Type 0 where
+  last_part : {after : Option (List ℕ)} → (part_of tags limit after).next ≡ None → PartsFrom tags limit after (part_of tags limit after).tags
+  one_more : {after : Option (List ℕ)} {rest : List Tag} (last : Tag) → last_or None (part_of tags limit after).tags ≡ Some last → (part_of tags limit after).next ≡ Some (marker_of last)
+      → PartsFrom tags limit (Some last.key) rest → PartsFrom tags limit after ((part_of tags limit after).tags ++ rest)
+
+-- parts that follow one another's markers come to an end and, joined, are exactly the tags behind the bytes where they
+-- begin
+abbrev pub PartsOfTagsMakeTheWhole : Type 0
+PartsOfTagsMakeTheWhole =
+    (tags : Tags) → Ascends by_bytes tags → (limit : ℕ) → 1 ≤ limit → (after : Option (List ℕ)) (joined : List Tag)
+    → PartsFrom tags limit after joined ↔ (joined ≡ tags_behind after tags)
+
+-- a marker gives the key that it was made of
+abbrev pub MarkersReadBack : Type 0
+MarkersReadBack = (tag : Tag) → IsBytes tag.key → behind_marker (Some (marker_of tag)) ≡ Ok (Some tag.key)
