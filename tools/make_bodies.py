@@ -15,7 +15,7 @@ COPIES = {}           # the name of a long text: how often which text
 
 def long(n, letter='a'):
     name = f'{letter.upper()}{n}'
-    COPIES[name] = (n, letter)
+    assert COPIES.setdefault(name, (n, letter)) == (n, letter)
     return f'<{name}>'
 
 # ---- what an account without entries answers a body that is taken
@@ -62,9 +62,9 @@ TOKENS = [('[]', None), ('null', None), ('["x"]', None), ('[""]', None), ('[' + 
 PRINCIPAL = lambda name: [('""', name), (text(long(257, 'p')), name), (text(long(256, 'p')), None), ('7', SER), ('null', name)]
 ALIAS_NAME = [('null', 'AliasName'), ('7', SER), ('""', ALIAS), ('"app"', ALIAS), ('"alias/"', ALIAS), ('"alias/aws/x"', ALIAS), ('"alias/a b"', ALIAS),
               ('"Alias/app"', ALIAS), (text('alias/' + long(251)), ALIAS), (text('alias/' + long(250)), None), ('"alias/aws"', None), ('"alias/A/9_-"', None)]
-NINE = ['Encrypt', 'Decrypt', 'GenerateDataKey', 'GenerateDataKeyWithoutPlaintext', 'ReEncryptFrom', 'ReEncryptTo', 'CreateGrant', 'RetireGrant', 'DescribeKey']
+ELEVEN = ['Encrypt', 'Decrypt', 'GenerateDataKey', 'GenerateDataKeyWithoutPlaintext', 'ReEncryptFrom', 'ReEncryptTo', 'CreateGrant', 'RetireGrant', 'DescribeKey', 'GenerateMac', 'VerifyMac']
 listed = lambda names: '[' + ','.join(text(n) for n in names) + ']'
-OPERATIONS = [(listed([op]), None) for op in NINE] + [(listed(NINE), None), (listed(['Decrypt', 'Decrypt']), None), ('[]', 'Operations'), ('null', 'Operations'),
+OPERATIONS = [(listed([op]), None) for op in ELEVEN] + [(listed(ELEVEN), None), (listed(['Decrypt', 'Decrypt']), None), ('[]', 'Operations'), ('null', 'Operations'),
               (listed(['decrypt']), 'Operations'), (listed(['Decrypt', 'ListKeys']), 'Operations'), (listed(['']), 'Operations'), ('["Decrypt",null]', SER), ('[7]', SER),
               ('"Decrypt"', SER), ('{}', SER)]
 # an encoded pair has 8 bytes beside its two texts
@@ -80,6 +80,28 @@ CONSTRAINTS = [('{}', None), ('null', None), ('{"EncryptionContextEquals":{}}', 
                ('{"EncryptionContextEquals":{"a":"1"},"EncryptionContextSubset":{"a":7}}', SER), ('[]', SER), ('"x"', SER)]
 NAME = [('""', 'Name'), ('"a"', None), ('"azAZ09:/_-"', None), ('"a b"', 'Name'), ('"a.b"', 'Name'), ('"\u00e9"', 'Name'), (text(long(256, 'n')), None),
         (text(long(257, 'n')), 'Name'), ('7', SER), ('null', None)]
+def tag(key, value):
+    return '{"TagKey":%s,"TagValue":%s}' % (key, value)
+
+# characters are counted, and not bytes: a key has 1 to 128, a value at most 256
+TAGS = [('[]', None), ('[%s]' % tag('"a"', '"b"'), None), ('[%s]' % tag('"a"', '""'), None), ('[{"TagValue":"b","Other":7,"TagKey":"a"}]', None),
+        ('[%s,%s]' % (tag('"a"', '"b"'), tag('"b"', '"a"')), None), ('[%s]' % tag(text(long(128)), text(long(256, 'v'))), None),
+        ('[%s]' % tag(text(long(128, '\u00e9')), text(long(256, '\u00e9'))), None), ('[%s]' % tag('""', '"b"'), 'Tags'), ('[%s]' % tag(text(long(129)), '"b"'), 'Tags'),
+        ('[%s]' % tag(text(long(129, '\u00e9')), '"b"'), 'Tags'), ('[%s]' % tag('"a"', text(long(257, 'v'))), 'Tags'), ('[{}]', 'Tags'), ('[{"TagKey":"a"}]', 'Tags'), ('[{"TagValue":"b"}]', 'Tags'),
+        ('[%s]' % tag('null', '"b"'), 'Tags'), ('[%s]' % tag('"a"', 'null'), 'Tags'), ('[{"tagKey":"a","TagValue":"b"}]', 'Tags'), ('[%s,{}]' % tag('"a"', '"b"'), 'Tags'),
+        ('[%s]' % tag('7', '"b"'), SER), ('[%s]' % tag('"a"', '7'), SER), ('[%s]' % tag('"a"', '["b"]'), SER), ('[{},%s]' % tag('"a"', 'true'), SER), ('[null]', SER), ('[7]', SER), ('["a"]', SER), ('[[]]', SER),
+        ('[%s,null]' % tag('""', '"b"'), SER), ('{}', SER), (tag('"a"', '"b"'), SER), ('"a"', SER), ('7', SER),
+        ('[' + ','.join(tag(text(f'k{n}'), '""') for n in range(50)) + ']', None), ('[' + ','.join(tag(text(f'k{n}'), '""') for n in range(51)) + ']', 'Tags')]
+TAG_KEYS = [('["a"]', None), ('["a","a"]', None), ('["aws:a"]', None), ('[%s]' % text(long(128)), None), ('[%s]' % text(long(128, '\u00e9')), None), ('[' + ','.join(['"a"'] * 50) + ']', None), ('[]', 'TagKeys'),
+            ('[""]', 'TagKeys'), ('["a",""]', 'TagKeys'), ('[%s]' % text(long(129)), 'TagKeys'), ('[%s]' % text(long(129, '\u00e9')), 'TagKeys'), ('[' + ','.join(['"a"'] * 51) + ']', 'TagKeys'), ('null', 'TagKeys'),
+            ('[7]', SER), ('["",null]', SER), ('"a"', SER), ('{}', SER), ('7', SER)]
+
+def sealed(name, most):
+    """Bytes in base64, one or more: a text of `most` zero bytes is the longest."""
+    full = long(most // 3 * 4, 'A') + {0: '', 1: 'AA==', 2: 'AAA='}[most % 3]
+    more = long((most + 1) // 3 * 4, 'A') + {0: '', 1: 'AA==', 2: 'AAA='}[(most + 1) % 3]
+    return [('""', name), ('"AA=="', None), (text(full), None), (text(more), name), ('null', name), ('7', SER), ('["AA=="]', SER), ('"A"', SER), ('"AA"', SER), ('"AB=="', SER), ('"AA== "', SER), ('"-_=="', SER)]
+
 DESCRIPTION = [('""', None), ('"\u00e9"', None), (text(long(8192, 'd')), None), (text(long(8193, 'd')), 'Description'), ('7', SER), ('null', 'Description')]
 
 def forms(op, what, field, values, then, **others):
@@ -193,6 +215,36 @@ for op, others, then, before, after in [
     if after:
         requests.append(refused(op, body(**{**others, after[0]: after[1], 'GrantTokens': eleven}), 'GrantTokens'))
     case(f'{op}: two faults with GrantTokens', *requests)
+# ---- MACs
+MESSAGE, ALGORITHM = '"aGVsbG8="', '"HMAC_SHA_256"'
+for op, mac in [('GenerateMac', {}), ('VerifyMac', {'Mac': '"AA=="'})]:
+    valid = dict(Message=MESSAGE, KeyId=K, MacAlgorithm=ALGORITHM) | mac
+    for field, values in [('Message', sealed('Message', 4096)), ('KeyId', key_reference('KeyId')), ('MacAlgorithm', [('""', None), ('"x"', None), (text(long(9000)), None), ('null', 'MacAlgorithm'), ('7', SER), ('[]', SER)]),
+                          *([('Mac', sealed('Mac', 6144))] if mac else []), ('GrantTokens', TOKENS), ('DryRun', FLAG)]:
+        forms(op, f'{op}: forms of {field}', field, values, NO_KEY, **{k: v for k, v in valid.items() if k != field})
+    required = ['Message', 'KeyId', 'MacAlgorithm', *mac]
+    case(f'{op}: required fields', *[refused(op, body(**{k: valid[k] for k in required[:n]}), required[n]) for n in range(len(required))], taken(op, body(**valid), NO_KEY))
+    bad = [('Message', '""'), ('KeyId', '""'), ('MacAlgorithm', 'null'), *([('Mac', '""')] if mac else []), ('GrantTokens', TOKENS[5][0])]
+    case(f'{op}: two faults, the earlier field is named', *[refused(op, body(**(valid | {b: w, a: v})), a) for (a, v), (b, w) in zip(bad, bad[1:])])
+    case(f'{op}: a wrong type in the last field stands before a fault in each other', *[refused(op, body(**(valid | {a: v, 'DryRun': '0'})), SER) for a, v in bad])
+# ---- tags
+NOT_MADE = ('UnsupportedOperationException', 'Field XksKeyId is not supported.')
+forms('CreateKey', 'CreateKey: forms of Tags', 'Tags', TAGS + [('null', None)], NOT_MADE, XksKeyId='"x"')
+case('CreateKey: two faults with Tags', refused('CreateKey', body(Policy='""', Tags='[{}]'), 'Policy'), refused('CreateKey', body(Description=text(long(8193, 'd')), Tags='[{}]'), 'Description'),
+     refused('CreateKey', body(Tags='[{}]', KeyUsage='"SIGN_VERIFY"'), 'Tags'), refused('CreateKey', body(Tags='[{}]', XksKeyId='7'), SER), refused('CreateKey', body(Policy='""', Tags='[7]'), SER))
+forms('TagResource', 'TagResource: forms of KeyId', 'KeyId', key_reference('KeyId'), NO_KEY, Tags='[]')
+forms('TagResource', 'TagResource: forms of Tags', 'Tags', TAGS + [('null', 'Tags')], NO_KEY, KeyId=K)
+case('TagResource: two faults', refused('TagResource', '{}', 'KeyId'), refused('TagResource', body(KeyId=K), 'Tags'), refused('TagResource', body(KeyId='""', Tags='[{}]'), 'KeyId'),
+     refused('TagResource', body(KeyId='""', Tags='[7]'), SER), refused('TagResource', body(KeyId='7', Tags='[{}]'), SER))
+forms('UntagResource', 'UntagResource: forms of KeyId', 'KeyId', key_reference('KeyId'), NO_KEY, TagKeys='["a"]')
+forms('UntagResource', 'UntagResource: forms of TagKeys', 'TagKeys', TAG_KEYS, NO_KEY, KeyId=K)
+case('UntagResource: two faults', refused('UntagResource', '{}', 'KeyId'), refused('UntagResource', body(KeyId=K), 'TagKeys'), refused('UntagResource', body(KeyId='""', TagKeys='[]'), 'KeyId'),
+     refused('UntagResource', body(KeyId='""', TagKeys='[7]'), SER), refused('UntagResource', body(KeyId=K, Tags='[]'), 'TagKeys'))
+forms('ListResourceTags', 'ListResourceTags: forms of KeyId', 'KeyId', key_reference('KeyId'), NO_KEY)
+forms('ListResourceTags', 'ListResourceTags: forms of Limit', 'Limit', whole('Limit', 1, 50), NO_KEY, KeyId=K)
+forms('ListResourceTags', 'ListResourceTags: forms of Marker', 'Marker', MARKER, NO_KEY, KeyId=K)
+case('ListResourceTags: two faults', refused('ListResourceTags', '{}', 'KeyId'), refused('ListResourceTags', body(KeyId='""', Limit='0'), 'KeyId'), refused('ListResourceTags', body(KeyId=K, Limit='0', Marker='""'), 'Limit'),
+     refused('ListResourceTags', body(KeyId=K, Limit='51', Marker='7'), SER))
 
 def answer(why, then):
     if why == 'served':

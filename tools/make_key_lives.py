@@ -62,6 +62,7 @@ class Refused(Exception):
 NEEDS_ENABLED = {"Encrypt", "Decrypt", "ReEncrypt", "GenerateDataKey", "GenerateDataKeyWithoutPlaintext", "EnableKeyRotation",
                  "DisableKeyRotation", "RotateKeyOnDemand"}
 NEEDS_KEPT = {"EnableKey", "DisableKey", "ScheduleKeyDeletion", "UpdateKeyDescription"}
+SYMMETRIC = "SYMMETRIC_DEFAULT"
 
 
 class Account:
@@ -116,10 +117,13 @@ class Account:
 
     def metadata(self, key):
         said = {"AWSAccountId": ACCOUNT, "Arn": arn(key["id"]), "CreationDate": key["made"],
-                "CustomerMasterKeySpec": "SYMMETRIC_DEFAULT", "Description": key["description"], "Enabled": key["state"] == "Enabled",
-                "EncryptionAlgorithms": ["SYMMETRIC_DEFAULT"], "KeyId": printed(key["id"]), "KeyManager": "CUSTOMER",
-                "KeySpec": "SYMMETRIC_DEFAULT", "KeyState": key["state"], "KeyUsage": "ENCRYPT_DECRYPT", "MultiRegion": False,
+                "CustomerMasterKeySpec": key["spec"], "Description": key["description"], "Enabled": key["state"] == "Enabled",
+                "KeyId": printed(key["id"]), "KeyManager": "CUSTOMER", "KeySpec": key["spec"], "KeyState": key["state"], "MultiRegion": False,
                 "Origin": "AWS_KMS"}
+        if key["spec"] == SYMMETRIC:
+            said |= {"EncryptionAlgorithms": [SYMMETRIC], "KeyUsage": "ENCRYPT_DECRYPT"}
+        else:
+            said |= {"MacAlgorithms": ["HMAC_SHA_256"], "KeyUsage": "GENERATE_VERIFY_MAC"}
         if key["state"] == "PendingDeletion":
             said["DeletionDate"] = key["date"]
         return {"KeyMetadata": said}
@@ -139,7 +143,7 @@ class Account:
         return self
 
     def CreateKey(self, body):
-        key = {"id": key_id(self.front), "made": self.moment(), "description": body.get("Description", ""), "state": "Enabled",
+        key = {"id": key_id(self.front), "spec": SYMMETRIC, "made": self.moment(), "description": body.get("Description", ""), "state": "Enabled",
                "date": None, "versions": [(self.moment(), None)], "period": None, "next": 0, "on_demand": 0}
         self.append()
         self.keys.append(key)

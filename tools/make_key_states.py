@@ -7,14 +7,14 @@ ACTIONS = (
     " DisableKeyRotation GetKeyRotationStatus RotateKeyOnDemand ListKeyRotations PutKeyPolicy GetKeyPolicy ListKeyPolicies"
     " UpdateKeyDescription CreateAlias UpdateAlias DeleteAlias ListAliases CreateGrant ListGrants ListRetirableGrants"
     " RetireGrant RevokeGrant Encrypt Decrypt ReEncryptFrom GenerateDataKey GenerateDataKeyWithoutPlaintext GenerateRandom"
-    " ReEncryptTo"
+    " ReEncryptTo GenerateMac VerifyMac TagResource UntagResource ListResourceTags"
 ).split()
 # those that want an enabled key, and those that want one whose deletion isn't scheduled
 USE = set(
     "Encrypt Decrypt ReEncryptFrom ReEncryptTo GenerateDataKey GenerateDataKeyWithoutPlaintext CreateGrant EnableKeyRotation"
-    " DisableKeyRotation RotateKeyOnDemand".split()
+    " DisableKeyRotation RotateKeyOnDemand GenerateMac VerifyMac".split()
 )
-KEPT = set("EnableKey DisableKey ScheduleKeyDeletion UpdateKeyDescription CreateAlias UpdateAlias".split())
+KEPT = set("EnableKey DisableKey ScheduleKeyDeletion UpdateKeyDescription CreateAlias UpdateAlias TagResource UntagResource".split())
 def state_at(stored, m):
     if stored[0] == "pending":
         return "Gone" if stored[1] <= m else "PendingDeletion"

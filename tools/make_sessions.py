@@ -15,6 +15,7 @@ ALIASES = ["alias/a", "alias/b", "alias/c"]
 CONTEXTS = [{}, A1, AB, {"a": "2"}, {"b": "2"}]
 ACTIONS = ["*", "kms:*", "kms:Describe*", "kms:Encrypt", "kms:*crypt*", "kms:*Alias", "kms:CreateAlias", "kms:UpdateAlias", "kms:List*", "kms:*Grant*",
            "kms:CreateGrant", "kms:ReEncrypt*", "kms:Generate*", "kms:RevokeGrant"]
+OPERATIONS = [operation for operation in GRANT_OPERATIONS if "Mac" not in operation]
 RESOURCES = ["*", "*", "*", ARN1, ARN2, alias_arn("alias/a"), alias_arn("alias/*"), alias_arn("key/*")]
 OF_A_KEY = ["DescribeKey", "GetKeyPolicy", "GetKeyRotationStatus", "EnableKey", "EnableKey", "DisableKey", "CancelKeyDeletion", "CancelKeyDeletion", "RotateKeyOnDemand"]
 REQUESTS = (["CreateAlias"] * 4 + ["UpdateAlias"] * 3 + ["DeleteAlias"] * 2 + ["CreateGrant"] * 7 + ["RetireGrant"] * 2 + ["RevokeGrant"] * 2 + ["ListGrants"] * 2
@@ -26,6 +27,8 @@ REQUESTS = (["CreateAlias"] * 4 + ["UpdateAlias"] * 3 + ["DeleteAlias"] * 2 + ["
 class Sessions:
     """Chooses what is asked."""
 
+    operations, requests = OPERATIONS, REQUESTS
+
     def __init__(self, seed):
         self.random = random.Random(seed)
         self.choice, self.sample = self.random.choice, self.random.sample
@@ -36,7 +39,7 @@ class Sessions:
     # ---- policies
 
     def condition(self):
-        names, operations = self.sample(ALIASES, 2), self.sample(GRANT_OPERATIONS, 5)
+        names, operations = self.sample(ALIASES, 2), self.sample(self.operations, 5)
         flag, digit = self.choice(["true", "false"]), self.choice("12")
         return self.choice([
             {"StringEquals": {"kms:RequestAlias": names[0]}}, {"ForAnyValue:StringEquals": {"kms:ResourceAliases": names[0]}},
@@ -110,7 +113,7 @@ class Sessions:
         return {"CiphertextBlob": blob, "SourceEncryptionContext": context, "DestinationKeyId": self.named(account)} | source | self.context("DestinationEncryptionContext") | more
 
     def granting(self, account):
-        operations = [self.choice(GRANT_OPERATIONS) for _ in range(self.choice([1, 1, 2, 3]))]
+        operations = [self.choice(self.operations) for _ in range(self.choice([1, 1, 2, 3]))]
         found = {"KeyId": self.key(account), "GranteePrincipal": self.choice(CALLERS), "Operations": operations}
         found |= {"RetiringPrincipal": self.choice(CALLERS)} if self.often(0.5) else {}
         found |= {"Name": self.choice("nm")} if self.often(0.3) else {}
@@ -142,13 +145,17 @@ class Sessions:
             "EnableKeyRotation": lambda: key | {"RotationPeriodInDays": 90}, "UpdateKeyDescription": lambda: key | {"Description": "x"},
         }.get(operation, lambda: key)()
 
+    def made(self, body):
+        """What a first key is asked for by."""
+        return body
+
     def begun(self, number):
         """A session with some keys, aliases, grants and blobs."""
         several = self.often(0.6)
         caller = ROOT if several else self.choice([ROOT, ROOT, ANN])
         account = Whole(f"random session {number}", self.own_policies(caller), caller, several)
         for _ in range(self.choice([1, 2, 3])):
-            account.ask("CreateKey", {"Policy": self.key_policy(), "BypassPolicyLockoutSafetyCheck": True} if self.often(0.6) else {})
+            account.ask("CreateKey", self.made({"Policy": self.key_policy(), "BypassPolicyLockoutSafetyCheck": True} if self.often(0.6) else {}))
         for name in ALIASES:
             if self.often(0.6):
                 put(account, name, self.key(account))
@@ -164,7 +171,7 @@ class Sessions:
                 account.by(self.choice(CALLERS))
             if not account.asked and self.often(0.12):
                 account.at(account.now + self.choice([1, DAY, 3 * DAY, 7 * DAY, 90 * DAY, -5]))
-            operation = self.choice(REQUESTS)
+            operation = self.choice(self.requests)
             if account.blobs or operation not in ("Decrypt", "ReEncrypt"):
                 account.ask(operation, self.body(account, operation))
         return account

@@ -10,11 +10,14 @@ drop_keys | tags | keys, with `, ` between two | the tags afterwards
 get | tags | key | its value, or none
 after | tags | bytes in hexadecimal | the key of the first tag above them, or none
 len | tags | how many there are
+iter | tags | the tags, one after the other
+copied | tags | a copy of the list of them, as they are given
+are_proper | tags | whether they may be given to a resource: no key stands twice, and none begins with `aws:` in any case
 
 Tags are KEY=VALUE with a comma between two, in any order where they are given and in byte order of the keys where they are answered; `-` are
 none, and so are no bytes.
 
-Made by tools/make_tags.py: the answers are those of Python's dict and sorted, over the bytes of the keys in UTF-8.
+Made by tools/make_tags.py: the answers are those of Python's dict, set and sorted, over the bytes of the keys in UTF-8.
 """
 
 MOST = 50
@@ -36,6 +39,13 @@ def put_all(file, before, more):
 def drop_keys(file, before, keys):
     after = {key: value for key, value in dict(before).items() if key not in keys}
     file.case("drop_keys", text(before), ", ".join(keys) or "-", text(ordered(after)))
+
+
+def are_proper(file, tags):
+    """The keys are all different, and none begins with `aws:`."""
+    keys = [key for key, _ in tags]
+    proper = len(set(keys)) == len(keys) and not any(key.lower().startswith("aws:") for key in keys)
+    file.case("are_proper", text(tags), "true" if proper else "false")
 
 
 def numbered(first, end):
@@ -77,6 +87,21 @@ def main():
     file.note("How many there are.")
     for tags in [[], few, numbered(0, MOST), [("a", "1"), ("a", "2")]]:
         file.case("len", text(tags), str(len(dict(tags))))
+    file.note("All of them, in order.")
+    for tags in [[], few, list(reversed(few)), [("env", "dev"), ("a", ""), ("env", "prod")], numbered(0, MOST)]:
+        file.case("iter", text(tags), text(ordered(dict(tags))))
+    file.note("Copies of lists, as they are given.")
+    for tags in [[], few, list(reversed(few)), [("env", "dev"), ("a", ""), ("env", "prod")], numbered(0, MOST + 1)]:
+        file.case("copied", text(tags), text(tags))
+    file.note("Tags that may be given, and others: two of one key, and keys that begin with `aws:`.")
+    for tags in [[], few, numbered(0, MOST + 1), [("env", "a"), ("Env", "a")], [("aws", "x")], [("aws.x", "")], [("xaws:", "")], [("aw:s", "aws:")], [(" aws:", "")], [("ａws:", "")], [("AW", "")]]:
+        are_proper(file, tags)
+    for key in ["aws:", "aws:x", "AWS:", "Aws:x", "aWs:é", "awS:aws:", "AwS:x"]:
+        are_proper(file, [(key, "x")])
+        are_proper(file, few + [(key, "")])
+        are_proper(file, [(key, ""), ("env", "prod")])
+    for tags in [[("env", "a"), ("env", "a")], [("env", "a"), ("x", ""), ("env", "b")], few + [few[-1]], [("größe", ""), ("größe", "1")], numbered(0, 3) + numbered(2, 5), [("aws:x", ""), ("aws:x", "")]]:
+        are_proper(file, tags)
     file.write()
 
 

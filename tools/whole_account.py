@@ -1,8 +1,9 @@
-"""An account in plain Python with all that its callers may do: aliases, lists, grants and their tokens, key policies and callers'
-own policies. make_grants_and_aliases.py asks it.
+"""An account in plain Python with all that its callers may do: aliases, lists, grants and their tokens, HMAC keys and their MACs, tags,
+key policies and callers' own policies. whole_cases.py says who asks it.
 
-It goes on from the account of make_key_lives.py, by the AWS KMS Developer Guide ("Aliases in AWS KMS", "Grants in AWS KMS", "Condition
-keys for AWS KMS") and the IAM User Guide ("Policy evaluation logic"). What policies say is the evaluation of make_verdicts.py.
+It goes on from the account of make_key_lives.py, by the AWS KMS Developer Guide ("Aliases in AWS KMS", "Grants in AWS KMS", "HMAC keys
+in AWS KMS", "Tags in AWS KMS", "Condition keys for AWS KMS") and the IAM User Guide ("Policy evaluation logic"). What policies say is the
+evaluation of make_verdicts.py.
 """
 
 import base64
@@ -18,15 +19,19 @@ from cryptography.hazmat.primitives.ciphers import Cipher, algorithms
 import blobs
 import make_key_lives
 import make_verdicts
-from make_key_lives import ACCOUNT, ROOT, Refused, arn, b64, key_id, mac, printed
+from make_key_lives import ACCOUNT, ROOT, ROOT_SECRET, SYMMETRIC, Refused, arn, b64, key_id, mac, printed
+from make_macs import mac_of
 
 REGION = "us-east-1"
 GRANT_OPERATIONS = ["Encrypt", "Decrypt", "GenerateDataKey", "GenerateDataKeyWithoutPlaintext", "ReEncryptFrom", "ReEncryptTo",
-                    "CreateGrant", "RetireGrant", "DescribeKey"]
+                    "CreateGrant", "RetireGrant", "DescribeKey", "GenerateMac", "VerifyMac"]
+HMAC_256, HMAC_SHA_256 = "HMAC_256", "HMAC_SHA_256"
+USAGES = {SYMMETRIC: "ENCRYPT_DECRYPT", HMAC_256: "GENERATE_VERIFY_MAC"}
+ROTATIONS = {"EnableKeyRotation", "DisableKeyRotation", "RotateKeyOnDemand", "GetKeyRotationStatus", "ListKeyRotations"}
 WITH_ALGORITHM = {"Encrypt", "Decrypt", "ReEncryptFrom", "ReEncryptTo", "GenerateDataKey", "GenerateDataKeyWithoutPlaintext"}
-CHANGES = make_key_lives.CHANGES | {"CreateAlias", "UpdateAlias", "DeleteAlias", "CreateGrant", "RetireGrant", "RevokeGrant"}
-NEEDS_ENABLED = make_key_lives.NEEDS_ENABLED | {"CreateGrant"}
-NEEDS_KEPT = make_key_lives.NEEDS_KEPT | {"CreateAlias", "UpdateAlias"}
+CHANGES = make_key_lives.CHANGES | {"CreateAlias", "UpdateAlias", "DeleteAlias", "CreateGrant", "RetireGrant", "RevokeGrant", "TagResource", "UntagResource"}
+NEEDS_ENABLED = make_key_lives.NEEDS_ENABLED | {"CreateGrant", "GenerateMac", "VerifyMac"}
+NEEDS_KEPT = make_key_lives.NEEDS_KEPT | {"CreateAlias", "UpdateAlias", "TagResource", "UntagResource"}
 DEFAULT_POLICY = ('{"Version":"2012-10-17","Id":"key-default-1","Statement":[{"Sid":"Enable IAM User Permissions","Effect":"Allow",'
                   '"Principal":{"AWS":"%s"},"Action":"kms:*","Resource":"*"}]}' % ROOT)
 ALIAS = re.compile("alias/[a-zA-Z0-9/_-]+")
@@ -74,6 +79,73 @@ def principal(text):
     if PRINCIPAL.fullmatch(text) is None:
         raise Refused("InvalidArnException", "The ARN is not valid.")
     return text
+
+
+def first_given(body, *names, default):
+    """The first of these members that the body gives."""
+    return next((body[name] for name in names if body.get(name) is not None), default)
+
+
+def not_supported(field):
+    raise Refused("UnsupportedOperationException", f"Field {field} is not supported.")
+
+
+def kind_of(body):
+    """The spec of the kind of key that a CreateKey asks for."""
+    for field, texts in (("KeyUsage", USAGES.values()), ("CustomerMasterKeySpec", USAGES), ("KeySpec", USAGES)):
+        if first_given(body, field, default=None) not in (None, *texts):
+            not_supported(field)
+    specs = {body[field] for field in ("CustomerMasterKeySpec", "KeySpec") if body.get(field) is not None}
+    if len(specs) == 2:
+        not_supported("KeySpec")
+    spec = specs.pop() if specs else SYMMETRIC
+    if first_given(body, "KeyUsage", default=USAGES[SYMMETRIC]) != USAGES[spec]:
+        not_supported("KeyUsage")
+    return spec
+
+
+def kind_facts(spec, usage):
+    return [("kms:KeySpec", [spec]), ("kms:KeyUsage", [usage]), ("kms:KeyOrigin", ["AWS_KMS"]), ("kms:MultiRegion", ["false"])]
+
+
+def tags_of(body):
+    """The tags of a request, pairs in its order."""
+    return [(tag["TagKey"], tag["TagValue"]) for tag in body.get("Tags") or []]
+
+
+def tag_facts(tags):
+    """What a request says of the tags that it gives to a key."""
+    return [(f"aws:RequestTag/{name}", [value]) for name, value in tags] + ([("aws:TagKeys", [name for name, _ in tags])] if tags else [])
+
+
+def proper(tags):
+    """No two tags have one key, and none begins with `aws:`, in whatever case."""
+    names = [name for name, _ in tags]
+    if len(set(names)) < len(names) or any(name.lower().startswith("aws:") for name in names):
+        raise Refused("TagException", "The tags are not valid.")
+
+
+def sized(name):
+    return 1 <= len(name) <= 128
+
+
+def is_tag(tag):
+    name, value = tag.get("TagKey"), tag.get("TagValue")
+    return name is not None and value is not None and sized(name) and len(value) <= 256
+
+
+def fields(operation, body):
+    """The fields that some cases make wrong, in a request whose members all have their types."""
+    if "AliasName" in body and not is_alias(body["AliasName"]):
+        raise Refused("InvalidAliasNameException", "The alias name is not valid.")
+    tags, names = body.get("Tags"), body.get("TagKeys")
+    wrong = {"Message": operation in ("GenerateMac", "VerifyMac") and not 1 <= len(base64.b64decode(body["Message"])) <= 4096,
+             "Mac": operation == "VerifyMac" and not 1 <= len(base64.b64decode(body["Mac"])) <= 6144,
+             "Tags": tags is not None and not (len(tags) <= 50 and all(map(is_tag, tags))) or tags is None and operation == "TagResource",
+             "TagKeys": operation == "UntagResource" and not (names is not None and 1 <= len(names) <= 50 and all(map(sized, names)))}
+    for field in wrong:
+        if wrong[field]:
+            raise Refused("ValidationException", f"Field {field} is not valid.")
 
 
 def includes(context, other):
@@ -173,8 +245,6 @@ class Whole(make_key_lives.Account):
     def denied(self, action, resource):
         raise Refused("AccessDeniedException", f"User: {self.caller} is not authorized to perform: kms:{action} on resource: {resource}")
 
-    KIND = [("kms:KeySpec", ["SYMMETRIC_DEFAULT"]), ("kms:KeyUsage", ["ENCRYPT_DECRYPT"]), ("kms:KeyOrigin", ["AWS_KMS"]), ("kms:MultiRegion", ["false"])]
-
     def facts(self, key=None, alias=None):
         now = datetime.fromtimestamp(self.moment(), timezone.utc).strftime("%Y-%m-%dT%H:%M:%SZ")
         found = [("aws:PrincipalArn", [self.caller]), ("aws:PrincipalAccount", [ACCOUNT]), ("kms:CallerAccount", [ACCOUNT]),
@@ -183,7 +253,8 @@ class Whole(make_key_lives.Account):
         if ":user/" in self.caller:
             found.append(("aws:username", [self.caller.rsplit("/", 1)[1]]))
         if key:
-            found += self.KIND
+            found += kind_facts(key["spec"], USAGES[key["spec"]])
+            found += [(f"aws:ResourceTag/{name}", [value]) for name, value in key["tags"].items()]
             names = [row["name"] for row in self.aliases if row["key"] == key["id"]]
             found += [("kms:ResourceAliases", names)] if names else []
             found += [("kms:RequestAlias", [alias])] if alias else []
@@ -255,12 +326,21 @@ class Whole(make_key_lives.Account):
         if wrong:
             raise Refused("KMSInvalidStateException", f"{arn(key['id'])} is {key['state']}.")
 
+    def used(self, key, spec, algorithm):
+        """A key is of the kind that is wanted, and the algorithm that is given is that of the kind."""
+        if key["spec"] != spec or algorithm not in (None, {SYMMETRIC: SYMMETRIC, HMAC_256: HMAC_SHA_256}[spec]):
+            raise Refused("InvalidKeyUsageException", "The algorithm does not fit the key.")
+
+    def rotated(self, operation, key):
+        """The material of HMAC keys isn't rotated."""
+        if operation in ROTATIONS and key["spec"] != SYMMETRIC:
+            not_supported("KeyId")
+
     # ---- requests
 
     def ask(self, operation, body, after=None):
         try:
-            if "AliasName" in body and not is_alias(body["AliasName"]):
-                raise Refused("InvalidAliasNameException", "The alias name is not valid.")
+            fields(operation, body)
             if operation in CHANGES:
                 self.house()
             reply = getattr(self, operation)(body)
@@ -279,13 +359,32 @@ class Whole(make_key_lives.Account):
             raise Refused("MalformedPolicyDocumentException", "Policy: lockout.")
 
     def CreateKey(self, body):
-        self.must_own("CreateKey", "*", self.KIND + self.flag(body))
+        tags = tags_of(body)
+        more = kind_facts(first_given(body, "KeySpec", "CustomerMasterKeySpec", default=SYMMETRIC), first_given(body, "KeyUsage", default=USAGES[SYMMETRIC]))
+        more += tag_facts(tags) + self.flag(body)
+        self.must_own("CreateKey", "*", more)
+        if tags:
+            self.must_own("TagResource", "*", more)
+        made = {"spec": kind_of(body), "tags": dict(tags)}
+        self.unserved(body, tags)
         if "Policy" in body:
-            self.no_lockout({"id": key_id(self.front)}, body)
+            self.no_lockout({"id": key_id(self.front)} | made, body)
         born = self.front
-        reply = super().CreateKey(body)
-        self.keys[-1].update({"policy": body.get("Policy", DEFAULT_POLICY), "born": born})
-        return reply
+        super().CreateKey(body)
+        self.keys[-1].update(made | {"policy": body.get("Policy", DEFAULT_POLICY), "born": born})
+        return self.metadata(self.keys[-1])
+
+    def unserved(self, body, tags):
+        """What CreateKey doesn't make, and tags that aren't proper at their place among it."""
+        if first_given(body, "Origin", default="AWS_KMS") != "AWS_KMS":
+            not_supported("Origin")
+        if body.get("CustomKeyStoreId") is not None:
+            not_supported("CustomKeyStoreId")
+        proper(tags)
+        if body.get("MultiRegion"):
+            not_supported("MultiRegion")
+        if body.get("XksKeyId") is not None:
+            not_supported("XksKeyId")
 
     def DescribeKey(self, body):
         key, alias = self.named(body["KeyId"])
@@ -313,10 +412,13 @@ class Whole(make_key_lives.Account):
                 "EnableKeyRotation": [("kms:RotationPeriodInDays", [str(body.get("RotationPeriodInDays", 365))])]}
         self.must(operation, key, more=more.get(operation, []))
         self.fit(operation, key)
+        self.rotated(operation, key)
         return key
 
     def GetKeyRotationStatus(self, body):
-        self.must("GetKeyRotationStatus", self.key(body["KeyId"]))
+        key = self.key(body["KeyId"])
+        self.must("GetKeyRotationStatus", key)
+        self.rotated("GetKeyRotationStatus", key)
         return super().GetKeyRotationStatus(body)
 
     # ---- texts and data keys
@@ -327,6 +429,9 @@ class Whole(make_key_lives.Account):
         self.must(operation, key, alias, context=body.get("EncryptionContext"))
         self.tokens(body)
         self.fit(operation, key)
+        self.used(key, SYMMETRIC, body.get("EncryptionAlgorithm") if operation == "Encrypt" else None)
+        if operation == "GenerateDataKey" and body.get("Recipient") is not None:
+            not_supported("Recipient")
         self.dry(body)
         return key
 
@@ -370,6 +475,9 @@ class Whole(make_key_lives.Account):
         self.must("Decrypt", key, alias, context=context)
         self.tokens(body)
         self.fit("Decrypt", key)
+        self.used(key, SYMMETRIC, body.get("EncryptionAlgorithm"))
+        if body.get("Recipient") is not None:
+            not_supported("Recipient")
         text = self.text_of(key, body["CiphertextBlob"], context)
         self.dry(body)
         return {"EncryptionAlgorithm": "SYMMETRIC_DEFAULT", "KeyId": arn(key["id"]), "Plaintext": b64(text)}
@@ -384,10 +492,69 @@ class Whole(make_key_lives.Account):
         self.tokens(body)
         self.fit("ReEncrypt", source)
         self.fit("ReEncrypt", key)
+        self.used(source, SYMMETRIC, body.get("SourceEncryptionAlgorithm"))
+        self.used(key, SYMMETRIC, body.get("DestinationEncryptionAlgorithm"))
         text = self.text_of(source, body["CiphertextBlob"], before)
         self.dry(body)
         return {"CiphertextBlob": self.sealed(key, after, text), "DestinationEncryptionAlgorithm": "SYMMETRIC_DEFAULT",
                 "KeyId": arn(key["id"]), "SourceEncryptionAlgorithm": "SYMMETRIC_DEFAULT", "SourceKeyId": arn(source["id"])}
+
+    # ---- MACs
+
+    def of_mac(self, operation, body):
+        """The key of a MAC, and the MAC of the message under it."""
+        key, alias = self.named(body["KeyId"])
+        self.must(operation, key, alias, [("kms:MacAlgorithm", [body["MacAlgorithm"]])])
+        self.tokens(body)
+        self.fit(operation, key)
+        self.used(key, HMAC_256, body["MacAlgorithm"])
+        return key, mac_of(ROOT_SECRET, key["id"], base64.b64decode(body["Message"]))
+
+    def GenerateMac(self, body):
+        key, mac = self.of_mac("GenerateMac", body)
+        self.dry(body)
+        return {"KeyId": arn(key["id"]), "Mac": b64(mac), "MacAlgorithm": HMAC_SHA_256}
+
+    def VerifyMac(self, body):
+        key, mac = self.of_mac("VerifyMac", body)
+        if base64.b64decode(body["Mac"]) != mac:
+            raise Refused("KMSInvalidMacException", "The MAC is not valid.")
+        self.dry(body)
+        return {"KeyId": arn(key["id"]), "MacAlgorithm": HMAC_SHA_256, "MacValid": True}
+
+    # ---- tags
+
+    def TagResource(self, body):
+        key, tags = self.key(body["KeyId"]), tags_of(body)
+        self.must("TagResource", key, more=tag_facts(tags))
+        self.fit("TagResource", key)
+        proper(tags)
+        after = key["tags"] | dict(tags)
+        if len(after) > 50:
+            raise Refused("LimitExceededException", "Limit reached: tags.")
+        self.append()
+        key["tags"] = after
+        return {}
+
+    def UntagResource(self, body):
+        key, names = self.key(body["KeyId"]), body["TagKeys"]
+        self.must("UntagResource", key, more=[("aws:TagKeys", names)])
+        self.fit("UntagResource", key)
+        if any(name in key["tags"] for name in names):
+            self.append()
+            key["tags"] = {name: value for name, value in key["tags"].items() if name not in names}
+        return {}
+
+    def ListResourceTags(self, body):
+        key = self.key(body["KeyId"])
+        self.must("ListResourceTags", key)
+        marker = body.get("Marker")
+        if marker is not None and re.fullmatch("([0-9a-f]{2})+", marker) is None:
+            raise Refused("InvalidMarkerException", "The marker is not valid.")
+        after = [name for name in sorted(key["tags"], key=str.encode) if marker is None or name.encode() > bytes.fromhex(marker)]
+        limit = body.get("Limit", 50)
+        said = {"Tags": [{"TagKey": name, "TagValue": key["tags"][name]} for name in after[:limit]], "Truncated": len(after) > limit}
+        return said | ({"NextMarker": after[limit - 1].encode().hex()} if len(after) > limit else {})
 
     # ---- aliases
 
@@ -457,6 +624,7 @@ class Whole(make_key_lives.Account):
     def ListKeyRotations(self, body):
         key = self.key(body["KeyId"])
         self.must("ListKeyRotations", key)
+        self.rotated("ListKeyRotations", key)
         rows = [({"born": number}, {"KeyId": printed(key["id"]), "RotationDate": time, "RotationType": kind})
                 for number, (time, kind) in enumerate(key["versions"], 1) if number > 1]
         return self.page(body, "Rotations", rows, 100)

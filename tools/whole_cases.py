@@ -1,9 +1,9 @@
-"""What the cases of make_aliases.py, make_lists.py and make_grants.py share: callers, policies, and requests that are often asked."""
+"""What the scripts share whose cases ask the account of whole_account.py: callers, policies, and requests that are often asked."""
 
 import json
 
 from make_key_lives import ACCOUNT, DATA, DAY, HELLO, ID1, ID2, K1, K2, ROOT, START, arn, key_id, printed
-from whole_account import DEFAULT_POLICY, GRANT_OPERATIONS, Whole, alias_arn, grant_id
+from whole_account import DEFAULT_POLICY, GRANT_OPERATIONS, HMAC_256, HMAC_SHA_256, Whole, alias_arn, grant_id
 
 ANN, BOB, CAROL, DAN, EVE, FAY, GUS = (f"arn:aws:iam::{ACCOUNT}:user/{name}" for name in ("ann", "bob", "carol", "dan", "eve", "fay", "gus"))
 ROLE = f"arn:aws:iam::{ACCOUNT}:role/team/app"
@@ -80,9 +80,46 @@ def grant(account, key=ID1, grantee=ANN, operations=("Decrypt",), **more):
     return account.ask("CreateGrant", {"KeyId": key, "GranteePrincipal": grantee, "Operations": list(operations)} | more)
 
 
+def told(account, member):
+    """A member of what the last request was answered."""
+    return json.loads(account.said[-1][2].split(" ", 3)[3])[member]
+
+
 def told_grant(account):
     """The id of the grant that the last request made."""
-    return json.loads(account.said[-1][2].split(" ", 3)[3])["GrantId"]
+    return told(account, "GrantId")
+
+
+OF_MACS = {"KeySpec": HMAC_256, "KeyUsage": "GENERATE_VERIFY_MAC"}
+
+
+def hmac_key(account, **more):
+    return account.ask("CreateKey", OF_MACS | more)
+
+
+def generate(account, key, message=HELLO, **more):
+    return account.ask("GenerateMac", {"KeyId": key, "Message": message, "MacAlgorithm": HMAC_SHA_256} | more)
+
+
+def verify(account, key, mac, message=HELLO, **more):
+    return account.ask("VerifyMac", {"KeyId": key, "Message": message, "Mac": mac, "MacAlgorithm": HMAC_SHA_256} | more)
+
+
+def tags(**pairs):
+    """Tags as a request gives them."""
+    return [{"TagKey": name, "TagValue": value} for name, value in pairs.items()]
+
+
+def tag(account, key, **pairs):
+    return account.ask("TagResource", {"KeyId": key, "Tags": tags(**pairs)})
+
+
+def untag(account, key, *names):
+    return account.ask("UntagResource", {"KeyId": key, "TagKeys": list(names)})
+
+
+def list_tags(account, key, **more):
+    return account.ask("ListResourceTags", {"KeyId": key} | more)
 
 
 NAMES = [("ARN", f"arn:aws:kms:us-east-1:{ACCOUNT}:key/"), ("ROOT", ROOT), ("IAM", f"arn:aws:iam::{ACCOUNT}:user/")]

@@ -3,6 +3,7 @@ mod Serving
 mod Retiring
 mod DeadTokens
 mod Standing
+mod TagOrder
 mod Joining
 mod StateFacts
 mod LawSealings

@@ -2,8 +2,7 @@
 use Rattle.std.proofs.Common.{◌≡◌, ℕ, nat_le, Bool, true, false, Option, Some, sym, ap, ◌∙◌, refl, if◌then◌else◌}
 use Rattle.kms_names.specs.declared.actions.Action.{Action}
 use Rattle.kms_json.specs.declared.refusals.Refusal.TheVariants as refusal
-use Rattle.key_states.specs.declared.permissions.Need.{Need}
-use Rattle.key_states.specs.declared.permissions.Need.TheVariants as need
+use Rattle.kms_names.specs.declared.actions.Action.TheVariants as name
 use Rattle.key_states.specs.declared.rows.KeyRow.{KeyRow}
 use Rattle.key_states.specs.declared.states.State.TheVariants as state
 use Rattle.key_states.specs.declared.states.Stored.{Stored}
@@ -25,18 +24,18 @@ module _ (view : View) (row : KeyRow) where
       by_test false e = refl
 
   by_stored : (stored : Stored) → row.stored ≡ stored → is_gone view.moment row ≡ false
-      → refused_state view row (refusal_of need.Enabled (state_of row.stored view.moment)) ≡ exception_of (arn_of view.facts row.key) stored
-  by_stored at.Enabled is live = ap (λ (s : Stored). refused_state view row (refusal_of need.Enabled (state_of s view.moment))) is
-  by_stored at.Disabled is live = ap (λ (s : Stored). refused_state view row (refusal_of need.Enabled (state_of s view.moment))) is
+      → refused_state view row (refusal_of (need_of name.Decrypt) (state_of row.stored view.moment)) ≡ exception_of (arn_of view.facts row.key) stored
+  by_stored at.Enabled is live = ap (λ (s : Stored). refused_state view row (refusal_of (need_of name.Decrypt) (state_of s view.moment))) is
+  by_stored at.Disabled is live = ap (λ (s : Stored). refused_state view row (refusal_of (need_of name.Decrypt) (state_of s view.moment))) is
   by_stored (at.Pending date days) is live =
       let not_yet : nat_le date view.moment ≡ false = pending_live date (ap (λ (s : Stored). is_state_gone (state_of s view.moment)) (sym is) ∙ live) in
-      ap (λ (s : Stored). refused_state view row (refusal_of need.Enabled (state_of s view.moment))) is
-      ∙ ap (λ (b : Bool). refused_state view row (refusal_of need.Enabled (if b then state.Gone else state.PendingDeletion))) not_yet
+      ap (λ (s : Stored). refused_state view row (refusal_of (need_of name.Decrypt) (state_of s view.moment))) is
+      ∙ ap (λ (b : Bool). refused_state view row (refusal_of (need_of name.Decrypt) (if b then state.Gone else state.PendingDeletion))) not_yet
       ∙ ap (λ (s : Stored). Some (refusal.InvalidState (arn_of view.facts row.key) (told_state s))) is
 
   -- a key that isn't gone, for an action that needs an enabled one
-  pub by_state : (action : Action) → need_of action ≡ need.Enabled → (stored : Stored) → row.stored ≡ stored → is_gone view.moment row ≡ false
+  pub by_state : (action : Action) → refusal_of (need_of action) (state_of row.stored view.moment) ≡ refusal_of (need_of name.Decrypt) (state_of row.stored view.moment)
+      → (stored : Stored) → row.stored ≡ stored → is_gone view.moment row ≡ false
       → unfit_one view (record { action = action; key = row }) ≡ exception_of (arn_of view.facts row.key) stored
   unfolding unfit_one
-  by_state action needs stored is live =
-      ap (λ (n : Need). refused_state view row (refusal_of n (state_of row.stored view.moment))) needs ∙ by_stored stored is live
+  by_state action needs stored is live = ap (refused_state view row) needs ∙ by_stored stored is live

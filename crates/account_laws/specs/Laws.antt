@@ -24,6 +24,9 @@ use Rattle.kms_json.specs.declared.replies.Reply.TheVariants as reply
 use Rattle.kms_json.specs.declared.replies.Reply.TheVariants.{Refused}
 use Rattle.kms_json.specs.declared.states.KeyState.TheVariants as told
 use Rattle.hmac_keys.specs.declared.kinds.KeyKind.TheVariants.{Symmetric}
+use Rattle.persist_map.specs.Pairs.{Ascends}
+use Rattle.resource_tags.specs.declared.tags.Tag.{Tag}
+use Rattle.resource_tags.specs.Tags.{Tags, by_bytes}
 use Rattle.key_states.specs.declared.states.Stored.{Stored}
 use Rattle.key_states.specs.declared.states.Stored.TheVariants as stored
 use Rattle.account_steps.specs.declared.facts.RealmFacts.{RealmFacts}
@@ -48,6 +51,7 @@ use Rattle.account_steps.specs.Parts.{dead_token}
 use Rattle.account_lists.specs.declared.listings.Numbered.{Numbered}
 use Rattle.account_lists.specs.declared.lists.Sought.{Sought}
 use Rattle.account_lists.specs.Pages.{PartsFrom, rows_behind}
+use Rattle.account_tags.specs.Pages.{PartsFrom as TagPartsFrom, tags_behind}
 use Rattle.account_lists.specs.Lists.{listed_keys, listed_aliases, retirable_grants, grants_of_key, rotations_of}
 use Rattle.account_core.specs.Decide.{lacking, decide, IsProper, IsLawful}
 
@@ -235,6 +239,16 @@ pub record ListsAreWhole (view : View) : Type 0 where
 abbrev pub ListsOfLawfulHistoriesAreWhole : Type 0
 ListsOfLawfulHistoriesAreWhole =
     (facts : RealmFacts) (history : List Entry) (x : Ask) (places : Places) → IsLawful facts history → ListsAreWhole (view_of facts history x places)
+
+-- the tags of a key stand in ascending byte order of their keys, and the parts of their list that follow one another's markers come to an end and, joined, are exactly
+-- those whose keys are above the bytes where they begin
+pub record AreTagsWhole (tags : Tags) : Type 0 where
+  pub in_order : Ascends by_bytes tags
+  pub parts : (limit : ℕ) → 1 ≤ limit → (after : Option (List ℕ)) (joined : List Tag) → TagPartsFrom tags limit after joined ↔ (joined ≡ tags_behind after tags)
+
+-- so it is of each key of every history
+abbrev pub TagsOfKeysAreWhole : Type 0
+TagsOfKeysAreWhole = (history : List Entry) → All (λ (row : KeyRow). AreTagsWhole row.tags) (replay history).keys
 
 -- ---- authority
 

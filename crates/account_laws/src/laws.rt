@@ -1,6 +1,6 @@
 //! Laws of what the account answers. Each stands as the contract of a function that does nothing.
 
-ghost use Rattle.account_laws.specs.Laws.{SealedIsDecryptedAgain, EarlierBlobsAreDecrypted, OnePassRepeatsNoIv, PassesShareNoIv, BootsShareNoIv, TimesNeverFall, HouseIsKeptOnce, KeysDiffer, GrantsDiffer, PassesWhereStatementsAllow, PassesWithoutACeiling, NamesTheFirstDenied, GrantsPermit, DroppedGrantsStayAway, RowsStandInOrder, ListsOfLawfulHistoriesAreWhole};
+ghost use Rattle.account_laws.specs.Laws.{SealedIsDecryptedAgain, EarlierBlobsAreDecrypted, OnePassRepeatsNoIv, PassesShareNoIv, BootsShareNoIv, TimesNeverFall, HouseIsKeptOnce, KeysDiffer, GrantsDiffer, PassesWhereStatementsAllow, PassesWithoutACeiling, NamesTheFirstDenied, GrantsPermit, DroppedGrantsStayAway, RowsStandInOrder, ListsOfLawfulHistoriesAreWhole, TagsOfKeysAreWhole};
 ghost use Rattle.account_laws.specs.Macs.{MacsAreVerifiedAgain};
 ghost use Rattle.account_laws.specs.Tokens.{DeadTokensAreRefused};
 ghost use Rattle.account_steps.specs.View.{View};
@@ -121,8 +121,10 @@ pub fn rows_stand_in_order()
 
 /// Each list of a lawful history stands in order of making. Its parts, each behind the marker of the one
 /// before it, come to an end, and joined they are its rows behind the place where they begin, each once.
-/// At any view, joined parts are these rows where the list's rows stand in order of making.
+/// At any view, joined parts are these rows where the list's rows stand in order of making. So do the tags of
+/// each key, in the byte order of their keys.
 pub fn parts_make_the_whole()
     ensures in_order { (view : View) → PartsOfListsMakeTheWhole view }
     ensures lawful { ListsOfLawfulHistoriesAreWhole }
+    ensures tags { TagsOfKeysAreWhole }
 {}

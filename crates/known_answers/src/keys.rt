@@ -4,8 +4,10 @@ ghost use Rattle.key_states.specs.declared.states.State.{State};
 
 use crate::cases::Case;
 use crate::names::read_action;
+use hmac_keys::KeyKind;
 use key_states::{KeyRow, State, StateFault, Stored, Version, VersionList, permits};
 use kms_names::KeyId;
+use resource_tags::TagMap;
 
 /// The state of a key at a moment, whether its rotation is due, and what its state permits.
 pub fn keys(case: &mut Case<'_>) {
@@ -46,6 +48,7 @@ fn row(case: &mut Case<'_>, stored: Stored, period: Option<u32>, next: u64) -> K
         key: KeyId::new([7; 16]),
         born: 3,
         made: 1_700_000_000,
+        kind: KeyKind::Symmetric,
         description: case.owned("d"),
         policy: case.owned("p"),
         stored: case.kept_or(stored.copy(), stored),
@@ -53,6 +56,7 @@ fn row(case: &mut Case<'_>, stored: Stored, period: Option<u32>, next: u64) -> K
         period,
         next,
         on_demand: 1,
+        tags: TagMap::new(case.alloc),
     };
     case.kept_or(row.copy(), row)
 }

@@ -1,7 +1,8 @@
 //! The cases of tags.
 
 use crate::cases::Case;
-use resource_tags::{Tag, TagFault, TagMap};
+use kms_names::Text;
+use resource_tags::{Tag, TagFault, TagList, TagMap, are_proper};
 
 /// What a call of tags answers.
 pub fn tags(case: &mut Case<'_>) {
@@ -11,6 +12,12 @@ pub fn tags(case: &mut Case<'_>) {
         "get" => get(case),
         "after" => after(case),
         "len" => len(case),
+        "iter" => iter(case),
+        "copied" => copied(case),
+        "are_proper" => {
+            let tags = listed(case);
+            case.put_truth(are_proper(&tags));
+        }
         _ => case.lose(),
     }
 }
@@ -43,14 +50,19 @@ fn map_of(case: &mut Case<'_>) -> TagMap {
     case.kept_or(made, none)
 }
 
+// Puts a tag behind the others.
+fn put_tag(case: &mut Case<'_>, key: &Text, value: &Text) {
+    case.put_after(",", key.as_str());
+    case.write("=");
+    case.write(value.as_str());
+}
+
 // Puts all tags, each found behind the one before it.
 fn put_tags(case: &mut Case<'_>, map: &TagMap) {
     let mut next = map.after(&[]);
     for _ in 0..map.len() {
         if let Some((key, value)) = next {
-            case.put_after(",", key.as_str());
-            case.write("=");
-            case.write(value.as_str());
+            put_tag(case, key, value);
             next = map.after(key.as_str().as_bytes());
         }
     }
@@ -103,4 +115,22 @@ fn after(case: &mut Case<'_>) {
 fn len(case: &mut Case<'_>) {
     let map = map_of(case);
     case.put_number(map.len() as u64);
+}
+
+fn iter(case: &mut Case<'_>) {
+    let map = map_of(case);
+    for (key, value) in map.iter() {
+        put_tag(case, key, value);
+    }
+    case.end_list();
+}
+
+// Puts the tags of a copy of a list, as they were given.
+fn copied(case: &mut Case<'_>) {
+    let list = TagList::new(listed(case));
+    let copied = case.kept_or(list.copy(), list);
+    for tag in copied.as_slice() {
+        put_tag(case, &tag.key, &tag.value);
+    }
+    case.end_list();
 }

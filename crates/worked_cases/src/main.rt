@@ -26,7 +26,7 @@ use std::{fs, io, rt};
 use texts::expanded;
 
 // The scripts, each with the cases that show one thing.
-const SCRIPTS: [&str; 22] = [
+const SCRIPTS: [&str; 25] = [
     "first_path.txt",
     "pieces.txt",
     "faults.txt",
@@ -49,6 +49,9 @@ const SCRIPTS: [&str; 22] = [
     "lists.txt",
     "grants.txt",
     "sessions.txt",
+    "macs.txt",
+    "tags.txt",
+    "tagged_sessions.txt",
 ];
 
 // How many cases held, and how many didn't.

@@ -43,3 +43,9 @@ returns-in-RetireGrant c = subst (OfBody c.args.view.now c.change-in-RetireGrant
 
 pub returns-in-RevokeGrant : goal.returns-in-RevokeGrant
 returns-in-RevokeGrant c = subst (OfBody c.args.view.now c.change-in-RevokeGrant.result) (sym c.in-RevokeGrant.is) c.change-in-RevokeGrant.ensures
+
+pub returns-in-TagResource : goal.returns-in-TagResource
+returns-in-TagResource c = subst (OfBody c.args.view.now c.change-in-TagResource.result) (sym c.in-TagResource.is) c.change-in-TagResource.ensures
+
+pub returns-in-UntagResource : goal.returns-in-UntagResource
+returns-in-UntagResource c = subst (OfBody c.args.view.now c.change-in-UntagResource.result) (sym c.in-UntagResource.is) c.change-in-UntagResource.ensures

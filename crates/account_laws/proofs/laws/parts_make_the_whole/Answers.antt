@@ -1,5 +1,6 @@
 use Rattle.account_lists.proofs.PageFacts.{whole_of}
 use Rattle.account_laws.proofs.Joining.{lists_are_whole}
+use Rattle.account_laws.proofs.TagOrder.{tags_are_whole}
 use Rattle.account_laws.proofs.laws.parts_make_the_whole.Goals as goal
 
 pub returns-clause-in_order : goal.returns-clause-in_order
@@ -13,3 +14,6 @@ returns-clause-in_order c = λ view. record {
 
 pub returns-clause-lawful : goal.returns-clause-lawful
 returns-clause-lawful c = lists_are_whole
+
+pub returns-clause-tags : goal.returns-clause-tags
+returns-clause-tags c = tags_are_whole
