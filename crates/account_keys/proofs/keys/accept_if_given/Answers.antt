@@ -13,7 +13,7 @@ returns-in_ok-tags-in-Some c =
     let view = c.args.view.now in
     let request = c.args.request.now in
     let id : c.key_id-id.result ≡ key_id_at view.facts view.place
-        = c.key_id-id.ensures ∙ ap (λ (facts : RealmFacts). key_id_at facts c.place.result) c.facts.ensures ∙ ap (key_id_at view.facts) c.place.ensures in
+    = c.key_id-id.ensures ∙ ap (λ (facts : RealmFacts). key_id_at facts c.place.result) c.facts.ensures ∙ ap (key_id_at view.facts) c.place.ensures in
     let tags : c.in_ok-tags-in-Some.tags ≡ with_tags [] request.tags = c.in_ok-tags-in-Some.ensures in
     let made : List ℕ → Tags → KeySaid = λ key tags. record { key = key; kind = c.args.kind; tags = tags } in
     let key : made c.key_id-id.result c.in_ok-tags-in-Some.tags ≡ said_new_key view c.args.kind request.tags = ap₂ made id tags in

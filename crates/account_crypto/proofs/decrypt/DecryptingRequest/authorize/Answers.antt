@@ -12,7 +12,7 @@ returns c =
     let row = c.args.found.now.row in
     let context = c.args.self.now.request.now.context in
     let said : c.of_context-said.result ≡ of_context view row c.args.found.now.alias context
-        = c.of_context-said.ensures ∙ ap₂ (λ (r : KeyRow) (a : Option (List ℕ)). of_context view r a context) (c.row.ensures.row ∙ c.lent.ensures) c.alias.ensures in
+    = c.of_context-said.ensures ∙ ap₂ (λ (r : KeyRow) (a : Option (List ℕ)). of_context view r a context) (c.row.ensures.row ∙ c.lent.ensures) c.alias.ensures in
     let asked = ap₂ (λ (r : KeyRow) (s : Particulars). on_key action.Decrypt r s) c.lent-2.ensures said in
     passes_one view (on_key action.Decrypt c.lent-2.result.now c.of_context-said.result) (on_key action.Decrypt row (of_context view row c.args.found.now.alias context)) c.authorize_on.result
     asked c.authorize_on.ensures
