@@ -1,18 +1,13 @@
 -- The token of a grant that is gone is refused by its name.
-use Rattle.std.proofs.Common.{◌≡◌, ℕ, zero, suc, ◌<◌, Bool, true, false, ◌||◌, if◌then◌else◌, List, [], ◌∷◌, ◌++◌, length, Option, Some, None, is_none, Result, Ok, Err, refl, ap, ◌∙◌, arith}
-use Rattle.std.specs.Prelude.{Contains, option_and_then, ok_or, ⊤}
+use Rattle.std.proofs.Common.{◌≡◌, ℕ, zero, suc, Bool, true, false, ◌||◌, if◌then◌else◌, List, [], ◌∷◌, ◌++◌, Option, Some, None, is_none, Result, Ok, Err, refl, ap, ◌∙◌, arith}
+use Rattle.std.specs.Prelude.{Contains, option_and_then, ok_or}
 use Rattle.std.specs.List.{list_any}
 use Rattle.kms_json.specs.declared.refusals.Refusal.{Refusal}
 use Rattle.kms_json.specs.declared.refusals.Refusal.TheVariants as refusal
 use Rattle.account_steps.specs.View.{View, view_of, grant_held, if_live}
 use Rattle.account_steps.specs.Steps.{and_then, unless}
 use Rattle.account_steps.specs.Authority.{denied}
-use Rattle.account_steps.specs.declared.facts.RealmFacts.{RealmFacts}
-use Rattle.account_steps.specs.declared.places.Places.{Places}
-use Rattle.account_steps.specs.Parts.{Parts, ReadParts, ChangeParts, Outcome, grant_id_of, grant_of_token, is_dead, dead_token, unfit_state, only_asked, cleared, outcome, spent, limited}
-use Rattle.account_rows.specs.declared.entries.Entry.{Entry}
-use Rattle.account_rows.specs.declared.entries.What.TheVariants as what
-use Rattle.kms_json.specs.declared.asks.Ask.{Ask}
+use Rattle.account_steps.specs.Parts.{Parts, Outcome, grant_id_of, grant_of_token, is_dead, dead_token, unfit_state, only_asked, cleared, outcome, spent, limited}
 use Rattle.kms_json.specs.declared.asks.grants.RetiredGrant.TheVariants as retired
 use Rattle.grant_table.specs.declared.rows.GrantRow.{GrantRow}
 use Rattle.grant_table.specs.Grants.{grant_with}

@@ -1,5 +1,5 @@
 -- The laws of sealing.
-use Rattle.std.proofs.Common.{◌≡◌, ℕ, ◌-◌, ◌<◌, ◌≤◌, ◌^◌, List, [], ◌∷◌, ◌++◌, length, take, drop, get_or, Bool, true, false, nat_le, le-leb, Option, Some, None, Result, Ok, Err, refl, sym, ap, ◌∙◌, subst, if◌then◌else◌, append_assoc, arith, length-append}
+use Rattle.std.proofs.Common.{◌≡◌, ℕ, ◌-◌, ◌<◌, ◌≤◌, ◌^◌, List, [], ◌∷◌, ◌++◌, length, take, drop, get_or, Bool, false, le-leb, Option, Some, None, Result, Ok, Err, refl, sym, ap, ◌∙◌, subst, if◌then◌else◌, append_assoc, arith, length-append}
 use Rattle.std.specs.Prelude.{ok_or}
 use Rattle.std.specs.Int.{w16, w32, to_be_bytes}
 use Rattle.std.specs.List.Sorted.{IsNonDecreasingBy}
@@ -30,11 +30,6 @@ use Rattle.account_rows.specs.declared.entries.Entry.{Entry}
 use Rattle.hmac_keys.specs.declared.kinds.KeyKind.{KeyKind}
 use Rattle.hmac_keys.specs.declared.kinds.KeyKind.TheVariants.{Symmetric}
 use Rattle.key_states.specs.declared.rows.KeyRow.{KeyRow}
-use Rattle.key_states.specs.declared.states.State.TheVariants as state
-use Rattle.key_states.specs.declared.states.Stored.{Stored}
-use Rattle.key_states.specs.declared.states.Stored.TheVariants as at
-use Rattle.key_states.specs.Permissions.{refusal_of, need_of}
-use Rattle.key_states.specs.States.{state_of}
 use Rattle.account_steps.specs.Ids.{be48}
 use Rattle.account_steps.specs.Places.{IsUpTo, nothing_used}
 use Rattle.account_steps.specs.declared.places.Places.{Places}
@@ -42,19 +37,19 @@ use Rattle.account_steps.specs.declared.places.Uses.{Uses}
 use Rattle.blob_format.specs.Names.{BlobName, name_in, named_in}
 use Rattle.account_rows.specs.History.{replay, latest_of, key_with, IsRowOf}
 use Rattle.account_steps.specs.Source.{Source}
-use Rattle.account_steps.specs.View.{View, view_of, unless_gone, key_held}
+use Rattle.account_steps.specs.View.{View, view_of, key_held}
 use Rattle.account_steps.specs.Steps.{unless, and_then, or_else, unfit, unsupported, key_if_given, other_key, alias_of, blob_name, source_in, source_of, newest_version, opens, seals, arn_of}
 use Rattle.account_steps.specs.Authority.{on_key, denied, MayAsk}
 use Rattle.account_steps.specs.declared.checks.Named.{Named}
-use Rattle.account_steps.specs.Parts.{Outcome, reads, spent, dead_token, decided_read, only_asked, refused_state, unfit_one, told_state}
+use Rattle.account_steps.specs.Parts.{Outcome, reads, spent, dead_token, decided_read, only_asked, unfit_one}
 use Rattle.account_crypto.specs.Crypto.{decrypts}
 use Rattle.account_steps.specs.Authority.{of_context}
 use Rattle.account_core.specs.Operations.{read_outcome}
 use Rattle.account_core.specs.Decide.{lacking, decide_body, decide, IsLawful, empty, longer}
-use Rattle.account_laws.specs.Laws.{Sealing, HasSealed, reply_to, PassGoesOn, no_request, one_more, wants_memory, iv_in, exception_of, unless_excepted, SealedIsDecryptedAgain, AsksToOpen, SealedEarlier, EarlierBlobsAreDecrypted, OnePassRepeatsNoIv, PassesShareNoIv, BootsShareNoIv, TimesNeverFall, HouseIsKeptOnce, KeysDiffer, GrantsDiffer}
+use Rattle.account_laws.specs.Laws.{Sealing, HasSealed, reply_to, PassGoesOn, no_request, one_more, wants_memory, iv_in, exception_of, unless_excepted, SealedIsDecryptedAgain, AsksToOpen, EarlierBlobsAreDecrypted, OnePassRepeatsNoIv, PassesShareNoIv, BootsShareNoIv, TimesNeverFall, HouseIsKeptOnce, KeysDiffer, GrantsDiffer}
 use Rattle.blob_format.proofs.BlobNames.{named_blob}
 use Rattle.account_core.proofs.GoingOn.{decide_goes_on}
-use Rattle.account_rows.specs.Changes.{HasVersions, is_gone, is_state_gone}
+use Rattle.account_rows.specs.Changes.{HasVersions}
 use Rattle.account_rows.proofs.RowFacts.{found_key, found_all, latest-push}
 use Rattle.account_rows.proofs.VersionFacts.{versions_grow, kind_stays}
 use Rattle.account_rows.proofs.HouseFacts.{kept_once}

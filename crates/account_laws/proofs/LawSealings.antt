@@ -1,15 +1,10 @@
 -- What a served sealing says: its key, its blob, its initialization vector and where it leaves the pass.
-use Rattle.std.proofs.Common.{◌≡◌, ℕ, ◌+◌, ◌-◌, ◌<◌, ◌≤◌, ◌^◌, ◌&&◌, List, length, Bool, true, false, Option, Some, None, Result, Ok, Err, refl, sym, ap, ◌∙◌, subst, if◌then◌else◌, nat_le, nat_lt, leb-true, arith, length-take, length-drop}
-use Rattle.std.specs.Prelude.{slice_range, ok_or, option_and_then}
+use Rattle.std.proofs.Common.{◌≡◌, ℕ, ◌+◌, ◌<◌, ◌≤◌, ◌^◌, List, length, Bool, true, false, Option, Some, None, Result, Ok, Err, refl, sym, ap, ◌∙◌, subst, if◌then◌else◌, nat_le, nat_lt, arith}
+use Rattle.std.specs.Prelude.{ok_or}
 use Rattle.std.proofs.lemmas.Bool.Decides.{nat_tests}
 use Rattle.draw_lines.proofs.DrawFacts.{draw_length}
-use Rattle.enc_context.specs.declared.pairs.Pair.{Pair}
 use Rattle.crypto_ops.specs.Sealed.{opened}
 use Rattle.crypto_ops.proofs.OpeningFacts.{opened_size}
-use Rattle.kms_names.specs.declared.faults.NameFault.{NameFault}
-use Rattle.kms_names.specs.declared.faults.NameFault.TheVariants as fault
-use Rattle.kms_names.specs.declared.references.KeyRef.{KeyRef}
-use Rattle.kms_names.specs.declared.references.KeyRef.TheVariants.{Key, Alias, Elsewhere}
 use Rattle.kms_names.specs.declared.actions.Action.{Action}
 use Rattle.kms_names.specs.declared.actions.Action.TheVariants as action
 use Rattle.kms_json.specs.declared.asks.Ask.{Ask}
@@ -21,7 +16,6 @@ use Rattle.kms_json.specs.declared.replies.Reply.{Reply}
 use Rattle.kms_json.specs.declared.replies.Reply.TheVariants as reply
 use Rattle.kms_json.specs.declared.refusals.Refusal.{Refusal}
 use Rattle.kms_json.specs.declared.refusals.Refusal.TheVariants as refusal
-use Rattle.kms_json.specs.declared.refusals.Missing.TheVariants as missing
 use Rattle.kms_json.specs.Asks.{IsSized, IsSizedReading}
 use Rattle.kms_json.proofs.Sizes.{asked_sized}
 use Rattle.account_steps.specs.declared.facts.RealmFacts.{RealmFacts}
@@ -32,21 +26,17 @@ use Rattle.key_states.specs.declared.rows.KeyRow.{KeyRow}
 use Rattle.account_crypto.specs.declared.re_encrypt.Turning.{Turning}
 use Rattle.account_steps.specs.declared.places.Uses.{Uses}
 use Rattle.account_steps.specs.declared.places.Places.{Places}
-use Rattle.blob_format.specs.Names.{BlobName, name_in, named_in, has_form}
+use Rattle.blob_format.specs.Names.{BlobName}
 use Rattle.account_rows.specs.History.{replay, key_with}
 use Rattle.account_steps.specs.Source.{Source}
-use Rattle.alias_map.specs.declared.rows.AliasRow.{AliasRow}
-use Rattle.alias_map.specs.Aliases.{row_named}
 use Rattle.account_steps.specs.declared.checks.Named.{Named}
-use Rattle.account_steps.specs.View.{View, view_of, unless_gone, key_held, aliased}
-use Rattle.account_rows.specs.Changes.{is_gone}
+use Rattle.account_steps.specs.View.{View, view_of}
 use Rattle.account_steps.specs.Steps.{unless, or_else, and_then, other_kind, unfit, unfit_algorithm, alias_of, key_if_given, key_of, other_key, blob_name, held_key, source_in, source_of, newest_version, opens, seals, draws, arn_of}
 use Rattle.account_steps.specs.Parts.{Outcome, spent, no_more_draws, no_more_ivs, after}
 use Rattle.account_crypto.specs.Crypto.{one_iv, words_and_iv, encrypts, re_encrypts, generates_data_key}
 use Rattle.account_crypto.specs.declared.data_keys.DataKeyForm.TheVariants as form
 use Rattle.account_core.specs.Decide.{decide, IsProper}
 use Rattle.account_laws.specs.Laws.{Sealing, HasSealed, encrypted, re_encrypted, data_key, sealed_data_key}
-use Rattle.account_rows.proofs.RowFacts.{found_key}
 use Rattle.account_steps.proofs.Passing.{found_of, none_of, next_of, ok_same, read_passed}
 use Rattle.account_steps.proofs.Holding.{key_there}
 use Rattle.account_laws.proofs.Serving.{Serves, serves_of}

@@ -1,11 +1,10 @@
 -- What GenerateMac answered, VerifyMac takes, and no other MAC.
-use Rattle.std.proofs.Common.{◌≡◌, ◌≢◌, ℕ, List, [], ◌∷◌, ◌++◌, length, Bool, true, false, Option, Some, None, Result, Ok, Err, refl, sym, ap, ◌∙◌, subst, if◌then◌else◌}
+use Rattle.std.proofs.Common.{◌≡◌, ◌≢◌, ℕ, List, [], ◌∷◌, ◌++◌, length, Bool, true, false, Option, Some, None, Result, Ok, Err, refl, sym, ap, ◌∙◌, if◌then◌else◌}
 use Rattle.std.specs.Bool.{⊤}
 use Rattle.std.specs.Str.{bytes_eq}
 use Rattle.std.proofs.lemmas.Slice.Eq.{bytes_eq-Decides}
 use Rattle.hmac_keys.specs.Mac.{mac_of}
 use Rattle.hmac_keys.specs.declared.kinds.KeyKind.{KeyKind}
-use Rattle.hmac_keys.specs.declared.kinds.KeyKind.TheVariants.{Symmetric, Hmac256}
 use Rattle.kms_names.specs.declared.actions.Action.TheVariants as action
 use Rattle.authority.specs.Setting.{callers_policies}
 use Rattle.authority.specs.Allowed.{AreIdentityPolicies}
@@ -27,8 +26,8 @@ use Rattle.account_steps.specs.declared.places.Places.{Places}
 use Rattle.account_steps.specs.declared.places.Uses.{Uses}
 use Rattle.account_steps.specs.declared.checks.Named.{Named}
 use Rattle.account_steps.specs.Places.{nothing_used}
-use Rattle.account_steps.specs.Steps.{unless, or_else, other_kind, unfit_mac, key_of, arn_of}
-use Rattle.account_steps.specs.View.{View, view_of, key_held}
+use Rattle.account_steps.specs.Steps.{unless, or_else, unfit_mac, key_of, arn_of}
+use Rattle.account_steps.specs.View.{View, view_of}
 use Rattle.account_steps.specs.Authority.{on_key, denied, of_mac, MayAsk}
 use Rattle.account_steps.specs.Parts.{Outcome, reads, spent, dead_token, decided_read, only_asked, unfit_one}
 use Rattle.account_steps.proofs.Asking.{one_passes}
@@ -36,23 +35,14 @@ use Rattle.account_steps.proofs.Holding.{key_there, key_lives}
 use Rattle.account_steps.proofs.Passing.{none_of, ok_same, read_passed, goes_through, stops_at_state, stops_at_own}
 use Rattle.account_crypto.specs.Crypto.{mac_under, wrong_mac, generates_mac, verifies_mac}
 use Rattle.account_core.specs.Operations.{read_outcome}
-use Rattle.account_core.specs.Decide.{lacking, decide_body, decide, IsLawful}
+use Rattle.account_core.specs.Decide.{lacking, decide_body, decide}
 use Rattle.account_core.proofs.Fitting.{laws_of}
 use Rattle.account_laws.specs.Laws.{reply_to, exception_of, unless_excepted}
-use Rattle.account_laws.specs.Macs.{HasMac, AsksToVerify, Verifies, MacsAreVerifiedAgain}
+use Rattle.account_laws.specs.Macs.{HasMac, MacsAreVerifiedAgain}
 use Rattle.account_laws.proofs.Serving.{serves_of}
 use Rattle.account_laws.proofs.StateFacts.{by_state}
 
 -- ---- a MAC that was answered
-
--- a key and an algorithm that fit: the key is an HMAC key
-first_of : (first second : Option Refusal) → or_else first second ≡ None → first ≡ None
-first_of (Some why) second e = e
-first_of None second e = refl
-
-hmac_of : (kind : KeyKind) → other_kind Hmac256 kind ≡ None → kind ≡ Hmac256
-hmac_of Symmetric e = cc
-hmac_of Hmac256 e = refl
 
 record IsMade (facts : RealmFacts) (history : List Entry) (message algorithm mac key : List ℕ) : Type 0 where
   row : KeyRow

@@ -1,5 +1,5 @@
 -- The answer of a key's state to what needs an enabled key.
-use Rattle.std.proofs.Common.{◌≡◌, ℕ, nat_le, Bool, true, false, Option, Some, sym, ap, ◌∙◌, refl, if◌then◌else◌}
+use Rattle.std.proofs.Common.{◌≡◌, ℕ, nat_le, Bool, true, false, Some, sym, ap, ◌∙◌, refl, if◌then◌else◌}
 use Rattle.kms_names.specs.declared.actions.Action.{Action}
 use Rattle.kms_json.specs.declared.refusals.Refusal.TheVariants as refusal
 use Rattle.kms_names.specs.declared.actions.Action.TheVariants as name
