@@ -1,7 +1,7 @@
 -- What the program comes to where nothing disturbs it, by what it does.
 use Rattle.std.proofs.Common.{◌≡◌, ◌⊎◌, inl, inr, ℕ, List, Bool, true, false, Option, None, Some, refl, ap, ◌∙◌}
-use Rattle.kms_session.specs.Run.{Item}
-use Rattle.kms_session.specs.Complete.{IsAsked, end_of}
+use Rattle.session_front.specs.Items.{Item}
+use Rattle.session_front.specs.Complete.{IsAsked, end_of}
 use Rattle.kms_session.specs.Session.{Outside, outside}
 use Rattle.kms_session.proofs.Complete.{each_is_answered}
 use Rattle.kms_words.specs.Words.{Command, RunValues, run, run_file, check, serve, load, command_of}

@@ -2,9 +2,11 @@
 use Rattle.std.specs.Prelude.{◌≡◌, ℕ, List, Bool, Option, None, Some, length}
 use Rattle.kms_io.specs.Wire.{Wire, RoseBy}
 use Rattle.kms_config.specs.declared.config.Config.{Config}
-use Rattle.kms_session.specs.Run.{Item}
-use Rattle.kms_session.specs.Session.{outside, SendsWhole}
-use Rattle.kms_session.specs.Complete.{IsAsked, AnswersEach}
+use Rattle.session_front.specs.Items.{Item}
+use Rattle.session_front.specs.Sending.{SendsWhole}
+use Rattle.kms_session.specs.Session.{outside}
+use Rattle.session_front.specs.Complete.{IsAsked}
+use Rattle.kms_session.specs.Complete.{AnswersEach}
 use Rattle.kms_words.specs.Words.{Command, run, run_file, check, serve, load}
 use Rattle.publish_pass.specs.Pass.{Pass, fresh_pass}
 use Rattle.kms_workload.specs.Summary.{Summarizes}

@@ -6,16 +6,17 @@ use Rattle.kms_io.specs.Doorway.{Doorway}
 use Rattle.kms_io.specs.Files.{Asks, MayAsk}
 use Rattle.account_steps.specs.declared.facts.RealmFacts.{RealmFacts}
 use Rattle.kms_config.specs.declared.config.Config.{Config}
-use Rattle.kms_session.specs.declared.trust.Trust.{Trust}
-use Rattle.kms_session.specs.declared.trust.Trust.TheVariants.{Signed}
+use Rattle.session_front.specs.declared.trust.Trust.{Trust}
+use Rattle.session_front.specs.declared.trust.Trust.TheVariants.{Signed}
 use Rattle.kms_program.specs.Statuses.{well, misused, refused, cut_off, unread, unwritten, no_memory}
 use Rattle.kms_program.specs.declared.settings.Settings.{Settings}
 use Rattle.kms_program.specs.declared.settings.RunOption.{RunOption}
 use Rattle.kms_program.specs.declared.settings.RunOption.TheVariants.{Account, Region, Root, Boot, As}
-use Rattle.kms_session.specs.declared.session.SessionEnd.{SessionEnd}
-use Rattle.kms_session.specs.declared.session.SessionEnd.TheVariants.{Ended, Closed, CutOff, ReadFault, WriteFault, NoMemory}
+use Rattle.session_front.specs.declared.ends.SessionEnd.{SessionEnd}
+use Rattle.session_front.specs.declared.ends.SessionEnd.TheVariants.{Ended, Closed, CutOff, ReadFault, WriteFault, NoMemory}
 use Rattle.publish_pass.specs.Pass.{Pass, fresh_pass, first_places}
-use Rattle.kms_session.specs.Session.{outside, SendsWhole, SendsShort, EndsBy}
+use Rattle.session_front.specs.Sending.{SendsWhole, SendsShort}
+use Rattle.kms_session.specs.Session.{outside, EndsBy}
 use Rattle.kms_server.specs.declared.server.Served.{Served}
 use Rattle.kms_server.specs.Server.{Wanted, Surroundings, surroundings, ServesDoor, FindsShut, OpensNothing}
 use Rattle.kms_workload.specs.Summary.{Summarizes}

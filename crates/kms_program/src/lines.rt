@@ -1,6 +1,6 @@
 // The lines that the program writes.
 ghost use Rattle.std.specs.Prelude.{◌≡◌, IfOk, OnOk, OnErr, string_bytes, codes, MatchBool};
-ghost use Rattle.kms_session.specs.Session.{SendsWhole, SendsShort};
+ghost use Rattle.session_front.specs.Sending.{SendsWhole, SendsShort};
 ghost use Rattle.kms_program.specs.Program.{SaysLine, usage_line, path_of, refused_line, checked_line, served_line};
 
 use crate::settings::RunOption;

@@ -2,8 +2,8 @@
 ghost use Rattle.std.specs.Prelude.{◌≡◌, ℕ, List, Option, Some, map, string_bytes, option_map, vec_len};
 ghost use Rattle.kms_io.specs.Shelf.{Shelf};
 ghost use Rattle.published_account.specs.Rules.{Names};
-ghost use Rattle.kms_session.specs.Callers.{IsOfAccount};
-ghost use Rattle.kms_session.specs.declared.trust.Trust.TheVariants.{Signed};
+ghost use Rattle.session_front.specs.Callers.{IsOfAccount};
+ghost use Rattle.session_front.specs.declared.trust.Trust.TheVariants.{Signed};
 ghost use Rattle.kms_words.specs.Words.{values_in, shown, command_of};
 ghost use Rattle.kms_program.specs.Program.{around, everything, one_of, status_of_end, Serving, RunsValues, RunsConfig, Checks, WithFile, Does, Runs};
 ghost use Rattle.kms_program.specs.Complete.{Completes};

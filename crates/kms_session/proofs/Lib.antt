@@ -1,9 +1,5 @@
-mod Wires
-pub mod AskedLemmas
-mod Messages
 mod Runs
 mod ReplyLemmas
-pub mod Signers
-pub mod Cutting
+pub mod Proper
 pub mod OneEnds
 pub mod Complete

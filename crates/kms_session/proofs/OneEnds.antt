@@ -1,15 +1,15 @@
 -- No two ends hold of one session.
-use Rattle.std.proofs.Common.{◌≡◌, ◌<◌, ◌⊎◌, ℕ, List, [], ◌++◌, length, false, Some, sym, ap, subst, ◌∙◌, arith}
+use Rattle.std.proofs.Common.{◌≡◌, ◌⊎◌, ℕ, List, [], ◌++◌, length, false, Some, sym, ap, subst, ◌∙◌, arith}
 use Rattle.httparse.specs.Grammar.{NeverHasRequest}
 use Rattle.http_front.specs.Message.{IsCrowded}
 use Rattle.http_front.proofs.Bytes.{same_front}
 use Rattle.http_front.proofs.Answering.{empty_decided}
 use Rattle.kms_io.specs.Wire.{with_more}
-use Rattle.kms_session.specs.declared.trust.Trust.{Trust}
-use Rattle.kms_session.specs.Run.{Cuts}
+use Rattle.session_front.specs.declared.trust.Trust.{Trust}
+use Rattle.session_front.specs.Items.{Cuts}
 use Rattle.kms_session.specs.Session.{Outside, EndsBetween, EndsClosed, EndsInside}
 use Rattle.kms_session.specs.Complete.{TellsTaken, IsOneEnd}
-use Rattle.kms_session.proofs.Cutting.{nothing_open, closed_or_open, one_rest}
+use Rattle.session_front.proofs.Cutting.{nothing_open, closed_or_open, one_rest}
 
 -- the bytes that came are those that are told
 one_input : (old new : Outside) (a b : List ℕ) → TellsTaken old new → new.wire.taken ≡ with_more old.wire.taken a → new.wire.taken ≡ with_more old.wire.taken b → a ≡ b

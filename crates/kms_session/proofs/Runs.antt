@@ -1,25 +1,23 @@
 -- How a run goes on.
-use Rattle.std.proofs.Common.{◌≡◌, ◌<◌, ◌+◌, ℕ, List, [], ◌∷◌, ◌++◌, Bool, true, false, ◌||◌, ◌==◌, refl, sym, ap, ◌∙◌, append_assoc, append-nil, add-zero, add_assoc, length, Option, length-append, subst, drop, arith}
+use Rattle.std.proofs.Common.{◌≡◌, ◌<◌, ◌+◌, ℕ, List, [], ◌∷◌, ◌++◌, Bool, true, false, refl, sym, ap, ◌∙◌, append_assoc, append-nil, add-zero, add_assoc, length, Option, length-append, subst, drop, arith}
 use Rattle.kms_names.specs.Moment.{year_10000}
 use Rattle.std.proofs.lemmas.List.{take-append-drop}
 use Rattle.kms_io.specs.Wire.{Wire, with_more, with_first, TellsMore}
 use Rattle.kms_io.specs.declared.link.Move.{Move}
 use Rattle.http_front.specs.Offsets.{Offsets, size_of}
 use Rattle.http_front.specs.declared.judge.HttpFault.{HttpFault}
-use Rattle.kms_session.specs.declared.trust.Trust.{Trust}
-use Rattle.kms_session.specs.Inbox.{Receives}
+use Rattle.session_front.specs.declared.trust.Trust.{Trust}
+use Rattle.session_front.specs.Inbox.{Receives}
 use Rattle.http_front.specs.Message.{Message, IsRefused, CutsOff}
-use Rattle.kms_session.specs.Run.{Item, whole, fault, closes_at, plan_of, Turn, goes_on, begins, Cuts, nothing, message, no_message}
+use Rattle.session_front.specs.Items.{Item, whole, fault, closes_at, Cuts, nothing, message, no_message}
+use Rattle.kms_session.specs.Run.{plan_of, Turn, goes_on, begins}
 use Rattle.publish_pass.specs.Pass.{Pass}
-use Rattle.kms_session.specs.Pace.{Gathers, no_read, one_read, no_bytes, PutsOut, no_write, one_write, Paced, paced_from, then_read, then_nothing, then_answer, then_write}
-use Rattle.kms_session.specs.Session.{Outside, SendsWhole, Serves, Responds, RespondsShort, BreaksOff}
-use Rattle.kms_session.proofs.Wires.{rose_since, with_more-append, with_first-append, with_more-nil, with_first-nil, tells_on, tells_nothing}
-
--- more bytes go to the rest
-pub cuts_more : {stream rest : List ℕ} {items : List Item} (bytes : List ℕ) → Cuts stream false items rest → Cuts (stream ++ bytes) false items (rest ++ bytes)
-cuts_more bytes nothing = nothing
-cuts_more bytes (message {items} {rest} {text} {more} {m} cuts split is closes) =
-    message (cuts_more bytes cuts) (ap (λ all. all ++ bytes) split ∙ append_assoc text more bytes) is closes
+use Rattle.session_front.specs.Pace.{Gathers, no_read, one_read, no_bytes, PutsOut, no_write, one_write}
+use Rattle.kms_session.specs.Pace.{Paced, paced_from, then_read, then_nothing, then_answer, then_write}
+use Rattle.session_front.specs.Sending.{SendsWhole}
+use Rattle.kms_session.specs.Session.{Outside, Serves, Responds, RespondsShort, BreaksOff}
+use Rattle.session_front.proofs.Cutting.{cuts_more}
+use Rattle.session_front.proofs.Wires.{rose_since, with_more-append, with_first-append, with_more-nil, with_first-nil, tells_on, tells_nothing}
 
 pub serves_nothing : (trust : Trust) (start : Outside) → Serves trust start start false 0 []
 serves_nothing trust start = record {
@@ -100,10 +98,6 @@ serves_item {trust} {start} {old} {new} {count} {buffer} {reply} {more} item c b
   read_faults = omega (arith, s.read_faults, sends.read_faults);
   write_faults = omega (arith, s.write_faults, sends.faults);
 }
-
--- whether the reply to a message closes
-pub message_closes : {buffer : List ℕ} {cut : Offsets} {closes : Bool} (m : Message) (number : ℕ) → closes ≡ (cut.closes || (number + 1 == 100000)) → CutsOff buffer cut m → closes ≡ closes_at number (whole m)
-message_closes m number is cuts = is ∙ ap (λ (b : Bool). b || (number + 1 == 100000)) cuts.closes
 
 -- a message at the front of the buffer is cut off
 cuts_message : {trust : Trust} {start old : Outside} {count : ℕ} {buffer : List ℕ} {closes : Bool} (cut : Offsets) (m : Message) (s : Serves trust start old false count buffer) → CutsOff buffer cut m

@@ -1,12 +1,14 @@
 -- Whole messages are answered, each once, and a session ends in one way.
-use Rattle.std.specs.Prelude.{◌≡◌, ◌⊎◌, ℕ, List, [], ◌∷◌, ◌++◌, length, Bool, true, false, Some}
+use Rattle.std.specs.Prelude.{◌≡◌, ◌⊎◌, ℕ, List, Bool, Some}
 use Rattle.httparse.specs.Grammar.{NeverHasRequest}
-use Rattle.http_front.specs.Message.{Message, IsMessage, IsCrowded}
+use Rattle.http_front.specs.Message.{IsCrowded}
 use Rattle.kms_io.specs.Wire.{RoseBy, with_more}
-use Rattle.kms_session.specs.declared.trust.Trust.{Trust}
-use Rattle.kms_session.specs.declared.session.SessionEnd.{SessionEnd}
-use Rattle.kms_session.specs.declared.session.SessionEnd.TheVariants.{Ended, Closed, NoMemory}
-use Rattle.kms_session.specs.Run.{Item, whole, SessionRun, closes_at}
+use Rattle.session_front.specs.declared.trust.Trust.{Trust}
+use Rattle.session_front.specs.declared.ends.SessionEnd.{SessionEnd}
+use Rattle.session_front.specs.declared.ends.SessionEnd.TheVariants.{NoMemory}
+use Rattle.session_front.specs.Items.{Item}
+use Rattle.session_front.specs.Complete.{IsAsked, end_of}
+use Rattle.kms_session.specs.Run.{SessionRun}
 use Rattle.kms_session.specs.Session.{Outside, EndsBetween, EndsClosed, EndsInside}
 
 -- ---- one end
@@ -27,20 +29,6 @@ pub record IsOneEnd (trust : Trust) (old new : Outside) : Type 0 where
 
 -- ---- each message is answered
 
--- The stream begins with these messages, each where the one before it ended, and goes on with this rest. The last of them closes, or
--- none does.
-pub data IsMadeOf (stream : List ℕ) : Bool → List Item → List ℕ → Type 0 where
-  no_message_yet : IsMadeOf stream false [] stream
-  one_message_more : {items : List Item} {rest text more : List ℕ} {m : Message} {closes : Bool}
-      → IsMadeOf stream false items rest → rest ≡ text ++ more → IsMessage m text → closes ≡ closes_at (length items) (whole m)
-      → IsMadeOf stream closes (items ++ whole m ∷ []) more
-
--- the bytes are these messages and no more, or these up to one that closes
-pub record IsAsked (input : List ℕ) (closes : Bool) (items : List Item) : Type 0 where
-  pub rest : List ℕ
-  pub made : IsMadeOf input closes items rest
-  pub all : closes ≡ false → rest ≡ []
-
 -- the link has these bytes to give, and neither count of its faults rises
 pub record IsUndisturbed (old new : Outside) (input : List ℕ) : Type 0 where
   pub gives : old.wire.left ≡ Some input
@@ -53,10 +41,6 @@ pub record AnswersEach (trust : Trust) (items : List Item) (old new : Outside) :
   pub text : List ℕ
   pub run : SessionRun old.pass trust new.pass items clocks text
   pub written : new.wire.written ≡ with_more old.wire.written text
-
-abbrev pub end_of : Bool → SessionEnd
-end_of true = Closed
-end_of false = Ended
 
 -- Where nothing disturbs the session, each message that it is asked is answered, and it ends as they say; or it wants memory, and took
 -- nothing.

@@ -2,14 +2,16 @@
 use Rattle.std.specs.Prelude.{◌∷◌, ◌++◌, ◌≡◌, ◌<◌, ◌≤◌, ℕ, List, [], length, Option, None, Some, Bool, true, false}
 use Rattle.kms_names.specs.Moment.{year_10000}
 use Rattle.kms_io.specs.Wire.{Wire, with_more, with_first, TellsMore, RoseBy}
-use Rattle.kms_io.specs.Link.{Sends, IsAtEnd}
-use Rattle.kms_session.specs.declared.trust.Trust.{Trust}
-use Rattle.kms_session.specs.declared.session.SessionEnd.{SessionEnd}
-use Rattle.kms_session.specs.declared.session.SessionEnd.TheVariants.{Ended, Closed, CutOff, ReadFault, WriteFault, NoMemory}
+use Rattle.kms_io.specs.Link.{IsAtEnd}
+use Rattle.session_front.specs.declared.trust.Trust.{Trust}
+use Rattle.session_front.specs.declared.ends.SessionEnd.{SessionEnd}
+use Rattle.session_front.specs.declared.ends.SessionEnd.TheVariants.{Ended, Closed, CutOff, ReadFault, WriteFault, NoMemory}
 use Rattle.http_front.specs.Message.{IsOpen}
 use Rattle.publish_pass.specs.Pass.{Pass}
-use Rattle.kms_session.specs.Pace.{PutsOut, Paced}
-use Rattle.kms_session.specs.Run.{Item, Plan, Replies, Turn, Cuts, SessionRun, closes_at}
+use Rattle.kms_session.specs.Pace.{Paced}
+use Rattle.session_front.specs.Items.{Item, Cuts, closes_at}
+use Rattle.session_front.specs.Sending.{SendsWhole, SendsShort}
+use Rattle.kms_session.specs.Run.{Plan, Replies, Turn, SessionRun}
 
 -- what a link and a clock tell, and what a pass holds
 pub record Outside : Type 0 where
@@ -19,20 +21,6 @@ pub record Outside : Type 0 where
 
 abbrev pub outside : Wire → Option (List ℕ) → Pass → Outside
 outside wire clock pass = record { wire = wire; clock = clock; pass = pass }
-
--- the text was written whole
-pub record SendsWhole (old new : Wire) (text : List ℕ) : Type 0 where
-  pub sends : Sends old new text
-  pub out : PutsOut old.moves (length text) new.moves
-
--- the link failed after the front of the text was written
-pub record SendsShort (old new : Wire) (text : List ℕ) : Type 0 where
-  pub front : List ℕ
-  pub cut : List ℕ
-  pub split : text ≡ front ++ cut
-  pub some : 0 < length cut
-  pub sends : Sends old new front
-  pub rose : RoseBy 1 old.write_faults new.write_faults
 
 -- the reply to a plan was written
 pub record Responds (s : Pass) (plan : Plan) (c : ℕ) (closes : Bool) (before after : Wire) (t : Pass) : Type 0 where

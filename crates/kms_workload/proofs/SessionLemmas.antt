@@ -5,10 +5,11 @@ use Rattle.std.proofs.lemmas.Bool.{lt-ltb}
 use Rattle.kms_io.specs.Wire.{Wire}
 use Rattle.kms_io.specs.Clock.{told_so_far, first_of}
 use Rattle.publish_pass.specs.Pass.{Pass, fresh_pass, first_places}
-use Rattle.kms_session.specs.declared.trust.Trust.{Trust}
-use Rattle.kms_session.specs.declared.session.SessionEnd.{SessionEnd}
-use Rattle.kms_session.specs.declared.session.SessionEnd.TheVariants.{Ended, Closed, CutOff, ReadFault, WriteFault, NoMemory}
-use Rattle.kms_session.specs.Run.{Item, Plan, Replies, answers, wants_memory, SessionRun, begins, goes_on}
+use Rattle.session_front.specs.declared.trust.Trust.{Trust}
+use Rattle.session_front.specs.declared.ends.SessionEnd.{SessionEnd}
+use Rattle.session_front.specs.declared.ends.SessionEnd.TheVariants.{Ended, Closed, CutOff, ReadFault, WriteFault, NoMemory}
+use Rattle.session_front.specs.Items.{Item}
+use Rattle.kms_session.specs.Run.{Plan, Replies, answers, wants_memory, SessionRun, begins, goes_on}
 use Rattle.kms_session.specs.Session.{Outside, outside, Serves, EndsBy}
 use Rattle.kms_workload.specs.Facts.{load_facts, load_trust}
 use Rattle.kms_workload.specs.Seconds.{second_of, seconds_of}

@@ -1,10 +1,11 @@
 use Rattle.std.proofs.Common.{◌+◌, ℕ, sym, subst, drop, ap, ◌∙◌, List}
 use Rattle.http_front.specs.Message.{CutsOff}
 use Rattle.kms_session.specs.Session.{outside}
-use Rattle.kms_session.proofs.Runs.{serves_read, serves_message, serves_fault, message_closes, serves_where, serves_rest, breaks_at_message, breaks_at_fault}
-use Rattle.kms_session.proofs.Messages.{not_last}
+use Rattle.session_front.proofs.Cutting.{message_closes}
+use Rattle.kms_session.proofs.Runs.{serves_read, serves_message, serves_fault, serves_where, serves_rest, breaks_at_message, breaks_at_fault}
+use Rattle.session_front.proofs.Messages.{not_last}
 use Rattle.kms_session.proofs.ReplyLemmas.{facts_kept}
-use Rattle.kms_session.proofs.Wires.{rose_since}
+use Rattle.session_front.proofs.Wires.{rose_since}
 use Rattle.kms_session.proofs.session.serve_one.Goals as goal
 
 pub returns-then-not-respond-clause-goes : goal.returns-then-not-respond-clause-goes

@@ -1,4 +1,3 @@
-use Rattle.kms_session.specs.Session.{outside}
 use Rattle.kms_session.proofs.Complete.{each_is_answered}
 use Rattle.kms_session.proofs.OneEnds.{one_end}
 use Rattle.kms_session.proofs.session.serve_session.Goals as goal
