@@ -2,7 +2,8 @@
 use Rattle.std.proofs.Common.{◌≡◌, ◌⊎◌, inl, inr, ℕ, List, Bool, true, false, Option, None, Some, refl, ap, ◌∙◌}
 use Rattle.session_front.specs.Items.{Item}
 use Rattle.session_front.specs.Complete.{IsAsked, end_of}
-use Rattle.kms_session.specs.Session.{Outside, outside}
+use Rattle.session_front.specs.Session.{outside}
+use Rattle.kms_session.specs.Session.{Outside}
 use Rattle.kms_session.proofs.Complete.{each_is_answered}
 use Rattle.kms_words.specs.Words.{Command, RunValues, run, run_file, check, serve, load, command_of}
 use Rattle.publish_pass.specs.Pass.{fresh_pass}

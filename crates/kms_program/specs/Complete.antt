@@ -4,7 +4,7 @@ use Rattle.kms_io.specs.Wire.{Wire, RoseBy}
 use Rattle.kms_config.specs.declared.config.Config.{Config}
 use Rattle.session_front.specs.Items.{Item}
 use Rattle.session_front.specs.Sending.{SendsWhole}
-use Rattle.kms_session.specs.Session.{outside}
+use Rattle.session_front.specs.Session.{outside}
 use Rattle.session_front.specs.Complete.{IsAsked}
 use Rattle.kms_session.specs.Complete.{AnswersEach}
 use Rattle.kms_words.specs.Words.{Command, run, run_file, check, serve, load}

@@ -16,7 +16,8 @@ use Rattle.session_front.specs.declared.ends.SessionEnd.{SessionEnd}
 use Rattle.session_front.specs.declared.ends.SessionEnd.TheVariants.{Ended, Closed, CutOff, ReadFault, WriteFault, NoMemory}
 use Rattle.publish_pass.specs.Pass.{Pass, fresh_pass, first_places}
 use Rattle.session_front.specs.Sending.{SendsWhole, SendsShort}
-use Rattle.kms_session.specs.Session.{outside, EndsBy}
+use Rattle.session_front.specs.Session.{outside}
+use Rattle.kms_session.specs.Session.{EndsBy}
 use Rattle.kms_server.specs.declared.server.Served.{Served}
 use Rattle.kms_server.specs.Server.{Wanted, Surroundings, surroundings, ServesDoor, FindsShut, OpensNothing}
 use Rattle.kms_workload.specs.Summary.{Summarizes}

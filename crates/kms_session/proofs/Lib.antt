@@ -1,5 +1,2 @@
-mod Runs
 mod ReplyLemmas
 pub mod Proper
-pub mod OneEnds
-pub mod Complete

@@ -63,9 +63,9 @@ pub replied : (sent : Bool) (s : Pass) (plan : Plan) (answer : Answer) (second f
     → MatchBool sent (SendsReply answer second front closes old new) (SendsReplyShort answer second front closes old new)
     → MatchBool sent (Responds s plan second closes old new t) (RespondsShort s plan second closes old new t)
 replied true s plan answer second front closes old new t is at reply =
-    record { text = reply.text; replies = answers answer is (subst (λ (n : ℕ). IsReplyText answer second n closes reply.text) at reply.is); sends = reply.sends }
+    record { text = reply.text; is = answers answer is (subst (λ (n : ℕ). IsReplyText answer second n closes reply.text) at reply.is); sends = reply.sends }
 replied false s plan answer second front closes old new t is at reply =
-    record { text = reply.text; replies = answers answer is (subst (λ (n : ℕ). IsReplyText answer second n closes reply.text) at reply.is); short = reply.short }
+    record { text = reply.text; is = answers answer is (subst (λ (n : ℕ). IsReplyText answer second n closes reply.text) at reply.is); short = reply.short }
 
 pub wanting_none : (s : Pass) (plan : Plan) → Wanting s plan s
 wanting_none s plan = wants_nothing refl
@@ -104,8 +104,8 @@ wants_reading s t u x is missed h =
 pub wanted : (sent : Bool) (s : Pass) (plan : Plan) (second : ℕ) (closes : Bool) (old new : Wire) (t : Pass) → Wanting s plan t
     → MatchBool sent (SendsWhole old new five_hundred) (SendsShort old new five_hundred)
     → MatchBool sent (Responds s plan second closes old new t) (RespondsShort s plan second closes old new t)
-wanted true s plan second closes old new t is reply = record { text = five_hundred; replies = wants_memory is refl; sends = reply }
-wanted false s plan second closes old new t is reply = record { text = five_hundred; replies = wants_memory is refl; short = reply }
+wanted true s plan second closes old new t is reply = record { text = five_hundred; is = wants_memory is refl; sends = reply }
+wanted false s plan second closes old new t is reply = record { text = five_hundred; is = wants_memory is refl; short = reply }
 
 -- what a pass hands on as the answer to a request that changes the account
 pub gives_changed : (s t : Pass) (x : Ask) (a : Answered) → true ≡ changes_account x.body → AnswersChange s x a t → Gives s (asks x) a t

@@ -1,6 +1,5 @@
 -- A session as a run of turns over what is due.
-use Rattle.std.specs.Prelude.{◌≡◌, ◌<◌, ◌+◌, ℕ, List, [], ◌∷◌, ◌++◌, length, Bool, true, false, Result, Ok, Err}
-use Rattle.kms_names.specs.Moment.{year_10000}
+use Rattle.std.specs.Prelude.{◌≡◌, ℕ, List, length, Bool, true, false, Result, Ok, Err}
 use Rattle.kms_json.specs.declared.asks.Ask.{Ask}
 use Rattle.kms_json.specs.declared.replies.Reply.{Reply}
 use Rattle.kms_json.specs.declared.replies.Reply.TheVariants.{Refused}
@@ -8,7 +7,8 @@ use Rattle.kms_json.specs.declared.refusals.Refusal.{Refusal}
 use Rattle.kms_json.specs.Asks.{changes_account}
 use Rattle.session_front.specs.declared.trust.Trust.{Trust}
 use Rattle.session_front.specs.Early.{ask_of}
-use Rattle.session_front.specs.Items.{Item, whole, fault, closes_at}
+use Rattle.session_front.specs.Runs.{Run}
+use Rattle.session_front.specs.Items.{Item, whole, fault}
 use Rattle.published_account.specs.Answers.{Answer, answer_of}
 use Rattle.kms_session.specs.Answers.{fault_answer, IsReplyText, five_hundred}
 use Rattle.publish_pass.specs.Pass.{Pass, Reads, Changes, Wants, WantsChange}
@@ -51,8 +51,8 @@ Turn s trust item c closes text t = Replies s (plan_of trust s.facts.region item
 
 -- A run of turns over the items in order, each with its answer of the clock, which is before the year 10000. The text is the
 -- replies joined.
-pub data SessionRun (start : Pass) (trust : Trust) : Pass → List Item → List ℕ → List ℕ → Type 0 where
-  begins : SessionRun start trust start [] [] []
-  goes_on : {old new : Pass} {items : List Item} {clocks text reply : List ℕ} (item : Item) (c : ℕ) → c < year_10000
-      → SessionRun start trust old items clocks text → Turn old trust item c (closes_at (length items) item) reply new
-      → SessionRun start trust new (items ++ item ∷ []) (clocks ++ c ∷ []) (text ++ reply)
+abbrev pub turns : Trust → Pass → Item → ℕ → Bool → List ℕ → Pass → Type 0
+turns trust s item c closes text t = Turn s trust item c closes text t
+
+abbrev pub SessionRun : Pass → Trust → Pass → List Item → List ℕ → List ℕ → Type 0
+SessionRun start trust t items clocks text = Run (turns trust) start t items clocks text

@@ -11,7 +11,8 @@ ghost use Rattle.kms_session.specs.Run.{asks, answered, plan_of, Wanting};
 ghost use Rattle.session_front.specs.Callers.{IsOfAccount};
 ghost use Rattle.http_front.specs.Message.{Message, CutsOff};
 ghost use Rattle.kms_session.specs.Replying.{Gives};
-ghost use Rattle.kms_session.specs.Session.{Outside, outside, Responds, RespondsShort, Serves, EndsBy, GoesOn};
+ghost use Rattle.session_front.specs.Session.{outside};
+ghost use Rattle.kms_session.specs.Session.{Outside, Responds, RespondsShort, Serves, EndsBy, GoesOn};
 ghost use Rattle.kms_session.specs.Complete.{TellsTaken, IsOneEnd, IsComplete};
 
 use crate::outbox::send_reply;

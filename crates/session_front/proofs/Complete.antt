@@ -10,7 +10,11 @@ use Rattle.http_front.specs.Laws.{HasMessage}
 use Rattle.http_front.proofs.Answering.{head_on, same_message, one_answer_lem, empty_decided}
 use Rattle.kms_io.specs.Wire.{with_first}
 use Rattle.session_front.specs.Items.{Item, whole, Cuts, nothing, message, no_message}
-use Rattle.session_front.specs.Complete.{IsMadeOf, no_message_yet, one_message_more, IsAsked}
+use Rattle.session_front.specs.declared.ends.SessionEnd.{SessionEnd}
+use Rattle.session_front.specs.declared.ends.SessionEnd.TheVariants.{Ended, Closed, CutOff, ReadFault, WriteFault, NoMemory}
+use Rattle.session_front.specs.Runs.{Run}
+use Rattle.session_front.specs.Session.{Outside, Serves, EndsBy}
+use Rattle.session_front.specs.Complete.{AnswersEach, end_of, IsComplete, IsMadeOf, no_message_yet, one_message_more, IsAsked}
 use Rattle.session_front.proofs.Cutting.{cuts_more, one_cut_open, GoesOnFrom, before, before_open, compared, split, stuck, stuck_open, nothing_open, one_close, no_longer_cut, closed_or_open, one_rest}
 
 -- ---- messages as a cut
@@ -185,3 +189,29 @@ pub all_taken : {told : Option (List ℕ)} {input first : List ℕ} (f : Front t
 all_taken {first = first} f end =
     let none : f.left ≡ [] = subst (λ (t : Option (List ℕ)). IfSome t (λ left. left ≡ [])) f.tells end in
     sym (f.joined ∙ ap (λ (l : List ℕ). first ++ l) none ∙ append-nil first)
+
+answers_each : {S : Type 0} (Step : S → Item → ℕ → Bool → List ℕ → S → Type 0) (old new : Outside S) (closes : Bool) (count : ℕ) (rest : List ℕ) (items : List Item) (s : Serves Step old new closes count rest) → items ≡ s.items → AnswersEach Step items old new
+answers_each Step old new closes count rest items s same = record {
+  clocks = s.clocks;
+  text = s.text;
+  run = subst (λ (all : List Item). Run Step old.state new.state all s.clocks s.text) (sym same) s.run;
+  written = s.written;
+}
+
+pub each_is_answered : {S : Type 0} (Step : S → Item → ℕ → Bool → List ℕ → S → Type 0) (Wants : Type 0) (end : SessionEnd) (old new : Outside S) → EndsBy Step Wants end old new → IsComplete Step Wants end old new
+each_is_answered Step Wants Ended old new ends input closes items calm asked =
+    let f = front_of new.wire.left input ends.serves.input (sym calm.gives ∙ ends.serves.left) in
+    let all : ends.serves.input ≡ input = all_taken f ends.at_end in
+    let both = ended input closes items ends.serves.items asked (subst (λ (bytes : List ℕ). Cuts bytes false ends.serves.items []) all ends.serves.cuts) in
+    inr (sym (ap end_of both.0), answers_each Step old new false ends.count [] items ends.serves both.1)
+each_is_answered Step Wants Closed old new ends input closes items calm asked =
+    let f = front_of new.wire.left input ends.serves.input (sym calm.gives ∙ ends.serves.left) in
+    let both = closed ends.serves.input f.left closes items ends.serves.items ends.rest (subst (λ (bytes : List ℕ). IsAsked bytes closes items) f.joined asked) ends.serves.cuts in
+    inr (sym (ap end_of both.0), answers_each Step old new true ends.count ends.rest items ends.serves both.1)
+each_is_answered Step Wants CutOff old new ends input closes items calm asked =
+    let f = front_of new.wire.left input ends.serves.input (sym calm.gives ∙ ends.serves.left) in
+    let all : ends.serves.input ≡ input = all_taken f ends.at_end in
+    absurd (not_inside input closes items ends.serves.items ends.rest asked (subst (λ (bytes : List ℕ). Cuts bytes false ends.serves.items ends.rest) all ends.serves.cuts) ends.awaits ends.some)
+each_is_answered Step Wants ReadFault old new ends input closes items calm asked = absurd (calm.reads ends.rose)
+each_is_answered Step Wants WriteFault old new ends input closes items calm asked = absurd (calm.writes ends.rose)
+each_is_answered Step Wants NoMemory old new ends input closes items calm asked = inl (refl, ends)

@@ -17,3 +17,15 @@ pub record SendsShort (old new : Wire) (text : List ℕ) : Type 0 where
   pub some : 0 < length cut
   pub sends : Sends old new front
   pub rose : RoseBy 1 old.write_faults new.write_faults
+
+-- a text of this kind was written
+pub record Writes (Is : List ℕ → Type 0) (old new : Wire) : Type 0 where
+  pub text : List ℕ
+  pub is : Is text
+  pub sends : SendsWhole old new text
+
+-- a front of it was written, and then the link failed
+pub record WritesShort (Is : List ℕ → Type 0) (old new : Wire) : Type 0 where
+  pub text : List ℕ
+  pub is : Is text
+  pub short : SendsShort old new text

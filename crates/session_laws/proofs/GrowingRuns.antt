@@ -10,7 +10,8 @@ use Rattle.publish_pass.specs.Pass.{Pass, making_any, keeping_house}
 use Rattle.published_account.proofs.Lists.{prefix_self, prefix_push, prefix_trans}
 use Rattle.session_front.specs.declared.trust.Trust.{Trust}
 use Rattle.session_front.specs.Items.{Item}
-use Rattle.kms_session.specs.Run.{Plan, Answers, early, reads, changes, Wanting, wants_nothing, wants_read, wants_change, Replies, answers, wants_memory, SessionRun, begins, goes_on}
+use Rattle.session_front.specs.Runs.{begins, goes_on}
+use Rattle.kms_session.specs.Run.{Plan, Answers, early, reads, changes, Wanting, wants_nothing, wants_read, wants_change, Replies, answers, wants_memory, SessionRun}
 use Rattle.session_laws.specs.Laws.{TurnsGoOn, RunsGoOn}
 
 abbrev On : Pass → Pass → Type 0

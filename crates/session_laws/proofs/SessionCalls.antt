@@ -17,7 +17,8 @@ use Rattle.session_front.specs.declared.trust.Trust.{Trust}
 use Rattle.session_front.specs.declared.ends.SessionEnd.TheVariants.{Ended, Closed, CutOff, ReadFault, WriteFault, NoMemory}
 use Rattle.session_front.specs.Callers.{IsOfAccount}
 use Rattle.session_front.specs.Items.{Item, whole, fault}
-use Rattle.kms_session.specs.Run.{asks, plan_by, plan_of, Answers, early, reads, changes, Wanting, wants_nothing, wants_read, wants_change, Replies, answers, wants_memory, SessionRun, begins, goes_on}
+use Rattle.session_front.specs.Runs.{begins, goes_on}
+use Rattle.kms_session.specs.Run.{asks, plan_by, plan_of, Answers, early, reads, changes, Wanting, wants_nothing, wants_read, wants_change, Replies, answers, wants_memory, SessionRun}
 use Rattle.kms_session.specs.Session.{Outside}
 use Rattle.session_front.specs.Early.{ask_of}
 use Rattle.session_front.proofs.Asks.{is_ask_at}
@@ -85,15 +86,15 @@ pub runs_are_calls : RunsAreCalls
 runs_are_calls trust start end items clocks text of run = run_calls trust start end items clocks text of run
 
 pub sessions_are_calls : SessionsAreCalls
-sessions_are_calls trust Ended old new of is = run_calls trust old.pass new.pass _ _ _ of is.serves.run
-sessions_are_calls trust Closed old new of is = run_calls trust old.pass new.pass _ _ _ of is.serves.run
-sessions_are_calls trust CutOff old new of is = run_calls trust old.pass new.pass _ _ _ of is.serves.run
-sessions_are_calls trust ReadFault old new of is = run_calls trust old.pass new.pass _ _ _ of is.serves.run
+sessions_are_calls trust Ended old new of is = run_calls trust old.state new.state _ _ _ of is.serves.run
+sessions_are_calls trust Closed old new of is = run_calls trust old.state new.state _ _ _ of is.serves.run
+sessions_are_calls trust CutOff old new of is = run_calls trust old.state new.state _ _ _ of is.serves.run
+sessions_are_calls trust ReadFault old new of is = run_calls trust old.state new.state _ _ _ of is.serves.run
 sessions_are_calls trust WriteFault old new of is =
-    let so_far = run_calls trust old.pass is.so_far.pass _ _ _ of is.serves.run in
-    calls_append old.pass is.so_far.pass new.pass so_far
-    (turn_calls trust is.item is.c is.before_year_10000 is.so_far.pass (still_of trust old.pass is.so_far.pass of (calls_facts old.pass is.so_far.pass so_far)) _ _ new.pass is.turn)
-sessions_are_calls trust NoMemory old new of is = stays old.pass new.pass (ap (λ (o : Outside). o.pass) is)
+    let so_far = run_calls trust old.state is.so_far.state _ _ _ of is.serves.run in
+    calls_append old.state is.so_far.state new.state so_far
+    (turn_calls trust is.item is.c is.before_year_10000 is.so_far.state (still_of trust old.state is.so_far.state of (calls_facts old.state is.so_far.state so_far)) _ _ new.state is.step)
+sessions_are_calls trust NoMemory old new of is = stays old.state new.state (ap (λ (o : Outside). o.state) is)
 
 -- ---- a worker
 

@@ -28,7 +28,7 @@ RunsAreCalls =
 
 -- a session, however it ends
 abbrev pub SessionsAreCalls : Type 0
-SessionsAreCalls = (trust : Trust) (end : SessionEnd) (old new : Outside) → IsOfAccount old.pass.facts.account trust → EndsBy trust end old new → Calls old.pass new.pass
+SessionsAreCalls = (trust : Trust) (end : SessionEnd) (old new : Outside) → IsOfAccount old.state.facts.account trust → EndsBy trust end old new → Calls old.state new.state
 
 -- a worker, over all its connections
 abbrev pub WorkersAreCalls : Type 0
