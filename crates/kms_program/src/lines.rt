@@ -9,7 +9,7 @@ use kms_names::NoMemory;
 use kms_session::send;
 use std::alloc::{AllocError, Global};
 
-const USAGE: &[u8] = b"usage: kms_local run|serve|load|check\n";
+const USAGE: &[u8] = b"usage: kms_local run|serve|load|check|explain\n";
 
 const REFUSED_WHOLE: &[u8] = b"configuration refused at /\n";
 

@@ -2,11 +2,11 @@ use Rattle.std.proofs.Common.{subst, option_map, Option}
 use Rattle.std.specs.Prelude.{IfSome}
 use Rattle.kms_program.specs.declared.settings.Settings.{Settings}
 use Rattle.kms_program.specs.Settings.{IsConfigured}
-use Rattle.kms_program.specs.Program.{serves}
-use Rattle.kms_program.proofs.program.run_config.Goals as goal
+use Rattle.kms_program.specs.Program.{right}
+use Rattle.kms_program.proofs.sessions.with_config.Goals as goal
 
 pub returns-in-Ok-Some : goal.returns-in-Ok-Some
 returns-in-Ok-Some g c = λ shelf later.
     let caller = option_map (λ caller. caller.now) c.args.caller in
-    serves c.in-Ok-Some.settings (subst (λ (found : Option Settings). IfSome found (IsConfigured c.args.config caller)) c.in-Ok-Some.field-0-is c.in-Ok-Some.ensures.some)
-    (record { end = c.run.result; serving = c.run.ensures; status_is = c.status.ensures })
+    right c.in-Ok-Some.settings (subst (λ (found : Option Settings). IfSome found (IsConfigured c.args.config caller)) c.in-Ok-Some.field-0-is c.in-Ok-Some.ensures.some)
+    (c.conduct.ensures shelf later)

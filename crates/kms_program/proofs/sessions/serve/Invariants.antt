@@ -1,4 +1,4 @@
-use Rattle.kms_program.proofs.program.run.Given as goal
+use Rattle.kms_program.proofs.sessions.serve.Given as goal
 
 -- the opening that was just made
 abbrev pub ghosts-serve_once-R-Realm : goal.ghosts-serve_once-R-Realm

@@ -2,11 +2,11 @@ use Rattle.std.proofs.Common.{refl, subst}
 use Rattle.kms_words.specs.Words.{values_in}
 use Rattle.kms_program.specs.Settings.{UnlessMemory}
 use Rattle.kms_program.specs.declared.settings.RunOption.{RunOption}
-use Rattle.kms_program.specs.Program.{SaysLine, refused_line, path_of, serves, refuses}
-use Rattle.kms_program.proofs.program.run_values.Goals as goal
+use Rattle.kms_program.specs.Program.{SaysLine, refused_line, path_of, right, refuses}
+use Rattle.kms_program.proofs.sessions.with_values.Goals as goal
 
 pub returns-in-Ok : goal.returns-in-Ok
-returns-in-Ok g c = λ shelf. serves c.in-Ok.settings c.in-Ok.ensures.ok (record { end = c.run.result; serving = c.run.ensures; status_is = c.status.ensures })
+returns-in-Ok g c = λ shelf. right c.in-Ok.settings c.in-Ok.ensures.ok (c.conduct.ensures shelf shelf)
 
 pub returns-in-Err-At : goal.returns-in-Err-At
 returns-in-Err-At g c = λ shelf.

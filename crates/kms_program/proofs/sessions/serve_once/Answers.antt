@@ -1,7 +1,7 @@
 use Rattle.std.proofs.Common.{refl, rules}
 use Rattle.publish_pass.specs.Pass.{fresh_pass}
 use Rattle.kms_workload.proofs.Alone.{made_all}
-use Rattle.kms_program.proofs.program.serve_once.Goals as goal
+use Rattle.kms_program.proofs.sessions.serve_once.Goals as goal
 
 pub returns-in_default : goal.returns-in_default
 returns-in_default g c = record { pass = fresh_pass c.args.opening.shown.whole.facts 1 1; ends = refl; made_all = refl }
