@@ -2,17 +2,18 @@
 use Rattle.std.proofs.Common.{◌≡◌, ◌<◌, ◌+◌, ℕ, List, [], ◌∷◌, ◌++◌, Bool, true, false, refl, sym, ap, ◌∙◌, append_assoc, append-nil, add-zero, add_assoc, length, Option, length-append, subst, drop, arith}
 use Rattle.kms_names.specs.Moment.{year_10000}
 use Rattle.std.proofs.lemmas.List.{take-append-drop}
-use Rattle.kms_io.specs.Wire.{Wire, with_more, with_first, TellsMore}
+use Rattle.kms_io.specs.Wire.{Wire, with_more, with_first, TellsMore, RoseBy}
+use Rattle.kms_io.specs.Link.{IsAtEnd}
 use Rattle.kms_io.specs.declared.link.Move.{Move}
 use Rattle.http_front.specs.Offsets.{Offsets, size_of}
 use Rattle.http_front.specs.declared.judge.HttpFault.{HttpFault}
 use Rattle.session_front.specs.Inbox.{Receives}
-use Rattle.http_front.specs.Message.{Message, IsRefused, CutsOff}
+use Rattle.http_front.specs.Message.{Message, IsOpen, IsRefused, CutsOff}
 use Rattle.session_front.specs.Items.{Item, whole, fault, closes_at, Cuts, nothing, message, no_message}
 use Rattle.session_front.specs.Pace.{Gathers, no_read, one_read, no_bytes, PutsOut, no_write, one_write}
 use Rattle.session_front.specs.Runs.{goes_on, begins, Paced, paced_from, then_read, then_nothing, then_answer, then_write}
 use Rattle.session_front.specs.Sending.{SendsWhole, Writes, WritesShort}
-use Rattle.session_front.specs.Session.{Outside, Serves, BreaksOff}
+use Rattle.session_front.specs.Session.{Outside, Serves, EndsBetween, EndsInside, EndsUnread, BreaksOff}
 use Rattle.session_front.proofs.Cutting.{cuts_more}
 use Rattle.session_front.proofs.Wires.{rose_since, with_more-append, with_first-append, with_more-nil, with_first-nil, tells_on, tells_nothing}
 
@@ -166,4 +167,31 @@ breaks_at_fault {old = old} {count = count} {c = c} {buffer = buffer} why s refu
   step = r.is;
   short = r.short;
   rose = rose_since _ _ _ s.write_faults r.short.rose;
+}
+
+-- ---- the ends at which no text is written, behind what came last
+
+pub ends_between : {S : Type 0} {Step : S → Item → ℕ → Bool → List ℕ → S → Type 0} {start old : Outside S} {count : ℕ} {buffer : List ℕ} (wire : Wire) (after : List ℕ) → Serves Step start old false count buffer
+    → Receives old.wire buffer wire after → after ≡ [] → IsAtEnd wire → EndsBetween Step start (record { wire = wire; clock = old.clock; state = old.state })
+ends_between {count = count} wire after s receives none end = record { count = count; serves = serves_rest (sym none) (serves_read wire after s receives); at_end = end }
+
+pub ends_inside : {S : Type 0} {Step : S → Item → ℕ → Bool → List ℕ → S → Type 0} {start old : Outside S} {count : ℕ} {buffer : List ℕ} (wire : Wire) (after : List ℕ) → Serves Step start old false count buffer
+    → Receives old.wire buffer wire after → 0 < length after → IsOpen after × IsAtEnd wire → EndsInside Step start (record { wire = wire; clock = old.clock; state = old.state })
+ends_inside {count = count} wire after s receives some found = record {
+  count = count;
+  rest = after;
+  serves = serves_read wire after s receives;
+  some = some;
+  awaits = found.0;
+  at_end = found.1;
+}
+
+pub ends_unread : {S : Type 0} {Step : S → Item → ℕ → Bool → List ℕ → S → Type 0} {start old : Outside S} {count : ℕ} {buffer : List ℕ} (wire : Wire) (after : List ℕ) → Serves Step start old false count buffer
+    → Receives old.wire buffer wire after → IsOpen after × RoseBy 1 old.wire.read_faults wire.read_faults → EndsUnread Step start (record { wire = wire; clock = old.clock; state = old.state })
+ends_unread {count = count} wire after s receives found = record {
+  count = count;
+  rest = after;
+  serves = serves_read wire after s receives;
+  awaits = found.0;
+  rose = rose_since _ _ _ s.read_faults found.1;
 }

@@ -3,8 +3,7 @@ use Rattle.http_front.specs.Message.{CutsOff}
 use Rattle.session_front.specs.Session.{outside}
 use Rattle.session_front.proofs.Cutting.{message_closes}
 use Rattle.session_front.proofs.Messages.{not_last}
-use Rattle.session_front.proofs.Runs.{serves_read, serves_message, serves_fault, serves_where, serves_rest, breaks_at_message, breaks_at_fault}
-use Rattle.session_front.proofs.Wires.{rose_since}
+use Rattle.session_front.proofs.Runs.{serves_read, serves_message, serves_fault, serves_where, serves_rest, breaks_at_message, breaks_at_fault, ends_between, ends_inside, ends_unread}
 use Rattle.explain_session.proofs.Ending.{wants_at_message, wants_at_fault}
 use Rattle.explain_session.proofs.session.explain_one.Goals as goal
 
@@ -71,25 +70,10 @@ returns-in-Lacking-tell_fault-clause-goes g c = λ start s.
     wants_at_fault {new = outside (g.L.Link.shows c.tell_fault.new.link) (g.C.Clock.told c.now-now-in-Bad.new.self) c.args.explainer.now} c.in-Bad._fault read c.in-Bad.ensures.finds c.now-now-in-Bad.ensures.bound c.now-now-in-Bad.ensures.told c.in-Lacking-tell_fault.ensures
 
 pub returns-in-End-clause-goes : goal.returns-in-End-clause-goes
-returns-in-End-clause-goes g c = λ start s.
-    let read = serves_read _ _ s c.in-End.ensures.receives in
-    record { count = c.args.number; serves = serves_rest (sym c.if-is_empty.ensures) read; at_end = c.in-End.ensures.finds.1 }
+returns-in-End-clause-goes g c = λ start s. ends_between _ _ s c.in-End.ensures.receives c.if-is_empty.ensures c.in-End.ensures.finds.1
 
 pub returns-in-End-2-clause-goes : goal.returns-in-End-2-clause-goes
-returns-in-End-2-clause-goes g c = λ start s.
-    let read = serves_read _ _ s c.in-End.ensures.receives in
-    let finds = c.in-End.ensures.finds in
-    record {
-      count = c.args.number;
-      rest = c.await_message.new.inbox;
-      serves = read;
-      some = c.if-is_empty.ensures;
-      awaits = finds.0;
-      at_end = finds.1;
-    }
+returns-in-End-2-clause-goes g c = λ start s. ends_inside _ _ s c.in-End.ensures.receives c.if-is_empty.ensures c.in-End.ensures.finds
 
 pub returns-in-Failed-clause-goes : goal.returns-in-Failed-clause-goes
-returns-in-Failed-clause-goes g c = λ start s.
-    let read = serves_read _ _ s c.in-Failed.ensures.receives in
-    let finds = c.in-Failed.ensures.finds in
-    record { count = c.args.number; rest = c.await_message.new.inbox; serves = read; awaits = finds.0; rose = rose_since _ _ _ s.read_faults finds.1 }
+returns-in-Failed-clause-goes g c = λ start s. ends_unread _ _ s c.in-Failed.ensures.receives c.in-Failed.ensures.finds
