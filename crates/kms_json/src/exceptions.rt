@@ -2,7 +2,7 @@
 ghost use Rattle.std.specs.Prelude.{◌≡◌, IfOk, string_bytes};
 ghost use Rattle.serde_json.specs.View.{view};
 ghost use Rattle.kms_json.specs.declared.refusals.Refusal.TheVariants as refusal;
-ghost use Rattle.kms_json.specs.Exceptions.{exception, exception_name, exception_text, fixed_text, flaw_text, missing_word, limit_word, unsupported_name, refusal_data};
+ghost use Rattle.kms_json.specs.Exceptions.{exception, exception_text, fixed_text, flaw_text, missing_word, limit_word, unsupported_name, refusal_data};
 
 use crate::refusals::{Limit, Missing, PolicyFlaw, Refusal, Unsupported};
 use crate::states::KeyState;
@@ -14,41 +14,6 @@ fn exception_value(alloc: Global, name: &str, text: &str) -> Result<Value, NoMem
     ensures { IfOk result (λ v. view v ≡ exception name.now text.now) }
 {
     Ok(json!(in alloc; {"__type": name, "message": text})?)
-}
-
-fn name_of(refusal: &Refusal) -> &'static str
-    ensures { result.now ≡ exception_name refusal.now }
-{
-    match refusal {
-        Refusal::MissingAuthentication => "MissingAuthenticationTokenException",
-        Refusal::IncompleteSignature => "IncompleteSignatureException",
-        Refusal::UnrecognizedClient => "UnrecognizedClientException",
-        Refusal::RequestExpired => "RequestExpired",
-        Refusal::InvalidSignature => "InvalidSignatureException",
-        Refusal::UnknownOperation => "UnknownOperationException",
-        Refusal::Serialization => "SerializationException",
-        Refusal::Validation(_) => "ValidationException",
-        Refusal::InvalidAliasName => "InvalidAliasNameException",
-        Refusal::DependencyTimeout { .. } => "DependencyTimeoutException",
-        Refusal::NotFound(_) => "NotFoundException",
-        Refusal::InvalidArn => "InvalidArnException",
-        Refusal::InvalidGrantId => "InvalidGrantIdException",
-        Refusal::InvalidCiphertext => "InvalidCiphertextException",
-        Refusal::IncorrectKey => "IncorrectKeyException",
-        Refusal::AccessDenied { .. } => "AccessDeniedException",
-        Refusal::InvalidGrantToken => "InvalidGrantTokenException",
-        Refusal::Disabled(_) => "DisabledException",
-        Refusal::InvalidState { .. } => "KMSInvalidStateException",
-        Refusal::UnsupportedOperation(_) => "UnsupportedOperationException",
-        Refusal::InvalidKeyUsage => "InvalidKeyUsageException",
-        Refusal::InvalidMac => "KMSInvalidMacException",
-        Refusal::AlreadyExists => "AlreadyExistsException",
-        Refusal::InvalidMarker => "InvalidMarkerException",
-        Refusal::InvalidTags => "TagException",
-        Refusal::MalformedPolicy(_) => "MalformedPolicyDocumentException",
-        Refusal::LimitExceeded(_) => "LimitExceededException",
-        Refusal::DryRun => "DryRunOperationException",
-    }
 }
 
 fn word_of_missing(what: Missing) -> &'static str
@@ -220,5 +185,5 @@ pub fn refusal_value(alloc: Global, refusal: &Refusal) -> Result<Value, NoMemory
     ensures { IfOk result (λ v. view v ≡ refusal_data refusal.now) }
 {
     let text = text_of(alloc, refusal)?;
-    exception_value(alloc, name_of(refusal), text.as_str())
+    exception_value(alloc, refusal.exception(), text.as_str())
 }

@@ -136,7 +136,7 @@ pub enum Refusal {
 
 impl Refusal {
     ghost use Rattle.std.specs.Prelude.{◌≡◌};
-    ghost use Rattle.kms_json.specs.Exceptions.{refusal_status};
+    ghost use Rattle.kms_json.specs.Exceptions.{exception_name, refusal_status};
 
     /// The HTTP status (RFC 9110, section 15). It takes no memory.
     pub fn status(&self) -> u16
@@ -146,6 +146,42 @@ impl Refusal {
             Refusal::DependencyTimeout { .. } => 503,
             Refusal::DryRun => 412,
             _ => 400,
+        }
+    }
+
+    /// The name of the exception (AWS KMS API Reference, "Common Errors" and the errors of each action). It takes no memory.
+    pub fn exception(&self) -> &'static str
+        ensures { result.now ≡ exception_name self.now }
+    {
+        match self {
+            Refusal::MissingAuthentication => "MissingAuthenticationTokenException",
+            Refusal::IncompleteSignature => "IncompleteSignatureException",
+            Refusal::UnrecognizedClient => "UnrecognizedClientException",
+            Refusal::RequestExpired => "RequestExpired",
+            Refusal::InvalidSignature => "InvalidSignatureException",
+            Refusal::UnknownOperation => "UnknownOperationException",
+            Refusal::Serialization => "SerializationException",
+            Refusal::Validation(_) => "ValidationException",
+            Refusal::InvalidAliasName => "InvalidAliasNameException",
+            Refusal::DependencyTimeout { .. } => "DependencyTimeoutException",
+            Refusal::NotFound(_) => "NotFoundException",
+            Refusal::InvalidArn => "InvalidArnException",
+            Refusal::InvalidGrantId => "InvalidGrantIdException",
+            Refusal::InvalidCiphertext => "InvalidCiphertextException",
+            Refusal::IncorrectKey => "IncorrectKeyException",
+            Refusal::AccessDenied { .. } => "AccessDeniedException",
+            Refusal::InvalidGrantToken => "InvalidGrantTokenException",
+            Refusal::Disabled(_) => "DisabledException",
+            Refusal::InvalidState { .. } => "KMSInvalidStateException",
+            Refusal::UnsupportedOperation(_) => "UnsupportedOperationException",
+            Refusal::InvalidKeyUsage => "InvalidKeyUsageException",
+            Refusal::InvalidMac => "KMSInvalidMacException",
+            Refusal::AlreadyExists => "AlreadyExistsException",
+            Refusal::InvalidMarker => "InvalidMarkerException",
+            Refusal::InvalidTags => "TagException",
+            Refusal::MalformedPolicy(_) => "MalformedPolicyDocumentException",
+            Refusal::LimitExceeded(_) => "LimitExceededException",
+            Refusal::DryRun => "DryRunOperationException",
         }
     }
 }
