@@ -96,7 +96,7 @@ read_told : (view : View) (body : Reading) → Tells view (read_asked view body)
 read_told view (reading.DescribeKey key_id tokens) = read_tells view (describes_key view key_id tokens)
 read_told view (reading.ListKeys page) = read_tells view (lists_in view all.Keys page)
 read_told view (reading.ListAliases key_id page) = read_tells view (lists_in view (all.Aliases key_id) page)
-read_told view (reading.ListRetirableGrants retiring page) = read_tells view (lists_in view (all.RetirableGrants retiring) page)
+read_told view (reading.ListRetirableGrants who page) = read_tells view (lists_in view (all.RetirableGrants who) page)
 read_told view (reading.ListKeyPolicies key_id page) = read_tells view (lists_on view key_id of.Policies page)
 read_told view (reading.ListKeyRotations key_id page) = read_tells view (lists_on view key_id of.Rotations page)
 read_told view (reading.ListGrants x) = read_tells view (lists_on view x.key_id (of.Grants x.grant_id x.grantee) x.page)
@@ -118,20 +118,20 @@ unfolding key_of only_key_of
 same_asked facts history x p q (reading.DescribeKey key_id tokens) = refl
 same_asked facts history x p q (reading.ListKeys page) = refl
 same_asked facts history x p q (reading.ListAliases key_id page) = refl
-same_asked facts history x p q (reading.ListRetirableGrants retiring page) = refl
+same_asked facts history x p q (reading.ListRetirableGrants who page) = refl
 same_asked facts history x p q (reading.ListKeyPolicies key_id page) = refl
 same_asked facts history x p q (reading.ListKeyRotations key_id page) = refl
-same_asked facts history x p q (reading.ListGrants x) = refl
+same_asked facts history x p q (reading.ListGrants y) = refl
 same_asked facts history x p q (reading.GetKeyPolicy key_id) = refl
 same_asked facts history x p q (reading.GetKeyRotationStatus key_id) = refl
-same_asked facts history x p q (reading.Encrypt x) = refl
-same_asked facts history x p q (reading.Decrypt x) = refl
-same_asked facts history x p q (reading.ReEncrypt x) = refl
-same_asked facts history x p q (reading.GenerateDataKey x recipient) = refl
-same_asked facts history x p q (reading.GenerateDataKeyWithoutPlaintext x) = refl
+same_asked facts history x p q (reading.Encrypt y) = refl
+same_asked facts history x p q (reading.Decrypt y) = refl
+same_asked facts history x p q (reading.ReEncrypt y) = refl
+same_asked facts history x p q (reading.GenerateDataKey y recipient) = refl
+same_asked facts history x p q (reading.GenerateDataKeyWithoutPlaintext y) = refl
 same_asked facts history x p q (reading.GenerateRandom size custom_key_store recipient) = refl
-same_asked facts history x p q (reading.GenerateMac x) = refl
-same_asked facts history x p q (reading.VerifyMac x) = refl
+same_asked facts history x p q (reading.GenerateMac y) = refl
+same_asked facts history x p q (reading.VerifyMac y) = refl
 same_asked facts history x p q (reading.ListResourceTags key_id page) = refl
 
 -- ---- nor to how it is posed, or whether it is denied
