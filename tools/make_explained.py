@@ -12,7 +12,8 @@ from datetime import datetime, timezone
 import make_key_lives
 import signing
 from explained_account import Explained
-from whole_cases import ACCOUNT, ANN, BOB, HELLO, ID1, ID2, ID3, ROOT, document, key_policy, own, statement, told, told_grant
+from whole_account import CHANGES
+from whole_cases import ACCOUNT, ANN, BOB, DAY, HELLO, ID1, ID2, ID3, ROOT, document, key_policy, own, statement, told, told_grant
 
 PLACE = pathlib.Path(__file__).parent.parent / "crates" / "program_cases" / "data"
 BEGIN = 1_700_000_000
@@ -25,7 +26,7 @@ class Session(Explained):
 
     def __init__(self, name, what, policies=None, ceiling=()):
         super().__init__(what, policies, ceiling=ceiling)
-        self.name, self.what, self.messages = name, what, []
+        self.name, self.what, self.messages, self.later = name, what, [], 0
 
     def by(self, caller):
         self.caller = caller
@@ -33,13 +34,15 @@ class Session(Explained):
 
     def begin(self):
         """The next message is answered at its second."""
-        self.at(BEGIN + len(self.messages))
+        self.at(BEGIN + len(self.messages) + self.later)
         return datetime.fromtimestamp(self.now, timezone.utc).strftime("%Y%m%dT%H%M%SZ")
 
     def ask(self, operation, body, after=None):
         stamp = self.begin()
         more = [("x-kms-after", str(after))] if after is not None else []
         self.messages.append(signing.message(*KEEPERS[self.caller], REGION, operation, json.dumps(body, separators=(",", ":")), stamp, more))
+        if operation in CHANGES:
+            self.house()
         if after is not None and after > self.front:
             self.told.append(self.line("Early", [], "DependencyTimeoutException"))
             return self
@@ -185,8 +188,20 @@ def early():
     return session
 
 
+def house():
+    """Housekeeping comes before a message that changes the account, and is one of the entries for which it waits."""
+    session = Session("house", "housekeeping comes first")
+    session.ask("CreateKey", {})
+    session.ask("ScheduleKeyDeletion", {"KeyId": ID1, "PendingWindowInDays": 7})
+    session.later = 8 * DAY
+    session.ask("ListKeys", {}, after=3)
+    session.ask("CreateKey", {}, after=3)
+    session.ask("DescribeKey", {"KeyId": ID1})
+    return session
+
+
 def main():
-    for session in (grounds(), marks(), several(), ceilings(), early()):
+    for session in (grounds(), marks(), several(), ceilings(), early(), house()):
         session.write()
 
 
