@@ -1,67 +1,90 @@
 -- What the program comes to where nothing disturbs it, by what it does.
-use Rattle.std.proofs.Common.{◌≡◌, ◌⊎◌, inl, inr, ℕ, List, Bool, true, false, Option, None, Some, refl, ap, ◌∙◌}
-use Rattle.kms_session.specs.Run.{Item}
-use Rattle.kms_session.specs.Complete.{IsAsked, end_of}
-use Rattle.kms_session.specs.Session.{Outside, outside}
-use Rattle.kms_session.proofs.Complete.{each_is_answered}
-use Rattle.kms_words.specs.Words.{Command, RunValues, run, run_file, check, serve, load, command_of}
-use Rattle.publish_pass.specs.Pass.{fresh_pass}
+use Rattle.std.proofs.Common.{◌≡◌, inl, inr, ℕ, List, Bool, true, false, Option, None, Some, refl, ap, ◌∙◌}
+use Rattle.session_front.specs.Items.{Item}
+use Rattle.session_front.specs.Complete.{end_of}
+use Rattle.session_front.specs.Session.{Outside, outside}
+use Rattle.session_front.proofs.Complete.{each_is_answered}
+use Rattle.kms_session.specs.Run.{turns}
+use Rattle.kms_words.specs.Words.{Command, Source, RunValues, of_values, of_file, run, explain, check, serve, load, command_of}
+use Rattle.publish_pass.specs.Pass.{Pass, fresh_pass}
 use Rattle.kms_config.specs.declared.config.Config.{Config}
 use Rattle.kms_program.specs.declared.settings.Settings.{Settings}
-use Rattle.kms_program.specs.Settings.{IsSettings}
-use Rattle.kms_program.specs.Files.{IsFileOf}
+use Rattle.kms_program.specs.Settings.{IsSettings, IsConfigured}
 use Rattle.kms_program.specs.Statuses.{well, no_memory}
-use Rattle.kms_program.specs.Program.{Around, Everything, one_of, status_of_end, Serves, Rests, whole, short, RunsValues, serves, refuses, lacks, too_long, fails, RunsConfig, Checks, tells, WithFile, configured, not_configured, Sums, sums, Does, Runs}
-use Rattle.kms_program.specs.Complete.{IsCalm, ServesEach, ComesTo, serves_each, is_refused, is_starved, RunCompletes, IsOfFile, CheckComesTo, tells_numbers, is_no_config, has_no_memory, LoadComesTo, sums_up, lacks_memory, Completes}
+use Rattle.kms_program.specs.Program.{Around, Everything, one_of, status_of_end, Serves, Explains, Rests, whole, short, WithValues, right, refuses, lacks, too_long, fails, WithConfig, FromSource, Checks, tells, WithFile, configured, not_configured, Sums, sums, Does, Runs}
+use Rattle.kms_program.specs.Complete.{ServesEach, ExplainsEach, ComesTo, comes_to_each, is_refused, is_starved, IsCalm, OnMessages, RunCompletes, ExplainCompletes, IsOfFile, IsFrom, CheckComesTo, tells_numbers, is_no_config, has_no_memory, LoadComesTo, sums_up, lacks_memory, Completes}
 
 status_of : (closes : Bool) → status_of_end (end_of closes) ≡ well
 status_of true = refl
 status_of false = refl
 
 module _ (status : ℕ) (old new : Around) where
-  abbrev Starves : Type 0
-  Starves = (status ≡ no_memory) × (new.wire ≡ old.wire)
-
-  served_or_starved : (settings : Settings) → Serves settings status old new → (input : List ℕ) (closes : Bool) (items : List Item) → IsCalm old new → old.wire.left ≡ Some input
-      → IsAsked input closes items → ServesEach items settings status old new ⊎ Starves
-  served_or_starved settings s input closes items calm gives asked =
+  -- a session that is served
+  comes_served : (IsRight : Settings → Type 0) (settings : Settings) → IsRight settings → Serves settings status old new → RunCompletes IsRight status old new
+  comes_served IsRight settings right s input closes items calm gives asked =
       let before = outside old.wire old.clock (fresh_pass settings.facts 1 1) in
       let after = outside new.wire new.clock s.serving.pass in
-      elim (each_is_answered settings.trust s.end before after s.serving.ends input closes items (record { gives = gives; reads = calm.reads; writes = calm.writes }) asked)
-      as (λ _. ServesEach items settings status old new ⊎ Starves) [
-        | inl none ↦ inr (s.status_is ∙ ap status_of_end none.0, ap (λ (o : Outside). o.wire) none.1)
-        | inr each ↦ inl (record { pass = s.serving.pass; each = each.1; status_is = s.status_is ∙ ap status_of_end each.0 ∙ status_of closes })
+      elim (each_is_answered (turns settings.trust) (after ≡ before) s.end before after s.serving.ends input closes items (record { gives = gives; reads = calm.reads; writes = calm.writes }) asked)
+      as (λ _. ComesTo IsRight (λ settings. ServesEach items settings status old new) (new.wire ≡ old.wire) status) [
+        | inl none ↦ is_starved (s.status_is ∙ ap status_of_end none.0) (ap (λ (o : Outside Pass). o.wire) none.1)
+        | inr each ↦ comes_to_each settings right (record { pass = s.serving.pass; each = each.1; status_is = s.status_is ∙ ap status_of_end each.0 ∙ status_of closes })
       ]
 
-  comes : (IsRight : Settings → Type 0) (settings : Settings) → IsRight settings → Serves settings status old new → RunCompletes IsRight status old new
-  comes IsRight settings right s input closes items calm gives asked =
-      elim (served_or_starved settings s input closes items calm gives asked) as (λ _. ComesTo IsRight items status old new) [
-        | inl each ↦ serves_each settings right each
-        | inr none ↦ is_starved none.0 none.1
+  -- one that is explained
+  comes_explained : (IsRight : Settings → Type 0) (settings : Settings) → IsRight settings → Explains settings status old new → ExplainCompletes IsRight status old new
+  comes_explained IsRight settings right s input closes items calm gives asked =
+      elim (s.explained.complete input closes items (record { gives = gives; reads = calm.reads; writes = calm.writes }) asked)
+      as (λ _. ComesTo IsRight (λ settings. ExplainsEach items settings status old new) (Unit {0}) status) [
+        | inl none ↦ is_starved (s.status_is ∙ ap status_of_end none.0) tt
+        | inr each ↦ comes_to_each settings right (record { last = s.explained.last; each = each.1; status_is = s.status_is ∙ ap status_of_end each.0 ∙ status_of closes })
       ]
 
-  rests_anyhow : (IsRight : Settings → Type 0) → Rests no_memory status old new → RunCompletes IsRight status old new
-  rests_anyhow IsRight rests input closes items calm gives asked = is_starved rests.status_is rests.nothing
+  -- ---- whatever is done with settings
 
-  refused_anyhow : (IsRight : Settings → Type 0) → status ≡ 3 → RunCompletes IsRight status old new
-  refused_anyhow IsRight is input closes items calm gives asked = is_refused is
+  module _ (IsRight Does : Settings → Type 0) (Each : List Item → Settings → Type 0) (Starved : Type 0)
+      (comes : (settings : Settings) → IsRight settings → Does settings → OnMessages old new (λ items. ComesTo IsRight (Each items) Starved status))
+      (starved : new.wire ≡ old.wire → Starved) where
+    abbrev Comes : Type 0
+    Comes = OnMessages old new (λ items. ComesTo IsRight (Each items) Starved status)
 
-  of_values : (values : RunValues) → RunsValues values status old new → RunCompletes (IsSettings values) status old new
-  of_values values (serves settings is s) = comes (IsSettings values) settings is s
-  of_values values (refuses option is says) = refused_anyhow (IsSettings values) says.status_is
-  of_values values (lacks rests) = rests_anyhow (IsSettings values) rests
+    rests_anyhow : Rests no_memory status old new → Comes
+    rests_anyhow rests input closes items calm gives asked = is_starved rests.status_is (starved rests.nothing)
 
-  of_config : (file : List ℕ) (caller : Option (List ℕ)) (config : Config) → IsFileOf old.shelf file config → RunsConfig config caller status old new → RunCompletes (IsOfFile old file caller) status old new
-  of_config file caller config is (serves settings right s) = comes (IsOfFile old file caller) settings (record { config = config; is = is; configured = right }) s
-  of_config file caller config is (refuses nobody says) = refused_anyhow (IsOfFile old file caller) says.status_is
-  of_config file caller config is (lacks rests) = rests_anyhow (IsOfFile old file caller) rests
+    refused_anyhow : status ≡ 3 → Comes
+    refused_anyhow is input closes items calm gives asked = is_refused is
 
-  of_file : (file : List ℕ) (caller : Option (List ℕ)) → WithFile file status old new (λ config. RunsConfig config caller status old new) → RunCompletes (IsOfFile old file caller) status old new
-  of_file file caller (configured config is policies asks runs) = of_config file caller config is runs
-  of_file file caller (not_configured (refuses path is says) asks) = refused_anyhow (IsOfFile old file caller) says.status_is
-  of_file file caller (not_configured (too_long is says) asks) = refused_anyhow (IsOfFile old file caller) says.status_is
-  of_file file caller (not_configured (fails rose rests) asks) = λ input closes items calm gives asked. absurd (calm.files rose)
-  of_file file caller (lacks rests asks) = rests_anyhow (IsOfFile old file caller) rests
+    of_the_values : (values : RunValues) → ((settings : Settings) → IsSettings values settings → IsRight settings) → WithValues values status old new Does → Comes
+    of_the_values values so (right settings is does) = comes settings (so settings is) does
+    of_the_values values so (refuses option is says) = refused_anyhow says.status_is
+    of_the_values values so (lacks rests) = rests_anyhow rests
+
+    of_the_config : (config : Config) (caller : Option (List ℕ)) → ((settings : Settings) → IsConfigured config caller settings → IsRight settings) → WithConfig config caller status old new Does → Comes
+    of_the_config config caller so (right settings is does) = comes settings (so settings is) does
+    of_the_config config caller so (refuses nobody says) = refused_anyhow says.status_is
+    of_the_config config caller so (lacks rests) = rests_anyhow rests
+
+    of_the_file : (file : List ℕ) (caller : Option (List ℕ)) → ((settings : Settings) → IsOfFile old file caller settings → IsRight settings)
+        → WithFile file status old new (λ config. WithConfig config caller status old new Does) → Comes
+    of_the_file file caller so (configured config is policies asks runs) =
+        of_the_config config caller (λ settings right. so settings (record { config = config; is = is; configured = right })) runs
+    of_the_file file caller so (not_configured (refuses path is says) asks) = refused_anyhow says.status_is
+    of_the_file file caller so (not_configured (too_long is says) asks) = refused_anyhow says.status_is
+    of_the_file file caller so (not_configured (fails rose rests) asks) = λ input closes items calm gives asked. absurd (calm.files rose)
+    of_the_file file caller so (lacks rests asks) = rests_anyhow rests
+
+  of_source : (Does : Settings → Type 0) (Each : List Item → Settings → Type 0) (Starved : Type 0) (source : Source)
+      → ((settings : Settings) → IsFrom old source settings → Does settings → OnMessages old new (λ items. ComesTo (IsFrom old source) (Each items) Starved status))
+      → (new.wire ≡ old.wire → Starved) → FromSource source status old new Does → OnMessages old new (λ items. ComesTo (IsFrom old source) (Each items) Starved status)
+  of_source Does Each Starved (of_values values) comes starved does = of_the_values (IsFrom old (of_values values)) Does Each Starved comes starved values (λ settings is. is) does.0
+  of_source Does Each Starved (of_file file caller) comes starved does = of_the_file (IsFrom old (of_file file caller)) Does Each Starved comes starved file caller (λ settings is. is) does
+
+  of_run : (source : Source) → FromSource source status old new (λ settings. Serves settings status old new) → RunCompletes (IsFrom old source) status old new
+  of_run source does =
+      of_source (λ settings. Serves settings status old new) (λ items settings. ServesEach items settings status old new) (new.wire ≡ old.wire) source (comes_served (IsFrom old source)) (λ same. same) does
+
+  of_explain : (source : Source) → FromSource source status old new (λ settings. Explains settings status old new) → ExplainCompletes (IsFrom old source) status old new
+  of_explain source does =
+      of_source (λ settings. Explains settings status old new) (λ items settings. ExplainsEach items settings status old new) (Unit {0}) source (comes_explained (IsFrom old source)) (λ same. tt) does
 
   of_check : (file : List ℕ) → WithFile file status old new (λ config. Checks config status old new) → IsCalm old new → CheckComesTo file status old new
   of_check file (configured config is policies asks (tells (whole sends st clock))) calm = tells_numbers (record { config = config; is = is; tells = sends }) st
@@ -79,16 +102,16 @@ module _ (status : ℕ) (old new : Around) where
 
   of_want : (command : Option Command) → Rests no_memory status old new → Completes command status old new
   of_want None rests = tt
-  of_want (Some (run values)) rests = rests_anyhow (IsSettings values) rests
-  of_want (Some (run_file file caller)) rests = rests_anyhow (IsOfFile old file caller) rests
+  of_want (Some (run source)) rests = λ input closes items calm gives asked. is_starved rests.status_is rests.nothing
+  of_want (Some (explain source)) rests = λ input closes items calm gives asked. is_starved rests.status_is tt
   of_want (Some (check file)) rests = λ calm. has_no_memory rests.status_is
   of_want (Some (serve values)) rests = tt
   of_want (Some (load seed requests)) rests = λ calm. lacks_memory rests.status_is
 
 of_command : (status : ℕ) (old new : Everything) (command : Option Command) → Does command status old new → Completes command status (one_of old) (one_of new)
 of_command status old new None does = tt
-of_command status old new (Some (run values)) does = of_values status (one_of old) (one_of new) values does.0
-of_command status old new (Some (run_file file caller)) does = of_file status (one_of old) (one_of new) file caller does.0
+of_command status old new (Some (run source)) does = of_run status (one_of old) (one_of new) source does.0
+of_command status old new (Some (explain source)) does = of_explain status (one_of old) (one_of new) source does.0
 of_command status old new (Some (check file)) does = of_check status (one_of old) (one_of new) file does.0
 of_command status old new (Some (serve values)) does = tt
 of_command status old new (Some (load seed requests)) does = of_load status (one_of old) (one_of new) seed requests does.0

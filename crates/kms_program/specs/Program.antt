@@ -6,20 +6,25 @@ use Rattle.kms_io.specs.Doorway.{Doorway}
 use Rattle.kms_io.specs.Files.{Asks, MayAsk}
 use Rattle.account_steps.specs.declared.facts.RealmFacts.{RealmFacts}
 use Rattle.kms_config.specs.declared.config.Config.{Config}
-use Rattle.kms_session.specs.declared.trust.Trust.{Trust}
-use Rattle.kms_session.specs.declared.trust.Trust.TheVariants.{Signed}
+use Rattle.session_front.specs.declared.trust.Trust.{Trust}
+use Rattle.session_front.specs.declared.trust.Trust.TheVariants.{Signed}
 use Rattle.kms_program.specs.Statuses.{well, misused, refused, cut_off, unread, unwritten, no_memory}
+use Rattle.explain_session.specs.Session.{Explained}
+use Rattle.kms_program.specs.declared.sessions.Task.{Task}
+use Rattle.kms_program.specs.declared.sessions.Task.TheVariants.{Serve, Explain}
 use Rattle.kms_program.specs.declared.settings.Settings.{Settings}
 use Rattle.kms_program.specs.declared.settings.RunOption.{RunOption}
 use Rattle.kms_program.specs.declared.settings.RunOption.TheVariants.{Account, Region, Root, Boot, As}
-use Rattle.kms_session.specs.declared.session.SessionEnd.{SessionEnd}
-use Rattle.kms_session.specs.declared.session.SessionEnd.TheVariants.{Ended, Closed, CutOff, ReadFault, WriteFault, NoMemory}
+use Rattle.session_front.specs.declared.ends.SessionEnd.{SessionEnd}
+use Rattle.session_front.specs.declared.ends.SessionEnd.TheVariants.{Ended, Closed, CutOff, ReadFault, WriteFault, NoMemory}
 use Rattle.publish_pass.specs.Pass.{Pass, fresh_pass, first_places}
-use Rattle.kms_session.specs.Session.{outside, SendsWhole, SendsShort, EndsBy}
+use Rattle.session_front.specs.Sending.{SendsWhole, SendsShort}
+use Rattle.session_front.specs.Session.{outside}
+use Rattle.kms_session.specs.Session.{EndsBy}
 use Rattle.kms_server.specs.declared.server.Served.{Served}
 use Rattle.kms_server.specs.Server.{Wanted, Surroundings, surroundings, ServesDoor, FindsShut, OpensNothing}
 use Rattle.kms_workload.specs.Summary.{Summarizes}
-use Rattle.kms_words.specs.Words.{Command, RunValues, ServeValues, run, run_file, check, serve, load, command_of}
+use Rattle.kms_words.specs.Words.{Command, Source, RunValues, ServeValues, of_values, of_file, run, explain, check, serve, load, command_of}
 use Rattle.kms_program.specs.Settings.{IsSettings, IsRefusedAt, IsConfigured, IsNobody}
 use Rattle.kms_program.specs.Files.{IsFileOf, HasIdentityPolicies, IsFileRefused, IsFileTooLong}
 
@@ -35,7 +40,7 @@ around wire clock shelf = record { wire = wire; clock = clock; shelf = shelf }
 -- ---- lines
 
 abbrev pub usage_line : List ℕ
-usage_line = codes "usage: kms_local run|serve|load|check\n"
+usage_line = codes "usage: kms_local run|serve|load|check|explain\n"
 
 abbrev pub path_of : RunOption → List ℕ
 path_of Account = codes "/account"
@@ -83,6 +88,17 @@ pub record Serves (settings : Settings) (status : ℕ) (old new : Around) : Type
   pub serving : Serving settings.facts settings.trust end old.wire old.clock new.wire new.clock
   pub status_is : status ≡ status_of_end end
 
+-- one session is explained with these settings, from an empty history, and the status is that of its end
+pub record Explains (settings : Settings) (status : ℕ) (old new : Around) : Type 0 where
+  pub end : SessionEnd
+  pub explained : Explained settings.facts settings.trust end old.wire old.clock new.wire new.clock
+  pub status_is : status ≡ status_of_end end
+
+-- what is done with the settings of a session
+abbrev pub Conducts : Task → Settings → ℕ → Around → Around → Type 0
+Conducts Serve settings status old new = Serves settings status old new
+Conducts Explain settings status old new = Explains settings status old new
+
 -- the line is written, as far as it can be, and the status is this one whether it can or not; the clock isn't asked
 pub record Says (line : List ℕ) (owed status : ℕ) (old new : Around) : Type 0 where
   pub says : SaysLine line old.wire new.wire
@@ -106,11 +122,12 @@ Refuses path status old new = Says (refused_line path) refused status old new �
 
 -- ---- commands
 
--- what `run` with values does: a session by what they stand for, or the line of the first one that has not its form
-pub data RunsValues (values : RunValues) (status : ℕ) (old new : Around) : Type 0 where
-  serves : (settings : Settings) → IsSettings values settings → Serves settings status old new → RunsValues values status old new
-  refuses : (option : RunOption) → IsRefusedAt values option → Says (refused_line (path_of option)) refused status old new → RunsValues values status old new
-  lacks : Rests no_memory status old new → RunsValues values status old new
+-- what a command with values does, where this is what it does with the settings that they stand for: or the line of the first one that
+-- has not its form
+pub data WithValues (values : RunValues) (status : ℕ) (old new : Around) (Does : Settings → Type 0) : Type 0 where
+  right : (settings : Settings) → IsSettings values settings → Does settings → WithValues values status old new Does
+  refuses : (option : RunOption) → IsRefusedAt values option → Says (refused_line (path_of option)) refused status old new → WithValues values status old new Does
+  lacks : Rests no_memory status old new → WithValues values status old new Does
 
 -- the file was asked for once, and there is no configuration in it: the line of its first fault, or none where it can't be read
 pub data RunsNoFile (file : List ℕ) (status : ℕ) (old new : Around) : Type 0 where
@@ -118,11 +135,12 @@ pub data RunsNoFile (file : List ℕ) (status : ℕ) (old new : Around) : Type 0
   too_long : IsFileTooLong old.shelf file → Says (refused_line (codes "/")) refused status old new → RunsNoFile file status old new
   fails : RoseBy 1 old.shelf.faults new.shelf.faults → Rests unread status old new → RunsNoFile file status old new
 
--- what `run` with a file does, once the file is a configuration: a session, or the line of a caller who is nobody of its account
-pub data RunsConfig (config : Config) (caller : Option (List ℕ)) (status : ℕ) (old new : Around) : Type 0 where
-  serves : (settings : Settings) → IsConfigured config caller settings → Serves settings status old new → RunsConfig config caller status old new
-  refuses : IsNobody config caller → Says (refused_line (path_of As)) refused status old new → RunsConfig config caller status old new
-  lacks : Rests no_memory status old new → RunsConfig config caller status old new
+-- what a command with the settings of a file does, once the file is a configuration, where this is what it does with them: or the line
+-- of a caller who is nobody of the account
+pub data WithConfig (config : Config) (caller : Option (List ℕ)) (status : ℕ) (old new : Around) (Does : Settings → Type 0) : Type 0 where
+  right : (settings : Settings) → IsConfigured config caller settings → Does settings → WithConfig config caller status old new Does
+  refuses : IsNobody config caller → Says (refused_line (path_of As)) refused status old new → WithConfig config caller status old new Does
+  lacks : Rests no_memory status old new → WithConfig config caller status old new Does
 
 -- what `check` does, once the file is a configuration: the line of its numbers
 pub data Checks (config : Config) (status : ℕ) (old new : Around) : Type 0 where
@@ -134,6 +152,11 @@ pub data WithFile (file : List ℕ) (status : ℕ) (old new : Around) (Does : Co
   configured : (config : Config) → IsFileOf old.shelf file config → HasIdentityPolicies config.facts → Asks old.shelf file new.shelf → Does config → WithFile file status old new Does
   not_configured : RunsNoFile file status old new → Asks old.shelf file new.shelf → WithFile file status old new Does
   lacks : Rests no_memory status old new → MayAsk old.shelf file new.shelf → WithFile file status old new Does
+
+-- what a command with the settings of a session does, where this is what it does with them; without a file none is asked for
+abbrev pub FromSource : Source → ℕ → Around → Around → (Settings → Type 0) → Type 0
+FromSource (of_values values) status old new Does = WithValues values status old new Does × (new.shelf ≡ old.shelf)
+FromSource (of_file file caller) status old new Does = WithFile file status old new (λ config. WithConfig config caller status old new Does)
 
 -- ---- all that the program uses
 
@@ -213,8 +236,8 @@ pub data Sums (seed requests status : ℕ) (old new : Wire) : Type 0 where
 -- what it does for a command, or for words that are none
 abbrev pub Does : Option Command → ℕ → Everything → Everything → Type 0
 Does None status old new = Says usage_line misused status (one_of old) (one_of new) × AsksNothing old new
-Does (Some (run values)) status old new = RunsValues values status (one_of old) (one_of new) × (new.shelf ≡ old.shelf) × LeavesOthers old new
-Does (Some (run_file file caller)) status old new = WithFile file status (one_of old) (one_of new) (λ config. RunsConfig config caller status (one_of old) (one_of new)) × LeavesOthers old new
+Does (Some (run source)) status old new = FromSource source status (one_of old) (one_of new) (λ settings. Serves settings status (one_of old) (one_of new)) × LeavesOthers old new
+Does (Some (explain source)) status old new = FromSource source status (one_of old) (one_of new) (λ settings. Explains settings status (one_of old) (one_of new)) × LeavesOthers old new
 Does (Some (check file)) status old new = WithFile file status (one_of old) (one_of new) (λ config. Checks config status (one_of old) (one_of new)) × AsksNone old new
 Does (Some (serve values)) status old new = ServesFile values status old new
 Does (Some (load seed requests)) status old new = Sums seed requests status old.wire new.wire × AsksNothing old new

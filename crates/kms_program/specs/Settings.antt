@@ -7,8 +7,8 @@ use Rattle.kms_names.specs.Region.{IsRegion}
 use Rattle.kms_names.specs.Principal.{IsPrincipal, principal_text, account_of}
 use Rattle.kms_names.specs.declared.principals.Principal.{Principal}
 use Rattle.kms_config.specs.declared.config.Config.{Config}
-use Rattle.kms_session.specs.declared.trust.Trust.{Trust}
-use Rattle.kms_session.specs.declared.trust.Trust.TheVariants.{Word, Signed}
+use Rattle.session_front.specs.declared.trust.Trust.{Trust}
+use Rattle.session_front.specs.declared.trust.Trust.TheVariants.{Word, Signed}
 use Rattle.kms_program.specs.declared.settings.Settings.{Settings}
 use Rattle.kms_program.specs.declared.settings.RunOption.{RunOption}
 use Rattle.kms_program.specs.declared.settings.RunOption.TheVariants.{Account, Region, Root, Boot, As}

@@ -2,8 +2,8 @@
 ghost use Rattle.std.specs.Prelude.{◌≡◌, ℕ, List, Option, IfOk, IfErr};
 ghost use Rattle.kms_io.specs.Shelf.{Shelf};
 ghost use Rattle.kms_io.specs.Files.{Asks};
-ghost use Rattle.kms_session.specs.Callers.{IsOfAccount};
-ghost use Rattle.kms_session.specs.declared.trust.Trust.TheVariants.{Signed};
+ghost use Rattle.session_front.specs.Callers.{IsOfAccount};
+ghost use Rattle.session_front.specs.declared.trust.Trust.TheVariants.{Signed};
 ghost use Rattle.kms_program.specs.Files.{IsFileOf, HasIdentityPolicies};
 ghost use Rattle.kms_program.specs.Program.{around, Refuses, WithFile};
 

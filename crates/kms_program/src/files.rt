@@ -1,6 +1,6 @@
 // The configuration's file.
-ghost use Rattle.kms_session.specs.Callers.{IsOfAccount};
-ghost use Rattle.kms_session.specs.declared.trust.Trust.TheVariants.{Signed};
+ghost use Rattle.session_front.specs.Callers.{IsOfAccount};
+ghost use Rattle.session_front.specs.declared.trust.Trust.TheVariants.{Signed};
 ghost use Rattle.kms_program.specs.Files.{IsLoaded, Loads, OnConfig, HasIdentityPolicies};
 
 use kms_config::{Config, ConfigFault, read_config};

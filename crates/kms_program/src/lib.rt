@@ -7,6 +7,7 @@ mod lines;
 mod loading;
 mod program;
 mod serving;
+mod sessions;
 mod settings;
 mod statuses;
 

@@ -1,6 +1,6 @@
 // The lines that the program writes.
 ghost use Rattle.std.specs.Prelude.{◌≡◌, IfOk, OnOk, OnErr, string_bytes, codes, MatchBool};
-ghost use Rattle.kms_session.specs.Session.{SendsWhole, SendsShort};
+ghost use Rattle.session_front.specs.Sending.{SendsWhole, SendsShort};
 ghost use Rattle.kms_program.specs.Program.{SaysLine, usage_line, path_of, refused_line, checked_line, served_line};
 
 use crate::settings::RunOption;
@@ -9,7 +9,7 @@ use kms_names::NoMemory;
 use kms_session::send;
 use std::alloc::{AllocError, Global};
 
-const USAGE: &[u8] = b"usage: kms_local run|serve|load|check\n";
+const USAGE: &[u8] = b"usage: kms_local run|serve|load|check|explain\n";
 
 const REFUSED_WHOLE: &[u8] = b"configuration refused at /\n";
 

@@ -1,130 +1,23 @@
 // The program, but for its handles.
-ghost use Rattle.std.specs.Prelude.{◌≡◌, ℕ, List, Option, Some, map, string_bytes, option_map, vec_len};
+ghost use Rattle.std.specs.Prelude.{◌≡◌, ℕ, List, Option, Some, map, string_bytes, vec_len};
 ghost use Rattle.kms_io.specs.Shelf.{Shelf};
-ghost use Rattle.published_account.specs.Rules.{Names};
-ghost use Rattle.kms_session.specs.Callers.{IsOfAccount};
-ghost use Rattle.kms_session.specs.declared.trust.Trust.TheVariants.{Signed};
-ghost use Rattle.kms_words.specs.Words.{values_in, shown, command_of};
-ghost use Rattle.kms_program.specs.Program.{around, everything, one_of, status_of_end, Serving, RunsValues, RunsConfig, Checks, WithFile, Does, Runs};
+ghost use Rattle.kms_words.specs.Words.{shown, command_of};
+ghost use Rattle.kms_program.specs.Program.{around, everything, one_of, Checks, WithFile, Does, Runs};
 ghost use Rattle.kms_program.specs.Complete.{Completes};
 
 use crate::configs::obtain_config;
-use crate::lines::{say_refused, say_usage, tell_checked};
+use crate::lines::{say_usage, tell_checked};
 use crate::loading::load;
 use crate::serving::serve_file;
-use crate::settings::{RunOption, SettingFault, Settings, configured, read_settings};
-use crate::statuses::{CUT_OFF, MISUSED, NO_MEMORY, REFUSED, UNREAD, UNWRITTEN};
+use crate::sessions::{Task, hold_session};
+use crate::statuses::{MISUSED, NO_MEMORY, UNWRITTEN};
 use kms_config::Config;
 use kms_io::{Clock, Door, Ear, Files, Gate, Link};
 use kms_names::NoMemory;
-use kms_session::{SessionEnd, Trust, serve_session};
-use kms_words::{Asked, RunWords, read_words};
-use publish_pass::{Opening, Realm, open_service};
+use kms_words::{Asked, read_words};
 use std::alloc::Global;
-use std::marker::Brand;
 use std::sync::Wait;
 use std::thread::Threads;
-
-fn status(end: SessionEnd) -> u8
-    ensures { result ≡ status_of_end end }
-{
-    match end {
-        SessionEnd::Ended | SessionEnd::Closed => 0,
-        SessionEnd::CutOff => CUT_OFF,
-        SessionEnd::ReadFault => UNREAD,
-        SessionEnd::WriteFault => UNWRITTEN,
-        SessionEnd::NoMemory => NO_MEMORY,
-    }
-}
-
-// Serves one session by the one pass of a service.
-fn serve_once<W: Wait, R: Realm, L: Link, C: Clock, G: Gate>(
-    rt: &W,
-    alloc: Global,
-    opening: Opening,
-    trust: &Trust,
-    clock: &mut C,
-    link: &mut L,
-    gate: &G,
-) -> SessionEnd
-    requires ledger { (opening.name ≡ R.name) × (opening.parts ≡ R.parts) }
-    requires names { Names R.book R.facts R.passes opening.shown }
-    requires passes { opening.shown.whole.passes ≡ 1 }
-    requires trust { IsOfAccount opening.shown.whole.facts.account trust.now }
-    ensures { Serving opening.shown.whole.facts trust.now result (L.shows link.old) (C.told clock.old) (L.shows link.new) (C.told clock.new) }
-{
-    let Ok((service, mut passes)) = open_service::<W, R>(rt, alloc, opening) else {
-        return SessionEnd::NoMemory;
-    };
-    let pass = &mut passes[0];
-    let end = serve_session(rt, alloc, &service, pass, trust, clock, link, gate);
-    pass.settle(rt, &service);
-    service.shut(rt);
-    end
-}
-
-// Serves one session of a new service.
-fn run<W: Wait, L: Link, C: Clock, G: Gate>(
-    rt: &W,
-    alloc: Global,
-    settings: Settings,
-    clock: &mut C,
-    link: &mut L,
-    gate: &G,
-) -> SessionEnd
-    requires { IsOfAccount settings.facts.account settings.trust }
-    ensures { Serving settings.facts settings.trust result (L.shows link.old) (C.told clock.old) (L.shows link.new) (C.told clock.new) }
-{
-    let Settings { facts, trust } = settings;
-    let Ok(opening) = Opening::new(rt, alloc, facts, 1) else {
-        return SessionEnd::NoMemory;
-    };
-    serve_once::<W, Brand, L, C, G>(rt, alloc, opening, &trust, clock, link, gate)
-}
-
-// `run` with values.
-fn run_values<W: Wait, L: Link, C: Clock, G: Gate>(
-    rt: &W,
-    alloc: Global,
-    words: &RunWords<'_>,
-    clock: &mut C,
-    link: &mut L,
-    gate: &G,
-) -> u8
-    ensures { (shelf : Shelf) → RunsValues (values_in words.now) result (around (L.shows link.old) (C.told clock.old) shelf) (around (L.shows link.new) (C.told clock.new) shelf) }
-{
-    match read_settings(alloc, words) {
-        Ok(settings) => status(run(rt, alloc, settings, clock, link, gate)),
-        Err(SettingFault::At(option)) => {
-            say_refused(link, option);
-            REFUSED
-        }
-        Err(SettingFault::NoMemory) => NO_MEMORY,
-    }
-}
-
-// `run` with what a file holds.
-fn run_config<W: Wait, L: Link, C: Clock, G: Gate>(
-    rt: &W,
-    alloc: Global,
-    config: Config,
-    caller: Option<&str>,
-    clock: &mut C,
-    link: &mut L,
-    gate: &G,
-) -> u8
-    requires { IsOfAccount config.facts.account (Signed config.credentials) }
-    ensures { (shelf later : Shelf) → RunsConfig config (option_map (λ caller. caller.now) caller.entry) result (around (L.shows link.old) (C.told clock.old) shelf) (around (L.shows link.new) (C.told clock.new) later) }
-{
-    match configured(alloc, config, caller) {
-        Ok(Some(settings)) => status(run(rt, alloc, settings, clock, link, gate)),
-        Ok(None) => {
-            say_refused(link, RunOption::As);
-            REFUSED
-        }
-        Err(NoMemory) => NO_MEMORY,
-    }
-}
 
 // `check` with what a file holds.
 fn check_config<L: Link>(alloc: Global, config: &Config, link: &mut L) -> u8
@@ -136,26 +29,6 @@ fn check_config<L: Link>(alloc: Global, config: &Config, link: &mut L) -> u8
         Ok(true) => 0,
         Ok(false) => UNWRITTEN,
         Err(NoMemory) => NO_MEMORY,
-    }
-}
-
-// `run` with a file.
-fn run_file<W: Wait, F: Files, L: Link, C: Clock, G: Gate>(
-    rt: &W,
-    alloc: Global,
-    file: &str,
-    caller: Option<&str>,
-    files: &mut F,
-    clock: &mut C,
-    link: &mut L,
-    gate: &G,
-) -> u8
-    ensures { WithFile file.now result (around (L.shows link.old) (C.told clock.old) (F.shows files.old)) (around (L.shows link.new) (C.told clock.new) (F.shows files.new))
-        (λ config. RunsConfig config (option_map (λ caller. caller.now) caller.entry) result (around (L.shows link.old) (C.told clock.old) (F.shows files.old)) (around (L.shows link.new) (C.told clock.new) (F.shows files.new))) }
-{
-    match obtain_config(alloc, files, link, file) {
-        Ok(config) => run_config(rt, alloc, config, caller, clock, link, gate),
-        Err(status) => status,
     }
 }
 
@@ -196,9 +69,13 @@ where
         (everything (L.shows link.new) (F.shows files.new) (D.shows door.new) (map C.told clocks.new.items)) }
 {
     match asked {
-        Asked::Run(words) => run_values(rt, alloc, &words, &mut clocks[0], link, gate),
-        Asked::RunFile(file, caller) => {
-            run_file(rt, alloc, file, caller, files, &mut clocks[0], link, gate)
+        Asked::Run(words) => {
+            let clock = &mut clocks[0];
+            hold_session(rt, alloc, Task::Serve, &words, files, clock, link, gate)
+        }
+        Asked::Explain(words) => {
+            let clock = &mut clocks[0];
+            hold_session(rt, alloc, Task::Explain, &words, files, clock, link, gate)
         }
         Asked::Check(file) => check_file(alloc, file, files, link),
         Asked::Serve(words) => serve_file(rt, alloc, &words, files, clocks, link, door, gate),
@@ -250,6 +127,9 @@ where
 ///   the link, with the first clock. Whoever sends a message counts as the principal of the ARN.
 /// * `run --config FILE`: the same for the file's account. Messages are signed with one of its credentials;
 ///   with `--as ARN` whoever sends a message counts as that principal of the account.
+/// * `explain` with the options of one of these two: the same messages are read and decided on, and each has
+///   one line in place of its reply: whether it is allowed, by which ground and with which marks of the statements and
+///   the grants that were asked, and the exception of the reply that it would have, or `Ok`.
 /// * `check --config FILE`: writes how many credentials and how many principals with policies the file
 ///   has.
 /// * `serve --config FILE --listen ADDRESS`, and perhaps `--workers W` (1 to 64, else 4) and
@@ -263,12 +143,13 @@ where
 /// first value of `run` that has not its form (a line names the path, or `/` and the option); 4 for
 /// input that ended inside a message; 5 for a read that failed, of the link or of the file, for a door that
 /// couldn't be opened, and where the ear of a worker failed 16 times in a row; 6 for a write that failed; 7
-/// for want of memory (of `run` with nothing taken); and 0 otherwise. Where the line of status 2, 3 or 5
+/// for want of memory (of `run` with nothing taken; of `explain` also where it is wanting for a line, after the lines
+/// before it); and 0 otherwise. Where the line of status 2, 3 or 5
 /// can't be written whole the status stays. The files are asked for the file of `--config` alone, once, and
 /// the door is opened by `serve` alone.
 ///
 /// Where no count of faults rises and the link has only whole messages to give, or some up to one that closes, `run` answers each
-/// of them, once and in order, writes nothing else, and ends with status 0; `check` and `load` write their lines whole, with status
+/// of them, once and in order, writes nothing else, and ends with status 0; so `explain` writes one line for each; `check` and `load` write their lines whole, with status
 /// 0. Else the status is 3, for what is refused, or 7, for want of memory (`Completes`).
 pub fn kms_main<
     W: Threads + Wait + Sync,

@@ -1,8 +1,8 @@
 // `serve`.
 ghost use Rattle.std.specs.Prelude.{◌≡◌, map, vec_len, IfOk, OnErr};
 ghost use Rattle.kms_io.specs.Shelf.{Shelf};
-ghost use Rattle.kms_session.specs.Callers.{IsOfAccount};
-ghost use Rattle.kms_session.specs.declared.trust.Trust.TheVariants.{Signed};
+ghost use Rattle.session_front.specs.Callers.{IsOfAccount};
+ghost use Rattle.session_front.specs.declared.trust.Trust.TheVariants.{Signed};
 ghost use Rattle.kms_words.specs.Words.{serve_values_in};
 ghost use Rattle.kms_program.specs.Program.{everything, served_line, Reports, ServesConfig, ServesFile};
 

@@ -4,8 +4,8 @@ ghost use Rattle.std.specs.Str.{bytes_eq};
 ghost use Rattle.std.specs.List.{AllPass};
 ghost use Rattle.hex.specs.Hex.{decode_of, is_hex_digit};
 ghost use Rattle.kms_names.specs.Principal.{account_of};
-ghost use Rattle.kms_session.specs.Callers.{IsOfAccount};
-ghost use Rattle.kms_session.specs.declared.trust.Trust.TheVariants.{Signed};
+ghost use Rattle.session_front.specs.Callers.{IsOfAccount};
+ghost use Rattle.session_front.specs.declared.trust.Trust.TheVariants.{Signed};
 ghost use Rattle.kms_words.specs.Words.{values_in};
 ghost use Rattle.kms_program.specs.Settings.{boot_of, IsSettings, IsConfigured, IsNobody, Names, UnlessMemory};
 

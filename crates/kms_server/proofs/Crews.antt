@@ -9,7 +9,7 @@ use Rattle.std.proofs.lemmas.List.{get_or-set_same, get_or-set_other, get_or_def
 use Rattle.account_steps.specs.declared.facts.RealmFacts.{RealmFacts}
 use Rattle.publish_pass.specs.Pass.{Pass, fresh_pass, fresh_passes, KeepsHouse, WantsHouse}
 use Rattle.publish_pass.proofs.Meeting.{learns_self, learns_trans}
-use Rattle.kms_session.specs.declared.trust.Trust.{Trust}
+use Rattle.session_front.specs.declared.trust.Trust.{Trust}
 use Rattle.kms_server.specs.Work.{WorkerState, Works, takes_all, gives_up}
 use Rattle.kms_server.specs.Crew.{Pairwise, none, both, Settles, taken_by}
 

@@ -6,7 +6,7 @@ use Rattle.kms_io.specs.Doorway.{Doorway}
 use Rattle.kms_io.specs.Door.{OpensFor, AsksFor, MayAskFor, Closes}
 use Rattle.account_steps.specs.declared.facts.RealmFacts.{RealmFacts}
 use Rattle.publish_pass.specs.Pass.{fresh_passes}
-use Rattle.kms_session.specs.declared.trust.Trust.{Trust}
+use Rattle.session_front.specs.declared.trust.Trust.{Trust}
 use Rattle.kms_server.specs.declared.server.Order.{Order}
 use Rattle.kms_server.specs.declared.server.Outcome.{Outcome}
 use Rattle.kms_server.specs.declared.server.Outcome.TheVariants as outcome

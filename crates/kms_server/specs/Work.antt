@@ -5,9 +5,10 @@ use Rattle.kms_io.specs.Wire.{Wire, TellsMore, RoseBy}
 use Rattle.kms_io.specs.Listening.{Listening}
 use Rattle.kms_io.specs.Ear.{IsNewWire, KeepsGivenBack, TakesBack}
 use Rattle.publish_pass.specs.Pass.{Pass, Learns, WantsHouse}
-use Rattle.kms_session.specs.declared.trust.Trust.{Trust}
-use Rattle.kms_session.specs.declared.session.SessionEnd.{SessionEnd}
-use Rattle.kms_session.specs.Session.{outside, EndsBy}
+use Rattle.session_front.specs.declared.trust.Trust.{Trust}
+use Rattle.session_front.specs.declared.ends.SessionEnd.{SessionEnd}
+use Rattle.session_front.specs.Session.{outside}
+use Rattle.kms_session.specs.Session.{EndsBy}
 
 -- what a worker's pass holds, what its clock and its ear show, and how many connections it took
 pub record WorkerState : Type 0 where

@@ -2,7 +2,7 @@
 ghost use Rattle.std.specs.Prelude.{◌≡◌, ◌↔◌, ◌≤◌, ◌<◌, ◌+◌, ◌++◌, ◌∷◌, ◌^◌, ℕ, [], All, IsTrue, length, map, take, drop, slice_index_or, vec_len, vec_capacity, false};
 ghost use mathlib.Core.List.{IsPrefix};
 ghost use Rattle.kms_io.specs.Door.{IsNewEar};
-ghost use Rattle.kms_session.specs.Callers.{IsOfAccount};
+ghost use Rattle.session_front.specs.Callers.{IsOfAccount};
 ghost use Rattle.kms_server.specs.Work.{Works};
 ghost use Rattle.publish_pass.specs.Pass.{Learns};
 ghost use Rattle.kms_server.specs.Crew.{Pairwise, Settles, FirstIsLongest, taken_by};

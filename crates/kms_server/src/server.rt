@@ -2,7 +2,7 @@
 ghost use Rattle.std.specs.Prelude.{◌≡◌, ◌≤◌, ◌<◌, ◌+◌, ◌++◌, ◌^◌, ℕ, List, [], Option, map, vec_len, vec_capacity};
 ghost use Rattle.published_account.specs.Rules.{Names};
 ghost use Rattle.publish_pass.specs.Pass.{fresh_passes};
-ghost use Rattle.kms_session.specs.Callers.{IsOfAccount};
+ghost use Rattle.session_front.specs.Callers.{IsOfAccount};
 ghost use Rattle.kms_server.specs.Crew.{Finishes, taken_by};
 ghost use Rattle.kms_server.specs.States.{states_of};
 ghost use Rattle.kms_server.specs.Server.{wanted_by, surroundings, Fulfils};

@@ -1,6 +1,6 @@
 // One worker: it takes connections one after another and serves each to its end.
 ghost use Rattle.std.specs.Prelude.{◌≡◌, true, false};
-ghost use Rattle.kms_session.specs.Callers.{IsOfAccount};
+ghost use Rattle.session_front.specs.Callers.{IsOfAccount};
 ghost use Rattle.kms_server.specs.Work.{Awaits, Attends, Works};
 ghost use Rattle.kms_server.specs.States.{state_of};
 

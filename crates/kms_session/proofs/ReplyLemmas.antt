@@ -1,40 +1,32 @@
 -- Replies that were written, whole or cut short.
-use Rattle.std.proofs.Common.{◌≡◌, ◌≢◌, ◌≤◌, ℕ, List, ◌++◌, length, Bool, true, false, Option, None, Some, refl, sym, ap, ap₂, ◌∙◌, subst, arith, ◌⊎◌, inl, inr}
+use Rattle.std.proofs.Common.{◌≡◌, ◌≤◌, ℕ, List, ◌++◌, length, Bool, true, false, Option, None, Some, refl, sym, ap, ◌∙◌, subst, arith, ◌⊎◌, inl, inr}
 use Rattle.std.specs.Bool.{MatchBool}
 use Rattle.kms_io.specs.Wire.{Wire}
 use Rattle.published_account.specs.declared.answered.Answered.{Answered}
 use Rattle.http_front.specs.Head.{IsHead}
 use Rattle.kms_json.specs.declared.asks.Ask.{Ask}
 use Rattle.kms_json.specs.declared.replies.Reply.TheVariants.{Refused}
-use Rattle.kms_json.specs.Asks.{AnswersFor, refusal_of, changes_account}
+use Rattle.kms_json.specs.Asks.{changes_account}
 use Rattle.account_steps.specs.History.{Entry}
 use Rattle.account_steps.specs.History.{housekeeping_of}
 use Rattle.account_core.specs.Decide.{decide, IsLawful}
 use mathlib.Core.List.{IsPrefix}
-use Rattle.kms_session.specs.declared.trust.Trust.{Trust}
+use Rattle.session_front.specs.declared.trust.Trust.{Trust}
 use Rattle.http_front.specs.Message.{Message}
-use Rattle.std.proofs.Common.{Result, Err}
-use Rattle.kms_json.specs.declared.asks.AskBody.{AskBody}
-use Rattle.kms_json.specs.declared.asks.JsonFault.{JsonFault}
-use Rattle.kms_json.specs.declared.asks.JsonFault.TheVariants.{UnknownOperation, Serialization, Validation, AliasName, NoMemory}
+use Rattle.std.proofs.Common.{Ok, Err}
+use Rattle.session_front.specs.Early.{ask_of}
 use Rattle.kms_json.specs.declared.refusals.Refusal.{Refusal}
-use Rattle.kms_session.specs.Asked.{asked_in, after_in}
-use Rattle.kms_session.specs.declared.asked.After.{After}
 use Rattle.published_account.specs.Answers.{Answer, answer_in, answer_of}
 use Rattle.kms_session.specs.Answers.{IsReplyText, five_hundred}
 use Rattle.published_account.specs.Pairs.{entries_of}
 use Rattle.publish_pass.specs.Pass.{Pass, Meets, WantsChange, AnswersRead, AnswersChange, LacksRead, Misses, keeping_house, making_any}
 use Rattle.published_account.specs.declared.answered.Unread.TheVariants.{NoMemory as Unfed}
-use Rattle.kms_names.specs.declared.principals.Principal.{Principal}
-use Rattle.sigv4_check.specs.declared.faults.AuthFault.{AuthFault}
-use Rattle.sigv4_check.specs.declared.faults.AuthFault.TheVariants.{NoMemory as LacksMemory}
-use Rattle.sigv4_check.specs.Signer.{IsOrNoMemory}
-use Rattle.kms_session.specs.Callers.{caller_of, refusal_for}
-use Rattle.kms_session.proofs.Signers.{fault_is}
-use Rattle.kms_session.specs.Run.{Plan, answered, asks, plan_of, planned, planned_by, whole, Wanting, wants_nothing, wants_read, wants_change, Answers, early, reads, changes, Replies, answers, wants_memory}
-use Rattle.kms_session.specs.Session.{SendsWhole, SendsShort, Responds, RespondsShort}
+use Rattle.session_front.specs.Items.{whole}
+use Rattle.kms_session.specs.Run.{Plan, answered, asks, plan_of, plan_by, Wanting, wants_nothing, wants_read, wants_change, Answers, early, reads, changes, Replies, answers, wants_memory}
+use Rattle.session_front.specs.Sending.{SendsWhole, SendsShort}
+use Rattle.kms_session.specs.Session.{Responds, RespondsShort}
 use Rattle.kms_session.specs.Replying.{SendsReply, SendsReplyShort, Gives}
-use Rattle.kms_session.proofs.Wires.{whole_on, sends_short_after, sends_short_before}
+use Rattle.session_front.proofs.Wires.{whole_on, sends_short_after, sends_short_before}
 
 pub text_of_reply : (answer : Answer) (second front : ℕ) (closes : Bool) (head : List ℕ) → IsHead answer.status (length answer.body) second front closes head
     → IsReplyText answer second front closes (head ++ answer.body)
@@ -71,9 +63,9 @@ pub replied : (sent : Bool) (s : Pass) (plan : Plan) (answer : Answer) (second f
     → MatchBool sent (SendsReply answer second front closes old new) (SendsReplyShort answer second front closes old new)
     → MatchBool sent (Responds s plan second closes old new t) (RespondsShort s plan second closes old new t)
 replied true s plan answer second front closes old new t is at reply =
-    record { text = reply.text; replies = answers answer is (subst (λ (n : ℕ). IsReplyText answer second n closes reply.text) at reply.is); sends = reply.sends }
+    record { text = reply.text; is = answers answer is (subst (λ (n : ℕ). IsReplyText answer second n closes reply.text) at reply.is); sends = reply.sends }
 replied false s plan answer second front closes old new t is at reply =
-    record { text = reply.text; replies = answers answer is (subst (λ (n : ℕ). IsReplyText answer second n closes reply.text) at reply.is); short = reply.short }
+    record { text = reply.text; is = answers answer is (subst (λ (n : ℕ). IsReplyText answer second n closes reply.text) at reply.is); short = reply.short }
 
 pub wanting_none : (s : Pass) (plan : Plan) → Wanting s plan s
 wanting_none s plan = wants_nothing refl
@@ -112,8 +104,8 @@ wants_reading s t u x is missed h =
 pub wanted : (sent : Bool) (s : Pass) (plan : Plan) (second : ℕ) (closes : Bool) (old new : Wire) (t : Pass) → Wanting s plan t
     → MatchBool sent (SendsWhole old new five_hundred) (SendsShort old new five_hundred)
     → MatchBool sent (Responds s plan second closes old new t) (RespondsShort s plan second closes old new t)
-wanted true s plan second closes old new t is reply = record { text = five_hundred; replies = wants_memory is refl; sends = reply }
-wanted false s plan second closes old new t is reply = record { text = five_hundred; replies = wants_memory is refl; short = reply }
+wanted true s plan second closes old new t is reply = record { text = five_hundred; is = wants_memory is refl; sends = reply }
+wanted false s plan second closes old new t is reply = record { text = five_hundred; is = wants_memory is refl; short = reply }
 
 -- what a pass hands on as the answer to a request that changes the account
 pub gives_changed : (s t : Pass) (x : Ask) (a : Answered) → true ≡ changes_account x.body → AnswersChange s x a t → Gives s (asks x) a t
@@ -135,33 +127,12 @@ replied_given sent s t plan other a body second closes old new same is gives rep
     let P : List ℕ → Type 0 = λ b. MatchBool sent (SendsReply (record { status = a.status; body = b }) second a.front closes old new) (SendsReplyShort (record { status = a.status; body = b }) second a.front closes old new) in
     replied sent s plan (answer_in a) second a.front closes old new t (subst (λ (p : Plan). Answers s p (answer_in a) t) same gives.answers) gives.front (subst P is reply)
 
--- what a caller's message comes to, from what it asks
-pub plan_from : (caller : Principal) (c : ℕ) (m : Message) (r : Result AskBody Refusal) (after : After) → asked_in m ≡ r → after ≡ after_in m
-    → planned caller c r after ≡ planned caller c (asked_in m) (after_in m)
-plan_from caller c m r after is has = ap₂ (λ (r : Result AskBody Refusal) (a : After). planned caller c r a) (sym is) has
+-- what a message comes to, from what it asks
+pub plan_asks : (trust : Trust) (region : List ℕ) (m : Message) (c : ℕ) (x : Ask) → ask_of trust region m c ≡ Ok x → asks x ≡ plan_of trust region (whole m) c
+plan_asks trust region m c x is = ap plan_by (sym is)
 
--- what is refused, whatever else stands
-pub refused_is : (r : Result AskBody Refusal) (fault : JsonFault) (refusal : Refusal) → AnswersFor r (Err fault) → Some refusal ≡ refusal_of fault → r ≡ Err refusal
-refused_is r UnknownOperation refusal is e = cc
-refused_is r Serialization refusal is e = cc
-refused_is r (Validation field) refusal is e = cc
-refused_is r AliasName refusal is e = cc
-refused_is r NoMemory refusal is e = cc
-
-pub refused_plan : (caller : Principal) (c : ℕ) (m : Message) (fault : JsonFault) (refusal : Refusal) → AnswersFor (asked_in m) (Err fault) → Some refusal ≡ refusal_of fault
-    → answered (answer_of (Refused refusal)) ≡ planned caller c (asked_in m) (after_in m)
-refused_plan caller c m fault refusal is e = plan_from caller c m (Err refusal) (after_in m) (refused_is (asked_in m) fault refusal is e) refl
-
--- what a message comes to, from who asks
-pub plan_by : (trust : Trust) (region : List ℕ) (c : ℕ) (m : Message) (r : Result Principal AuthFault) → caller_of trust region m c ≡ r
-    → planned_by r m c ≡ plan_of trust region (whole m) c
-plan_by trust region c m r is = ap (λ (r : Result Principal AuthFault). planned_by r m c) (sym is)
-
--- a message that nobody signed
-pub unsigned_plan : (trust : Trust) (region : List ℕ) (c : ℕ) (m : Message) (why : AuthFault) (refusal : Refusal) → IsOrNoMemory (caller_of trust region m c) (Err why)
-    → (refusal ≡ refusal_for why) × (why ≢ LacksMemory) → answered (answer_of (Refused refusal)) ≡ plan_of trust region (whole m) c
-unsigned_plan trust region c m why refusal is e =
-    ap (λ (r : Refusal). answered (answer_of (Refused r))) e.0 ∙ plan_by trust region c m (Err why) (fault_is (caller_of trust region m c) why is e.1)
+pub plan_refuses : (trust : Trust) (region : List ℕ) (m : Message) (c : ℕ) (why : Refusal) → ask_of trust region m c ≡ Err why → answered (answer_of (Refused why)) ≡ plan_of trust region (whole m) c
+plan_refuses trust region m c why is = ap plan_by (sym is)
 
 any_facts : (s t : Pass) (entry : Option Entry) → t ≡ making_any s entry → t.facts ≡ s.facts
 any_facts s t None is = ap (λ (p : Pass). p.facts) is

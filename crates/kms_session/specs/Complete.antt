@@ -1,66 +1,26 @@
 -- Whole messages are answered, each once, and a session ends in one way.
-use Rattle.std.specs.Prelude.{◌≡◌, ◌⊎◌, ℕ, List, [], ◌∷◌, ◌++◌, length, Bool, true, false, Some}
-use Rattle.httparse.specs.Grammar.{NeverHasRequest}
-use Rattle.http_front.specs.Message.{Message, IsMessage, IsCrowded}
-use Rattle.kms_io.specs.Wire.{RoseBy, with_more}
-use Rattle.kms_session.specs.declared.trust.Trust.{Trust}
-use Rattle.kms_session.specs.declared.session.SessionEnd.{SessionEnd}
-use Rattle.kms_session.specs.declared.session.SessionEnd.TheVariants.{Ended, Closed, NoMemory}
-use Rattle.kms_session.specs.Run.{Item, whole, SessionRun, closes_at}
-use Rattle.kms_session.specs.Session.{Outside, EndsBetween, EndsClosed, EndsInside}
-
--- ---- one end
+use Rattle.std.specs.Prelude.{◌≡◌, List}
+use Rattle.session_front.specs.declared.ends.SessionEnd.{SessionEnd}
+use Rattle.session_front.specs.declared.trust.Trust.{Trust}
+use Rattle.session_front.specs.Complete as front
+use Rattle.session_front.specs.Items.{Item}
+use Rattle.kms_session.specs.Run.{turns}
+use Rattle.kms_session.specs.Session.{Outside}
 
 -- the bytes taken before and after are told
-pub record TellsTaken (old new : Outside) : Type 0 where
-  pub before : List ℕ
-  pub after : List ℕ
-  pub tells_before : old.wire.taken ≡ Some before
-  pub tells_after : new.wire.taken ≡ Some after
+abbrev pub TellsTaken : Outside → Outside → Type 0
+TellsTaken old new = front.TellsTaken old new
 
 -- No two of the ends that are no faults hold of one session, but for this: a session whose rest no head can come of, or has more
 -- than 64 headers, may be cut off or closed.
-pub record IsOneEnd (trust : Trust) (old new : Outside) : Type 0 where
-  pub not_ended_and_closed : EndsBetween trust old new → EndsClosed trust old new → ⊥
-  pub not_ended_and_cut_off : EndsBetween trust old new → EndsInside trust old new → ⊥
-  pub cut_off_and_closed : (inside : EndsInside trust old new) → EndsClosed trust old new → NeverHasRequest inside.rest ⊎ IsCrowded inside.rest
-
--- ---- each message is answered
-
--- The stream begins with these messages, each where the one before it ended, and goes on with this rest. The last of them closes, or
--- none does.
-pub data IsMadeOf (stream : List ℕ) : Bool → List Item → List ℕ → Type 0 where
-  no_message_yet : IsMadeOf stream false [] stream
-  one_message_more : {items : List Item} {rest text more : List ℕ} {m : Message} {closes : Bool}
-      → IsMadeOf stream false items rest → rest ≡ text ++ more → IsMessage m text → closes ≡ closes_at (length items) (whole m)
-      → IsMadeOf stream closes (items ++ whole m ∷ []) more
-
--- the bytes are these messages and no more, or these up to one that closes
-pub record IsAsked (input : List ℕ) (closes : Bool) (items : List Item) : Type 0 where
-  pub rest : List ℕ
-  pub made : IsMadeOf input closes items rest
-  pub all : closes ≡ false → rest ≡ []
-
--- the link has these bytes to give, and neither count of its faults rises
-pub record IsUndisturbed (old new : Outside) (input : List ℕ) : Type 0 where
-  pub gives : old.wire.left ≡ Some input
-  pub reads : ¬ (RoseBy 1 old.wire.read_faults new.wire.read_faults)
-  pub writes : ¬ (RoseBy 1 old.wire.write_faults new.wire.write_faults)
+abbrev pub IsOneEnd : Trust → Outside → Outside → Type 0
+IsOneEnd trust old new = front.IsOneEnd (turns trust) old new
 
 -- what was written are the replies of turns over these items, one for each and in order, and nothing else
-pub record AnswersEach (trust : Trust) (items : List Item) (old new : Outside) : Type 0 where
-  pub clocks : List ℕ
-  pub text : List ℕ
-  pub run : SessionRun old.pass trust new.pass items clocks text
-  pub written : new.wire.written ≡ with_more old.wire.written text
-
-abbrev pub end_of : Bool → SessionEnd
-end_of true = Closed
-end_of false = Ended
+abbrev pub AnswersEach : Trust → List Item → Outside → Outside → Type 0
+AnswersEach trust items old new = front.AnswersEach (turns trust) items old new
 
 -- Where nothing disturbs the session, each message that it is asked is answered, and it ends as they say; or it wants memory, and took
 -- nothing.
 abbrev pub IsComplete : Trust → SessionEnd → Outside → Outside → Type 0
-IsComplete trust end old new =
-    (input : List ℕ) (closes : Bool) (items : List Item) → IsUndisturbed old new input → IsAsked input closes items
-    → ((end ≡ NoMemory) × (new ≡ old)) ⊎ ((end ≡ end_of closes) × AnswersEach trust items old new)
+IsComplete trust end old new = front.IsComplete (turns trust) (new ≡ old) end old new

@@ -6,7 +6,7 @@ use Rattle.kms_session.specs.Answers.{IsReplyText}
 use Rattle.published_account.specs.declared.answered.Answered.{Answered}
 use Rattle.publish_pass.specs.Pass.{Pass}
 use Rattle.kms_session.specs.Run.{Plan, Answers}
-use Rattle.kms_session.specs.Session.{SendsWhole, SendsShort}
+use Rattle.session_front.specs.Sending.{SendsWhole, SendsShort}
 
 -- the text of this answer was written
 pub record SendsReply (answer : Answer) (second front : ℕ) (closes : Bool) (old new : Wire) : Type 0 where

@@ -1,56 +1,30 @@
 -- A session as a run of turns over what is due.
-use Rattle.std.specs.Prelude.{◌≡◌, ◌<◌, ◌+◌, ◌==◌, ℕ, List, [], ◌∷◌, ◌++◌, length, Bool, true, false, ◌||◌, Result, Ok, Err, codes}
-use Rattle.kms_names.specs.Moment.{year_10000}
-use Rattle.kms_names.specs.declared.principals.Principal.{Principal}
+use Rattle.std.specs.Prelude.{◌≡◌, ℕ, List, length, Bool, true, false, Result, Ok, Err}
 use Rattle.kms_json.specs.declared.asks.Ask.{Ask}
-use Rattle.kms_json.specs.declared.asks.AskBody.{AskBody}
 use Rattle.kms_json.specs.declared.replies.Reply.{Reply}
 use Rattle.kms_json.specs.declared.replies.Reply.TheVariants.{Refused}
 use Rattle.kms_json.specs.declared.refusals.Refusal.{Refusal}
-use Rattle.kms_json.specs.declared.refusals.Refusal.TheVariants.{Validation}
 use Rattle.kms_json.specs.Asks.{changes_account}
-use Rattle.http_front.specs.declared.judge.HttpFault.{HttpFault}
-use Rattle.kms_session.specs.declared.trust.Trust.{Trust}
-use Rattle.sigv4_check.specs.declared.faults.AuthFault.{AuthFault}
-use Rattle.http_front.specs.Judge.{closes_after}
-use Rattle.http_front.specs.Message.{Message, IsMessage, IsRefused}
-use Rattle.kms_session.specs.Asked.{asked_in, after_in}
-use Rattle.kms_session.specs.Callers.{caller_of, refusal_for}
-use Rattle.kms_session.specs.declared.asked.After.{After}
-use Rattle.kms_session.specs.declared.asked.After.TheVariants.{Entries, Malformed}
+use Rattle.session_front.specs.declared.trust.Trust.{Trust}
+use Rattle.session_front.specs.Early.{ask_of}
+use Rattle.session_front.specs.Runs.{Run}
+use Rattle.session_front.specs.Items.{Item, whole, fault}
 use Rattle.published_account.specs.Answers.{Answer, answer_of}
 use Rattle.kms_session.specs.Answers.{fault_answer, IsReplyText, five_hundred}
 use Rattle.publish_pass.specs.Pass.{Pass, Reads, Changes, Wants, WantsChange}
-
--- what is answered: a message, or bytes that are refused
-pub data Item : Type 0 where
-  whole : Message → Item
-  fault : HttpFault → Item
-
--- whether the reply to the item at this place, counted from 0, closes the session
-abbrev pub closes_at : ℕ → Item → Bool
-closes_at place (whole m) = closes_after m.head || (place + 1 == 100000)
-closes_at place (fault why) = true
 
 -- what an item comes to: an answer that no history decides, or a request of the account
 pub data Plan : Type 0 where
   answered : Answer → Plan
   asks : Ask → Plan
 
--- the header x-kms-after is judged after all that the body asks
-abbrev pub planned : Principal → ℕ → Result AskBody Refusal → After → Plan
-planned caller c (Ok body) (Entries after) = asks (record { body = body; caller = caller; moment = c; after = after })
-planned caller c (Ok body) Malformed = answered (answer_of (Refused (Validation (codes "x-kms-after"))))
-planned caller c (Err refusal) after = answered (answer_of (Refused refusal))
-
--- who asks is judged before what is asked
-abbrev pub planned_by : Result Principal AuthFault → Message → ℕ → Plan
-planned_by (Ok caller) m c = planned caller c (asked_in m) (after_in m)
-planned_by (Err why) m c = answered (answer_of (Refused (refusal_for why)))
+abbrev pub plan_by : Result Ask Refusal → Plan
+plan_by (Ok x) = asks x
+plan_by (Err why) = answered (answer_of (Refused why))
 
 -- what an item comes to at a service of this region
 abbrev pub plan_of : Trust → List ℕ → Item → ℕ → Plan
-plan_of trust region (whole m) c = planned_by (caller_of trust region m c) m c
+plan_of trust region (whole m) c = plan_by (ask_of trust region m c)
 plan_of trust region (fault why) c = answered (fault_answer why)
 
 -- the answer to a plan, and what the pass holds afterwards
@@ -77,17 +51,8 @@ Turn s trust item c closes text t = Replies s (plan_of trust s.facts.region item
 
 -- A run of turns over the items in order, each with its answer of the clock, which is before the year 10000. The text is the
 -- replies joined.
-pub data SessionRun (start : Pass) (trust : Trust) : Pass → List Item → List ℕ → List ℕ → Type 0 where
-  begins : SessionRun start trust start [] [] []
-  goes_on : {old new : Pass} {items : List Item} {clocks text reply : List ℕ} (item : Item) (c : ℕ) → c < year_10000
-      → SessionRun start trust old items clocks text → Turn old trust item c (closes_at (length items) item) reply new
-      → SessionRun start trust new (items ++ item ∷ []) (clocks ++ c ∷ []) (text ++ reply)
+abbrev pub turns : Trust → Pass → Item → ℕ → Bool → List ℕ → Pass → Type 0
+turns trust s item c closes text t = Turn s trust item c closes text t
 
--- The stream is cut into these items, of which the last closes or none does, and this rest.
-pub data Cuts (stream : List ℕ) : Bool → List Item → List ℕ → Type 0 where
-  nothing : Cuts stream false [] stream
-  message : {items : List Item} {rest text more : List ℕ} {m : Message} {closes : Bool}
-      → Cuts stream false items rest → rest ≡ text ++ more → IsMessage m text → closes ≡ closes_at (length items) (whole m)
-      → Cuts stream closes (items ++ whole m ∷ []) more
-  no_message : {items : List Item} {rest : List ℕ} (why : HttpFault)
-      → Cuts stream false items rest → IsRefused rest why → Cuts stream true (items ++ fault why ∷ []) rest
+abbrev pub SessionRun : Pass → Trust → Pass → List Item → List ℕ → List ℕ → Type 0
+SessionRun start trust t items clocks text = Run (turns trust) start t items clocks text

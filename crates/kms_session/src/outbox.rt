@@ -1,29 +1,14 @@
 // Bytes that go out.
 ghost use Rattle.std.specs.Prelude.{MatchBool, MatchOption, ◌≡◌, ◌≤◌, ◌++◌, ⊤, ◌<◌, length, take};
 ghost use Rattle.kms_names.specs.Moment.{year_10000};
-ghost use Rattle.kms_session.specs.Session.{SendsWhole, SendsShort};
 ghost use Rattle.kms_session.specs.Replying.{SendsReply, SendsReplyShort};
 
 use http_front::write_head;
-use kms_io::{Link, Put};
+use kms_io::Link;
+use session_front::send;
 
 // How many bytes a reply has at most that is written at once.
 const ROOM: usize = 8192;
-
-/// Writes all of it, or answers false where the link failed.
-pub fn send<L: Link>(link: &mut L, text: &[u8]) -> bool
-    ensures { MatchBool result (SendsWhole (L.shows link.old) (L.shows link.new) text.now)
-        (SendsShort (L.shows link.old) (L.shows link.new) text.now) }
-{
-    let mut at = 0;
-    while at < text.len() {
-        match link.write_some(&text[at..]) {
-            Put::Wrote(count) => at += count,
-            Put::Failed => return false,
-        }
-    }
-    true
-}
 
 // Puts both texts at the front of the room, where they fit, and answers how many bytes they have.
 fn join(room: &mut [u8], first: &[u8], second: &[u8]) -> Option<usize>

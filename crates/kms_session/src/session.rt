@@ -1,59 +1,35 @@
 // One connection, from its first byte to its end.
-ghost use Rattle.std.specs.Prelude.{◌≡◌, ◌+◌, ◌<◌, ◌==◌, ◌||◌, ℕ, List, Ok, MatchBool, IfOk, OnErr, true, false, codes};
+ghost use Rattle.std.specs.Prelude.{◌≡◌, ◌+◌, ◌<◌, MatchBool, IfOk, OnErr, true, false};
 ghost use Rattle.kms_names.specs.Moment.{year_10000};
-ghost use Rattle.kms_json.specs.Asks.{asked, changes_account, refusal_of};
-ghost use Rattle.kms_json.specs.declared.refusals.Refusal.TheVariants.{Validation};
+ghost use Rattle.kms_json.specs.Asks.{changes_account};
 ghost use Rattle.kms_json.specs.declared.replies.Reply.TheVariants.{Refused};
 ghost use Rattle.account_core.specs.Decide.{IsProper};
-ghost use Rattle.kms_names.specs.Principal.{account_of};
 ghost use Rattle.published_account.specs.Answers.{answer_of};
 ghost use Rattle.kms_session.specs.Answers.{fault_answer};
-ghost use Rattle.kms_session.specs.Run.{whole, asks, answered, plan_of, planned, Wanting};
-ghost use Rattle.kms_session.specs.Asked.{asked_in, after_in};
-ghost use Rattle.kms_session.specs.Callers.{IsOfAccount};
+ghost use Rattle.session_front.specs.Items.{whole};
+ghost use Rattle.kms_session.specs.Run.{asks, answered, plan_of, Wanting};
+ghost use Rattle.session_front.specs.Callers.{IsOfAccount};
 ghost use Rattle.http_front.specs.Message.{Message, CutsOff};
 ghost use Rattle.kms_session.specs.Replying.{Gives};
-ghost use Rattle.kms_session.specs.Session.{Outside, outside, Responds, RespondsShort, Serves, EndsBy, GoesOn};
+ghost use Rattle.session_front.specs.Session.{outside};
+ghost use Rattle.kms_session.specs.Session.{Outside, Responds, RespondsShort, Serves, EndsBy, GoesOn};
 ghost use Rattle.kms_session.specs.Complete.{TellsTaken, IsOneEnd, IsComplete};
 
-use crate::asked::{After, after_of, asked_of};
-use crate::callers::{caller_in, refusal_by};
-use crate::inbox::Inbox;
-use crate::outbox::{send, send_reply};
-use crate::trust::Trust;
-use crate::waiting::{Awaited, await_message};
+use crate::outbox::send_reply;
 use http_front::{Cut, HttpFault};
 use kms_io::{Clock, Gate, Link, Point};
-use kms_json::{Ask, AskBody, JsonFault, Refusal, Reply};
-use kms_names::{NoMemory, Principal, Text};
+use kms_json::{Ask, Refusal, Reply};
+use kms_names::NoMemory;
 use publish_pass::{Answered, Pass, Realm, Service, Unread, answer_with};
-use sigv4_check::KeptKey;
+use session_front::{
+    Awaited, Early, Inbox, KeptKey, MESSAGES, SessionEnd, Trust, await_message, closes_after,
+    early, send,
+};
 use std::alloc::Global;
 use std::sync::Wait;
 
-/// How many messages a session answers at most.
-pub const MESSAGES: u64 = 100_000;
-
 const FIVE_HUNDRED: &[u8] =
     b"HTTP/1.1 500 Internal Server Error\r\nContent-Type: application/x-amz-json-1.1\r\nContent-Length: 61\r\n\r\n{\"__type\":\"KMSInternalException\",\"message\":\"Want of memory.\"}";
-
-/// How a session ends.
-#[derive(Clone, Copy)]
-pub enum SessionEnd {
-    /// The input ended between two messages.
-    Ended,
-    /// A reply that closes was written whole: to a message that closes, to bytes that are refused, or to
-    /// message 100,000.
-    Closed,
-    /// The input ended inside a message, for which nothing was written.
-    CutOff,
-    /// A read failed.
-    ReadFault,
-    /// A write failed. The replies before are written whole, and a front of the last one.
-    WriteFault,
-    /// There was no memory for the buffer, and nothing was taken.
-    NoMemory,
-}
 
 // What a session is served with.
 #[derive(Drop)]
@@ -71,18 +47,6 @@ fn region_of<'a, R: Realm>(service: &'a Service<R>, pass: &Pass<R>) -> &'a str
 {
     let _seen = pass.seen();
     service.region()
-}
-
-fn refusal_in(fault: JsonFault) -> Option<Refusal>
-    ensures { result ≡ refusal_of fault }
-{
-    match fault {
-        JsonFault::UnknownOperation => Some(Refusal::UnknownOperation),
-        JsonFault::Serialization => Some(Refusal::Serialization),
-        JsonFault::Validation(field) => Some(Refusal::Validation(field)),
-        JsonFault::AliasName => Some(Refusal::InvalidAliasName),
-        JsonFault::NoMemory => None,
-    }
 }
 
 fn fault_body(fault: HttpFault) -> &'static [u8]
@@ -165,67 +129,6 @@ fn answer_refusal<R: Realm>(
     answer_with(alloc, pass.seen(), Reply::Refused(refusal))
 }
 
-// Answers a message whose header x-kms-after is malformed.
-fn answer_malformed<R: Realm>(alloc: Global, pass: &Pass<R>) -> Result<Answered, NoMemory>
-    ensures { IfOk result (λ a. Gives pass.now (answered (answer_of (Refused (Validation (codes "x-kms-after"))))) a pass.now) }
-{
-    let field = Text::from_str(alloc, "x-kms-after")?;
-    answer_refusal(alloc, pass, Refusal::Validation(field))
-}
-
-// Answers a message by which this caller asks this.
-fn answer_body<W: Wait, R: Realm, G: Gate>(
-    host: &Facilities<'_, W, R, G>,
-    pass: &mut Pass<R>,
-    caller: Principal,
-    body: AskBody,
-    after: After,
-    now: u64,
-) -> Result<Answered, NoMemory>
-    requires now { now < year_10000 }
-    requires caller { account_of caller ≡ pass.old.facts.account }
-    requires asked { (target : List ℕ) × (text : List ℕ) × (asked target text ≡ Ok body) }
-    ensures answer { IfOk result (λ a. Gives pass.old (planned caller now (Ok body) after) a pass.new) }
-    ensures wants { OnErr result (Wanting pass.old (planned caller now (Ok body) after) pass.new) }
-{
-    match after {
-        After::Entries(after) => {
-            let ask = Ask {
-                body,
-                caller,
-                moment: now,
-                after,
-            };
-            answer_ask(host, pass, &ask)
-        }
-        After::Malformed => answer_malformed(host.alloc, pass),
-    }
-}
-
-// Answers a message of this caller.
-fn answer_caller<W: Wait, R: Realm, G: Gate>(
-    host: &Facilities<'_, W, R, G>,
-    pass: &mut Pass<R>,
-    caller: Principal,
-    cut: &Cut,
-    buffer: &[u8],
-    now: u64,
-) -> Result<Answered, NoMemory>
-    requires now { now < year_10000 }
-    requires caller { account_of caller ≡ pass.old.facts.account }
-    requires message { (m : Message) × CutsOff buffer.now cut.now m }
-    ensures answer { (m : Message) → CutsOff buffer.now cut.now m → IfOk result (λ a. Gives pass.old (planned caller now (asked_in m) (after_in m)) a pass.new) }
-    ensures wants { (m : Message) → CutsOff buffer.now cut.now m → OnErr result (Wanting pass.old (planned caller now (asked_in m) (after_in m)) pass.new) }
-{
-    match asked_of(host.alloc, cut, buffer) {
-        Ok(body) => answer_body(host, pass, caller, body, after_of(cut, buffer), now),
-        Err(fault) => match refusal_in(fault) {
-            Some(refusal) => answer_refusal(host.alloc, pass, refusal),
-            None => Err(NoMemory),
-        },
-    }
-}
-
 // Answers a message.
 fn answer_message<W: Wait, R: Realm, G: Gate>(
     host: &Facilities<'_, W, R, G>,
@@ -242,12 +145,10 @@ fn answer_message<W: Wait, R: Realm, G: Gate>(
     ensures wants { (m : Message) → CutsOff buffer.now cut.now m → OnErr result (Wanting pass.old (plan_of host.now.trust.now pass.old.facts.region (whole m) now) pass.new) }
 {
     let region = region_of(host.service, pass);
-    match caller_in(host.alloc, kept, host.trust, region, cut, buffer, now) {
-        Ok(caller) => answer_caller(host, pass, caller, cut, buffer, now),
-        Err(fault) => match refusal_by(fault) {
-            Some(refusal) => answer_refusal(host.alloc, pass, refusal),
-            None => Err(NoMemory),
-        },
+    match early(host.alloc, kept, cut, buffer, host.trust, region, now) {
+        Ok(ask) => answer_ask(host, pass, &ask),
+        Err(Early::Fault(refusal)) => answer_refusal(host.alloc, pass, refusal),
+        Err(Early::NoMemory) => Err(NoMemory),
     }
 }
 
@@ -295,14 +196,6 @@ fn respond_fault<R: Realm, L: Link>(
         pass.seen(),
         true,
     )
-}
-
-// Whether the session closes after the reply to the message of this number, counted from 0.
-fn closes_after(cut: &Cut, number: u64) -> bool
-    requires { number < 100000 }
-    ensures { result ≡ (cut.now.closes || (number + 1 == 100000)) }
-{
-    cut.closes() || number + 1 == MESSAGES
 }
 
 // Awaits one message and answers it.

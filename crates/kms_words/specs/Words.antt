@@ -7,6 +7,8 @@ use Rattle.clap.specs.Words.{App, Rule, Row, Text, Kinds, new_app, new_rule, wit
 use Rattle.kms_names.specs.Reading.{after_front}
 use Rattle.kms_words.specs.declared.asked.RunWords.{RunWords}
 use Rattle.kms_words.specs.declared.asked.ServeWords.{ServeWords}
+use Rattle.kms_words.specs.declared.asked.SessionWords.{SessionWords}
+use Rattle.kms_words.specs.declared.asked.SessionWords.TheVariants as session
 use Rattle.kms_words.specs.declared.asked.Asked.{Asked}
 use Rattle.kms_words.specs.declared.asked.Asked.TheVariants as asked
 use Rattle.kms_words.specs.Numbers.{number_within, number_or}
@@ -25,9 +27,15 @@ abbrev pub with_values : App → List Text → App
 with_values app [] = app
 with_values app (name ∷ names) = with_values (with_value app name) names
 
--- `run` with its options
+-- a command that is about one session, with the options of its settings
+abbrev pub session_line : Text → App
+session_line name = with_values (new_app name) (codes "account" ∷ codes "region" ∷ codes "root" ∷ codes "boot" ∷ codes "as" ∷ codes "config" ∷ [])
+
 abbrev pub run_line : App
-run_line = with_values (new_app (codes "run")) (codes "account" ∷ codes "region" ∷ codes "root" ∷ codes "boot" ∷ codes "as" ∷ codes "config" ∷ [])
+run_line = session_line (codes "run")
+
+abbrev pub explain_line : App
+explain_line = session_line (codes "explain")
 
 -- `check` with its option
 abbrev pub check_line : App
@@ -46,7 +54,7 @@ abbrev pub bare_line : App
 bare_line = let app = new_app (codes "kms_local") in record app { top = record app.top { no_binary_name = true; subcommand_required = true } }
 
 abbrev pub whole_line : App
-whole_line = with_subcommand (with_subcommand (with_subcommand (with_subcommand bare_line run_line.top) check_line.top) serve_line.top) load_line.top
+whole_line = with_subcommand (with_subcommand (with_subcommand (with_subcommand (with_subcommand bare_line run_line.top) check_line.top) serve_line.top) load_line.top) explain_line.top
 
 -- ---- words that no command has
 
@@ -64,7 +72,7 @@ is_stray word = bytes_eq word [] || (bytes_eq word (codes "-") || (bytes_eq word
 
 -- ---- what the words ask
 
--- the values of the first form of `run`
+-- the values of a session's settings
 pub record RunValues : Type 0 where
   pub account : List ℕ
   pub region : List ℕ
@@ -79,33 +87,44 @@ pub record ServeValues : Type 0 where
   pub workers : ℕ
   pub connections : ℕ
 
--- `run` with values, `run` with a file and perhaps a caller, `check` with a file, `serve` with its values, or `load` with a seed and a
--- number of requests
+-- where the settings of a session come from: values, or a file and perhaps a caller
+pub data Source : Type 0 where
+  of_values : RunValues → Source
+  of_file : List ℕ → Option (List ℕ) → Source
+
+-- `run` or `explain` with the settings of a session, `check` with a file, `serve` with its values, or `load` with a seed and a number of
+-- requests
 pub data Command : Type 0 where
-  run : RunValues → Command
-  run_file : List ℕ → Option (List ℕ) → Command
+  run : Source → Command
+  explain : Source → Command
   check : List ℕ → Command
   serve : ServeValues → Command
   load : ℕ → ℕ → Command
 
 -- account, region, root secret and caller are all given
-abbrev pub values_of : Option Text → Option Text → Option Text → Option Text → Option Text → Option Command
+abbrev pub values_of : Option Text → Option Text → Option Text → Option Text → Option Text → Option Source
 values_of None region root boot caller = None
 values_of (Some account) None root boot caller = None
 values_of (Some account) (Some region) None boot caller = None
 values_of (Some account) (Some region) (Some root) boot None = None
 values_of (Some account) (Some region) (Some root) boot (Some caller) =
-    Some (run (record { account = account; region = region; root = root; boot = boot; caller = caller }))
+    Some (of_values (record { account = account; region = region; root = root; boot = boot; caller = caller }))
 
--- one of the two forms of `run`: with a file none of the values but the caller is given
-abbrev pub form_of : Option Text → Option Text → Option Text → Option Text → Option Text → Option Text → Option Command
+-- one of the two forms of a session's settings: with a file none of the values but the caller is given
+abbrev pub form_of : Option Text → Option Text → Option Text → Option Text → Option Text → Option Text → Option Source
 form_of None account region root boot caller = values_of account region root boot caller
 form_of (Some file) account region root boot caller =
-    if is_some account || (is_some region || (is_some root || is_some boot)) then None else Some (run_file file caller)
+    if is_some account || (is_some region || (is_some root || is_some boot)) then None else Some (of_file file caller)
+
+abbrev pub source_of : List Row → Option Source
+source_of rows =
+    form_of (first_of (codes "config") rows) (first_of (codes "account") rows) (first_of (codes "region") rows) (first_of (codes "root") rows) (first_of (codes "boot") rows) (first_of (codes "as") rows)
 
 abbrev pub run_of : List Row → Option Command
-run_of rows =
-    form_of (first_of (codes "config") rows) (first_of (codes "account") rows) (first_of (codes "region") rows) (first_of (codes "root") rows) (first_of (codes "boot") rows) (first_of (codes "as") rows)
+run_of rows = option_map run (source_of rows)
+
+abbrev pub explain_of : List Row → Option Command
+explain_of rows = option_map explain (source_of rows)
 
 abbrev pub check_of : List Row → Option Command
 check_of rows = option_map check (first_of (codes "config") rows)
@@ -139,9 +158,10 @@ abbrev pub named_command : Option (Text × List Row) → Option Command
 named_command None = None
 named_command (Some (name, rows)) =
     if bytes_eq name (codes "run") then run_of rows
+    else (if bytes_eq name (codes "explain") then explain_of rows
     else (if bytes_eq name (codes "check") then check_of rows
     else (if bytes_eq name (codes "serve") then serve_of rows
-    else load_of rows))
+    else load_of rows)))
 
 abbrev pub unless_refused : Kinds → Option (Text × List Row) → Option Command
 unless_refused [] named = named_command named
@@ -165,9 +185,13 @@ values_in words = record {
 abbrev pub serve_values_in : ServeWords → ServeValues
 serve_values_in words = record { file = words.file.now; address = words.address.now; workers = words.workers; connections = words.connections }
 
+abbrev pub source_in : SessionWords → Source
+source_in (session.Values words) = of_values (values_in words)
+source_in (session.File file caller) = of_file file.now (option_map (λ caller. caller.now) caller)
+
 abbrev pub shown : Asked → Command
-shown (asked.Run words) = run (values_in words)
-shown (asked.RunFile file caller) = run_file file.now (option_map (λ caller. caller.now) caller)
+shown (asked.Run words) = run (source_in words)
+shown (asked.Explain words) = explain (source_in words)
 shown (asked.Check file) = check file.now
 shown (asked.Serve words) = serve (serve_values_in words)
 shown (asked.Load words) = load words.seed words.requests

@@ -1,7 +1,7 @@
 // What the words of the command line ask.
 ghost use Rattle.std.specs.Prelude.{◌<◌, ◌≤◌};
 
-/// What the words of `run` name.
+/// The values of a session's settings, as the words give them.
 #[derive(Clone, Copy)]
 pub struct RunWords<'a> {
     /// The value of `--account`.
@@ -14,6 +14,15 @@ pub struct RunWords<'a> {
     pub boot: Option<&'a str>,
     /// The value of `--as`.
     pub caller: &'a str,
+}
+
+/// Where the settings of a session come from.
+#[derive(Clone, Copy)]
+pub enum SessionWords<'a> {
+    /// The values of the options.
+    Values(RunWords<'a>),
+    /// The values of `--config` and of `--as`, where that is given.
+    File(&'a str, Option<&'a str>),
 }
 
 /// What the words of `serve` name.
@@ -48,10 +57,10 @@ pub struct LoadWords {
 /// What the words ask.
 #[derive(Clone, Copy)]
 pub enum Asked<'a> {
-    /// `run` with the values of its options.
-    Run(RunWords<'a>),
-    /// `run` with the values of `--config` and of `--as`, where that is given.
-    RunFile(&'a str, Option<&'a str>),
+    /// `run` with its settings.
+    Run(SessionWords<'a>),
+    /// `explain` with the settings of the session that it explains.
+    Explain(SessionWords<'a>),
     /// `check` with the value of `--config`.
     Check(&'a str),
     /// `serve` with the values of its options.

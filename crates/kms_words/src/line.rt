@@ -2,7 +2,7 @@
 ghost use Rattle.std.specs.Prelude.{◌≡◌, ◌≢◌, [], Err, IfOk, false, map, string_bytes};
 ghost use Rattle.clap.specs.Words.{app_of, rule_of, fault_of, with_subcommand, subcommand_rows_of, subcommand_of};
 ghost use Rattle.clap.specs.declared.builder.command.Command.TheViews.{out-Command};
-ghost use Rattle.kms_words.specs.Words.{value_option, with_value, with_values, run_line, check_line, serve_line, load_line, bare_line, whole_line};
+ghost use Rattle.kms_words.specs.Words.{value_option, with_value, with_values, session_line, run_line, explain_line, check_line, serve_line, load_line, bare_line, whole_line};
 ghost use Rattle.kms_words.specs.declared.line.LineFault.TheVariants.{Refused, NoMemory};
 
 use clap::error::ErrorKind;
@@ -62,12 +62,13 @@ fn with_values<'a>(
     Ok(command)
 }
 
-fn run_command<'a>(alloc: Global) -> Result<Command<'a>, AllocError>
-    ensures app { IfOk result (λ c. app_of c ≡ run_line) }
+// A command that is about one session, with the options of its settings.
+fn session_command<'a>(alloc: Global, name: &'a str) -> Result<Command<'a>, AllocError>
+    ensures app { IfOk result (λ c. app_of c ≡ session_line name.entry.now) }
     ensures local { IfOk result (λ c. (out-Command c).has_globals ≡ false) }
 {
     let names = ["account", "region", "root", "boot", "as", "config"];
-    with_values(alloc, Command::new(alloc, "run"), &names)
+    with_values(alloc, Command::new(alloc, name), &names)
 }
 
 fn check_command<'a>(alloc: Global) -> Result<Command<'a>, AllocError>
@@ -112,7 +113,13 @@ fn with_command<'a>(program: Command<'a>, command: Command<'a>) -> Result<Comman
 fn with_run<'a>(alloc: Global, program: Command<'a>) -> Result<Command<'a>, AllocError>
     ensures { IfOk result (λ c. app_of c ≡ with_subcommand (app_of program.entry) run_line.top) }
 {
-    with_command(program, run_command(alloc)?)
+    with_command(program, session_command(alloc, "run")?)
+}
+
+fn with_explain<'a>(alloc: Global, program: Command<'a>) -> Result<Command<'a>, AllocError>
+    ensures { IfOk result (λ c. app_of c ≡ with_subcommand (app_of program.entry) explain_line.top) }
+{
+    with_command(program, session_command(alloc, "explain")?)
 }
 
 fn with_check<'a>(alloc: Global, program: Command<'a>) -> Result<Command<'a>, AllocError>
@@ -139,7 +146,8 @@ fn whole_command<'a>(alloc: Global) -> Result<Command<'a>, AllocError>
     let one = with_run(alloc, bare_command(alloc))?;
     let two = with_check(alloc, one)?;
     let three = with_serve(alloc, two)?;
-    with_load(alloc, three)
+    let four = with_load(alloc, three)?;
+    with_explain(alloc, four)
 }
 
 /// The matches of the words, if they are a command.

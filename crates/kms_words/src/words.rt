@@ -3,9 +3,9 @@ ghost use Rattle.std.specs.Prelude.{◌≡◌, ◌≢◌, ◌≤◌, ◌||◌, [
 ghost use Rattle.std.specs.List.{list_any};
 ghost use Rattle.clap.specs.Words.{first_of, rows_of, found_of, subcommand_rows_of};
 ghost use Rattle.kms_words.specs.Numbers.{number_within};
-ghost use Rattle.kms_words.specs.Words.{ends_in_equals, is_valueless, is_stray, values_of, form_of, run_of, check_of, served_by, serve_of, loaded_by, load_of, named_command, command_of, shown};
+ghost use Rattle.kms_words.specs.Words.{ends_in_equals, is_valueless, is_stray, values_of, form_of, source_of, run_of, explain_of, check_of, served_by, serve_of, loaded_by, load_of, named_command, command_of, source_in, shown};
 
-use crate::asked::{Asked, LoadWords, RunWords, ServeWords};
+use crate::asked::{Asked, LoadWords, RunWords, ServeWords, SessionWords};
 use crate::line::{LineFault, read_line};
 use crate::numbers::{number_or, number_within};
 use clap::ArgMatches;
@@ -45,17 +45,17 @@ fn has_stray(words: &[String]) -> bool
     words.iter().any(|word| is_stray(word.as_bytes()))
 }
 
-// `run` with the values of its options, if all that it needs are given.
+// A session by the values of its options, if all that it needs are given.
 fn values_of<'a>(
     account: Option<&'a str>,
     region: Option<&'a str>,
     root: Option<&'a str>,
     boot: Option<&'a str>,
     caller: Option<&'a str>,
-) -> Option<Asked<'a>>
-    ensures { option_map shown result ≡ values_of (option_map (λ s. s.now) account.entry) (option_map (λ s. s.now) region.entry) (option_map (λ s. s.now) root.entry) (option_map (λ s. s.now) boot.entry) (option_map (λ s. s.now) caller.entry) }
+) -> Option<SessionWords<'a>>
+    ensures { option_map source_in result ≡ values_of (option_map (λ s. s.now) account.entry) (option_map (λ s. s.now) region.entry) (option_map (λ s. s.now) root.entry) (option_map (λ s. s.now) boot.entry) (option_map (λ s. s.now) caller.entry) }
 {
-    Some(Asked::Run(RunWords {
+    Some(SessionWords::Values(RunWords {
         account: account?,
         region: region?,
         root: root?,
@@ -64,7 +64,7 @@ fn values_of<'a>(
     }))
 }
 
-// One of the two forms of `run`, by the values of its options.
+// One of the two forms of a session's settings, by the values of its options.
 fn form_of<'a>(
     config: Option<&'a str>,
     account: Option<&'a str>,
@@ -72,8 +72,8 @@ fn form_of<'a>(
     root: Option<&'a str>,
     boot: Option<&'a str>,
     caller: Option<&'a str>,
-) -> Option<Asked<'a>>
-    ensures { option_map shown result ≡ form_of (option_map (λ s. s.now) config.entry) (option_map (λ s. s.now) account.entry) (option_map (λ s. s.now) region.entry) (option_map (λ s. s.now) root.entry) (option_map (λ s. s.now) boot.entry) (option_map (λ s. s.now) caller.entry) }
+) -> Option<SessionWords<'a>>
+    ensures { option_map source_in result ≡ form_of (option_map (λ s. s.now) config.entry) (option_map (λ s. s.now) account.entry) (option_map (λ s. s.now) region.entry) (option_map (λ s. s.now) root.entry) (option_map (λ s. s.now) boot.entry) (option_map (λ s. s.now) caller.entry) }
 {
     let Some(file) = config else {
         return values_of(account, region, root, boot, caller);
@@ -81,7 +81,7 @@ fn form_of<'a>(
     if account.is_some() || region.is_some() || root.is_some() || boot.is_some() {
         return None;
     }
-    Some(Asked::RunFile(file, caller))
+    Some(SessionWords::File(file, caller))
 }
 
 // The value of an option.
@@ -91,8 +91,9 @@ fn value_in<'a>(matches: &ArgMatches<'a>, name: &str) -> Option<&'a str>
     matches.get_str(name)
 }
 
-fn run_in<'a>(matches: &ArgMatches<'a>) -> Option<Asked<'a>>
-    ensures { option_map shown result ≡ run_of (rows_of (found_of matches.now)) }
+// The settings of a session.
+fn session_in<'a>(matches: &ArgMatches<'a>) -> Option<SessionWords<'a>>
+    ensures { option_map source_in result ≡ source_of (rows_of (found_of matches.now)) }
 {
     form_of(
         value_in(matches, "config"),
@@ -102,6 +103,20 @@ fn run_in<'a>(matches: &ArgMatches<'a>) -> Option<Asked<'a>>
         value_in(matches, "boot"),
         value_in(matches, "as"),
     )
+}
+
+fn run_in<'a>(matches: &ArgMatches<'a>) -> Option<Asked<'a>>
+    ensures { option_map shown result ≡ run_of (rows_of (found_of matches.now)) }
+{
+    let words = session_in(matches)?;
+    Some(Asked::Run(words))
+}
+
+fn explain_in<'a>(matches: &ArgMatches<'a>) -> Option<Asked<'a>>
+    ensures { option_map shown result ≡ explain_of (rows_of (found_of matches.now)) }
+{
+    let words = session_in(matches)?;
+    Some(Asked::Explain(words))
 }
 
 fn check_in<'a>(matches: &ArgMatches<'a>) -> Option<Asked<'a>>
@@ -182,6 +197,7 @@ fn asked_in<'a>(matches: &ArgMatches<'a>) -> Option<Asked<'a>>
     let (name, inner) = matches.subcommand()?;
     match name {
         "run" => run_in(inner),
+        "explain" => explain_in(inner),
         "check" => check_in(inner),
         "serve" => serve_in(inner),
         _ => load_in(inner),
@@ -189,11 +205,11 @@ fn asked_in<'a>(matches: &ArgMatches<'a>) -> Option<Asked<'a>>
 }
 
 /// What the words ask, if they are a command: `run` with `--account`, `--region`, `--root` and `--as`, and
-/// perhaps `--boot`; `run` with `--config` and perhaps `--as`; `check` with `--config`; `serve` with
-/// `--config` and `--listen`, and perhaps `--workers` (1 to 64, else 4) and `--connections` (1 to
-/// 1,000,000,000, else as many); `load` with `--seed` (0 to 2^64 - 1) and `--requests` (1 to 100,000). A
-/// number has 1 to 20 decimal digits. An option is written `--name value` or `--name=value`, at most once
-/// and in any order.
+/// perhaps `--boot`; `run` with `--config` and perhaps `--as`; `explain` with the options of one of these
+/// two; `check` with `--config`; `serve` with `--config` and `--listen`, and perhaps `--workers` (1 to 64,
+/// else 4) and `--connections` (1 to 1,000,000,000, else as many); `load` with `--seed` (0 to 2^64 - 1) and
+/// `--requests` (1 to 100,000). A number has 1 to 20 decimal digits. An option is written `--name value` or
+/// `--name=value`, at most once and in any order.
 pub fn read_words<'a>(alloc: Global, words: &'a [String]) -> Result<Option<Asked<'a>>, NoMemory>
     ensures { IfOk result (λ asked. option_map shown asked ≡ command_of (map string_bytes words.entry.now)) }
 {

@@ -5,11 +5,14 @@ use Rattle.std.proofs.lemmas.Bool.{lt-ltb}
 use Rattle.kms_io.specs.Wire.{Wire}
 use Rattle.kms_io.specs.Clock.{told_so_far, first_of}
 use Rattle.publish_pass.specs.Pass.{Pass, fresh_pass, first_places}
-use Rattle.kms_session.specs.declared.trust.Trust.{Trust}
-use Rattle.kms_session.specs.declared.session.SessionEnd.{SessionEnd}
-use Rattle.kms_session.specs.declared.session.SessionEnd.TheVariants.{Ended, Closed, CutOff, ReadFault, WriteFault, NoMemory}
-use Rattle.kms_session.specs.Run.{Item, Plan, Replies, answers, wants_memory, SessionRun, begins, goes_on}
-use Rattle.kms_session.specs.Session.{Outside, outside, Serves, EndsBy}
+use Rattle.session_front.specs.declared.trust.Trust.{Trust}
+use Rattle.session_front.specs.declared.ends.SessionEnd.{SessionEnd}
+use Rattle.session_front.specs.declared.ends.SessionEnd.TheVariants.{Ended, Closed, CutOff, ReadFault, WriteFault, NoMemory}
+use Rattle.session_front.specs.Items.{Item}
+use Rattle.session_front.specs.Runs.{begins, goes_on}
+use Rattle.kms_session.specs.Run.{Plan, Replies, answers, wants_memory, SessionRun}
+use Rattle.session_front.specs.Session.{outside}
+use Rattle.kms_session.specs.Session.{Outside, Serves, EndsBy}
 use Rattle.kms_workload.specs.Facts.{load_facts, load_trust}
 use Rattle.kms_workload.specs.Seconds.{second_of, seconds_of}
 use Rattle.kms_workload.specs.Workload.{workload_of}
@@ -32,10 +35,10 @@ reply_of {t = t} {c = c} {closes = closes} (answers answer is text) = (answer.st
 reply_of (wants_memory is text) = (500, wants text refl)
 
 -- a run has a reply for each item
-run_statuses : {start : Pass} {trust : Trust} {pass : Pass} {items : List Item} {clocks text : List ℕ} → SessionRun start trust pass items clocks text → Statuses text (length items)
-run_statuses begins = record { statuses = []; are = no_reply; number = refl }
-run_statuses (goes_on {items = items} {reply = reply} item c early run turn) =
-    let so_far = run_statuses run in
+run_statuses : (trust : Trust) {start pass : Pass} {items : List Item} {clocks text : List ℕ} → SessionRun start trust pass items clocks text → Statuses text (length items)
+run_statuses trust begins = record { statuses = []; are = no_reply; number = refl }
+run_statuses trust (goes_on {items = items} {reply = reply} item c early run turn) =
+    let so_far = run_statuses trust run in
     let last = reply_of turn in
     record {
       statuses = so_far.statuses ++ last.0 ∷ [];
@@ -64,7 +67,7 @@ of_serves seed requests pass made new later text left closes count rest s ends w
     let out : s.text ≡ text = cc (s.written, wrote) in
     let all : workload_of seed requests ≡ s.input ++ left = cc (s.left, stays) in
     let clocks : s.clocks ≡ seconds_of requests = cc (rw tells at s.told) in
-    let told = run_statuses s.run in
+    let told = run_statuses load_trust s.run in
     let are = subst (λ (t : List ℕ). AreReplies t told.statuses) out told.are in
     let number = counts told.statuses are in
     record {

@@ -3,8 +3,8 @@ use Rattle.std.specs.Prelude.{ℕ, List, [], codes, replicate}
 use Rattle.kms_names.specs.declared.principals.Principal.TheVariants.{Root}
 use Rattle.account_steps.specs.declared.facts.RealmFacts.{RealmFacts}
 use Rattle.account_steps.specs.Ids.{key_id_at}
-use Rattle.kms_session.specs.declared.trust.Trust.{Trust}
-use Rattle.kms_session.specs.declared.trust.Trust.TheVariants.{Word}
+use Rattle.session_front.specs.declared.trust.Trust.{Trust}
+use Rattle.session_front.specs.declared.trust.Trust.TheVariants.{Word}
 
 abbrev pub account_number : List ℕ
 account_number = codes "111122223333"

@@ -3,10 +3,11 @@ use Rattle.std.specs.Prelude.{◌≡◌, ℕ, List, [], Option, Some, length, Bo
 use Rattle.kms_io.specs.Wire.{Wire}
 use Rattle.account_steps.specs.declared.facts.RealmFacts.{RealmFacts}
 use Rattle.publish_pass.specs.Pass.{Pass, fresh_pass, first_places}
-use Rattle.kms_session.specs.declared.trust.Trust.{Trust}
-use Rattle.kms_session.specs.declared.session.SessionEnd.{SessionEnd}
-use Rattle.kms_session.specs.declared.session.SessionEnd.TheVariants.{Ended, Closed, CutOff, ReadFault, WriteFault, NoMemory}
-use Rattle.kms_session.specs.Session.{outside, EndsBy}
+use Rattle.session_front.specs.declared.trust.Trust.{Trust}
+use Rattle.session_front.specs.declared.ends.SessionEnd.{SessionEnd}
+use Rattle.session_front.specs.declared.ends.SessionEnd.TheVariants.{Ended, Closed, CutOff, ReadFault, WriteFault, NoMemory}
+use Rattle.session_front.specs.Session.{outside}
+use Rattle.kms_session.specs.Session.{EndsBy}
 use Rattle.kms_workload.specs.declared.serve.Past.{Past}
 
 -- one session is served from an empty history by the one pass of a service, and ends so, with so many entries, all its own

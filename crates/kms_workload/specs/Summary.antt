@@ -3,7 +3,8 @@ use Rattle.std.specs.Prelude.{◌≡◌, ℕ, ◌-◌, List, [], ◌++◌, lengt
 use Rattle.hex.specs.Hex.{encode_lower}
 use Rattle.sha2.specs.Sha256.{sha256}
 use Rattle.publish_pass.specs.Pass.{Pass, fresh_pass, first_places}
-use Rattle.kms_session.specs.Run.{Item, Cuts, SessionRun}
+use Rattle.session_front.specs.Items.{Item, Cuts}
+use Rattle.kms_session.specs.Run.{SessionRun}
 use Rattle.kms_workload.specs.Facts.{load_facts, load_trust}
 use Rattle.kms_workload.specs.Seconds.{seconds_of}
 use Rattle.kms_workload.specs.Workload.{workload_of}

@@ -2,7 +2,7 @@
 ghost use Rattle.std.specs.Prelude.{◌≡◌, IfOk};
 ghost use Rattle.kms_io.specs.MemoryLink.{wire_of};
 ghost use Rattle.published_account.specs.Rules.{Names};
-ghost use Rattle.kms_session.specs.Callers.{IsOfAccount};
+ghost use Rattle.session_front.specs.Callers.{IsOfAccount};
 ghost use Rattle.kms_workload.specs.Facts.{load_facts, load_trust};
 ghost use Rattle.kms_workload.specs.Clock.{seconds_so_far};
 ghost use Rattle.kms_workload.specs.Session.{Serving};

@@ -1,6 +1,6 @@
 // The account that is served, and who may ask.
 ghost use Rattle.std.specs.Prelude.{◌≡◌, IfOk, vec_len};
-ghost use Rattle.kms_session.specs.Callers.{IsOfAccount};
+ghost use Rattle.session_front.specs.Callers.{IsOfAccount};
 
 use account_steps::RealmFacts;
 use authority::{IdentityList, PolicyList};

@@ -8,8 +8,10 @@ use Rattle.published_account.specs.Answers.{Answer}
 use Rattle.published_account.specs.Pairs.{entries_of}
 use Rattle.publish_pass.specs.Pass.{Pass, making_any, keeping_house}
 use Rattle.published_account.proofs.Lists.{prefix_self, prefix_push, prefix_trans}
-use Rattle.kms_session.specs.declared.trust.Trust.{Trust}
-use Rattle.kms_session.specs.Run.{Item, Plan, Answers, early, reads, changes, Wanting, wants_nothing, wants_read, wants_change, Replies, answers, wants_memory, SessionRun, begins, goes_on}
+use Rattle.session_front.specs.declared.trust.Trust.{Trust}
+use Rattle.session_front.specs.Items.{Item}
+use Rattle.session_front.specs.Runs.{begins, goes_on}
+use Rattle.kms_session.specs.Run.{Plan, Answers, early, reads, changes, Wanting, wants_nothing, wants_read, wants_change, Replies, answers, wants_memory, SessionRun}
 use Rattle.session_laws.specs.Laws.{TurnsGoOn, RunsGoOn}
 
 abbrev On : Pass → Pass → Type 0

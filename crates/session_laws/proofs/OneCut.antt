@@ -4,8 +4,8 @@ use Rattle.httparse.specs.Grammar.{NeverHasRequest}
 use Rattle.http_front.specs.declared.judge.HttpFault.{HttpFault}
 use Rattle.http_front.specs.Message.{Message, IsRefused}
 use Rattle.http_front.proofs.Answering.{same_message, one_answer_lem}
-use Rattle.kms_session.specs.Run.{Item, whole, fault, Cuts, nothing, message, no_message}
-use Rattle.kms_session.proofs.Cutting.{not_both, one_cut_open}
+use Rattle.session_front.specs.Items.{Item, whole, fault, Cuts, nothing, message, no_message}
+use Rattle.session_front.proofs.Cutting.{not_both, one_cut_open}
 use Rattle.session_laws.specs.Laws.{AreAlike, same_items, two_names}
 
 names : (rest : List ℕ) (front items : List Item) (why other : HttpFault) → items ≡ front → (why ≡ other) ⊎ NeverHasRequest rest → AreAlike rest (items ++ fault why ∷ []) (front ++ fault other ∷ [])

@@ -1,35 +1,28 @@
 -- What sessions and workers do is calls of their passes; so what holds of calls holds of a run.
-use Rattle.std.proofs.Common.{◌≡◌, ◌<◌, ℕ, List, [], ◌∷◌, ◌++◌, Bool, map, All, Result, Ok, Err, refl, sym, ap, ◌∙◌, subst, zero, suc, true}
+use Rattle.std.proofs.Common.{◌≡◌, ◌<◌, ℕ, List, [], ◌∷◌, Bool, map, All, Result, Ok, Err, refl, sym, ap, ◌∙◌, subst, zero, suc}
 use Rattle.std.proofs.lemmas.List.Elements.{All-nil, All-cons, All-head, All-tail, All-append}
 use Rattle.kms_names.specs.Moment.{year_10000}
-use Rattle.kms_names.specs.Principal.{account_of}
-use Rattle.kms_names.specs.declared.principals.Principal.{Principal}
 use Rattle.kms_json.specs.declared.asks.Ask.{Ask}
-use Rattle.kms_json.specs.declared.asks.AskBody.{AskBody}
 use Rattle.kms_json.specs.declared.refusals.Refusal.{Refusal}
 use Rattle.account_steps.specs.declared.facts.RealmFacts.{RealmFacts}
 use Rattle.account_steps.specs.History.{Entry}
 use Rattle.account_core.specs.Decide.{IsProper}
 use Rattle.account_laws.proofs.LawFacts.{no_iv_again as account_law}
-use Rattle.http_front.specs.Heading.{values_of}
 use Rattle.http_front.specs.Message.{Message}
-use Rattle.std.proofs.Common.{codes}
-use Rattle.sigv4_check.specs.declared.faults.AuthFault.{AuthFault}
 use Rattle.published_account.specs.Answers.{Answer}
 use Rattle.publish_pass.specs.Pass.{Pass, Learns, fresh_pass, fresh_passes}
 use Rattle.pass_laws.specs.Calls.{Call, read, wanted_to_read, changed, wanted_to_change, wanted_to_keep_house, learnt, Calls, no_call, one_more}
 use Rattle.pass_laws.proofs.CallFacts.{calls_facts, calls_append, calls_lawful, not_twice}
-use Rattle.kms_session.specs.Asked.{asked_once, asked_in, after_in}
-use Rattle.kms_session.specs.declared.asked.After.{After}
-use Rattle.kms_session.specs.declared.asked.After.TheVariants.{Entries, Malformed}
-use Rattle.kms_session.specs.declared.trust.Trust.{Trust}
-use Rattle.kms_session.specs.declared.session.SessionEnd.{SessionEnd}
-use Rattle.kms_session.specs.declared.session.SessionEnd.TheVariants.{Ended, Closed, CutOff, ReadFault, WriteFault, NoMemory}
-use Rattle.kms_session.specs.Callers.{caller_of, IsOfAccount}
-use Rattle.kms_session.specs.Run.{Item, whole, fault, asks, planned, planned_by, plan_of, Answers, early, reads, changes, Wanting, wants_nothing, wants_read, wants_change, Replies, answers, wants_memory, SessionRun, begins, goes_on}
-use Rattle.kms_session.specs.Session.{Outside, EndsBy}
-use Rattle.kms_session.proofs.AskedLemmas.{once_asked}
-use Rattle.kms_session.proofs.Signers.{caller_is_of}
+use Rattle.session_front.specs.declared.trust.Trust.{Trust}
+use Rattle.session_front.specs.declared.ends.SessionEnd.TheVariants.{Ended, Closed, CutOff, ReadFault, WriteFault, NoMemory}
+use Rattle.session_front.specs.Callers.{IsOfAccount}
+use Rattle.session_front.specs.Items.{Item, whole, fault}
+use Rattle.session_front.specs.Runs.{begins, goes_on}
+use Rattle.kms_session.specs.Run.{asks, plan_by, plan_of, Answers, early, reads, changes, Wanting, wants_nothing, wants_read, wants_change, Replies, answers, wants_memory, SessionRun}
+use Rattle.kms_session.specs.Session.{Outside}
+use Rattle.session_front.specs.Early.{ask_of}
+use Rattle.session_front.proofs.Asks.{is_ask_at}
+use Rattle.kms_session.proofs.Proper.{proper_at}
 use Rattle.kms_server.specs.Work.{WorkerState, Attends, TakesOne, WorkerRun, begins as starts, goes_on as takes, Works, takes_all, gives_up}
 use Rattle.kms_server.specs.Crew.{Pairwise, none, both, Settles}
 use Rattle.session_laws.specs.Calls.{TurnsAreCalls, RunsAreCalls, SessionsAreCalls, WorkersAreCalls, ServersAreCalls}
@@ -38,23 +31,12 @@ use Rattle.session_laws.specs.Laws.{RunsKeepLawful, OneSessionRepeatsNoIv}
 -- ---- a request of a session is proper
 
 module _ (facts : RealmFacts) (c : ℕ) (before : c < year_10000) (x : Ask) where
-  proper_of : (caller : Principal) → account_of caller ≡ facts.account → (values : List (List ℕ)) (text : List ℕ) (r : Result AskBody Refusal) (after : After)
-      → asked_once values text ≡ r → planned caller c r after ≡ asks x → IsProper facts x
-  proper_of caller of values text (Ok body) (Entries after) is e =
-      let same : ◌≡◌ {A = Ask} (record { body = body; caller = caller; moment = c; after = after }) x = cc in
-      let target = once_asked values text body is in
-      subst (IsProper facts) same (record { target = target.0; text = text; body = target.1; caller = of; moment = before })
-  proper_of caller of values text (Ok body) Malformed is e = cc
-  proper_of caller of values text (Err refusal) after is e = cc
-
-  proper_by : (trust : Trust) (region : List ℕ) (m : Message) (r : Result Principal AuthFault) → IsOfAccount facts.account trust → caller_of trust region m c ≡ r
-      → planned_by r m c ≡ asks x → IsProper facts x
-  proper_by trust region m (Ok caller) of is e =
-      proper_of caller (caller_is_of facts.account trust region m c caller of is) (values_of (codes "X-Amz-Target") m.head) m.body (asked_in m) (after_in m) refl e
-  proper_by trust region m (Err why) of is e = cc
+  proper_plan : (trust : Trust) (region : List ℕ) (m : Message) (r : Result Ask Refusal) → IsOfAccount facts.account trust → ask_of trust region m c ≡ r → plan_by r ≡ asks x → IsProper facts x
+  proper_plan trust region m (Ok y) of is e = let same : y ≡ x = cc in subst (IsProper facts) same (proper_at facts c y before (is_ask_at facts.account c y trust region m of is))
+  proper_plan trust region m (Err why) of is e = cc
 
   proper_item : (trust : Trust) (region : List ℕ) (item : Item) → IsOfAccount facts.account trust → plan_of trust region item c ≡ asks x → IsProper facts x
-  proper_item trust region (whole m) of e = proper_by trust region m (caller_of trust region m c) of refl e
+  proper_item trust region (whole m) of e = proper_plan trust region m (ask_of trust region m c) of refl e
   proper_item trust region (fault why) of e = cc
 
 -- ---- a turn
@@ -104,15 +86,15 @@ pub runs_are_calls : RunsAreCalls
 runs_are_calls trust start end items clocks text of run = run_calls trust start end items clocks text of run
 
 pub sessions_are_calls : SessionsAreCalls
-sessions_are_calls trust Ended old new of is = run_calls trust old.pass new.pass _ _ _ of is.serves.run
-sessions_are_calls trust Closed old new of is = run_calls trust old.pass new.pass _ _ _ of is.serves.run
-sessions_are_calls trust CutOff old new of is = run_calls trust old.pass new.pass _ _ _ of is.serves.run
-sessions_are_calls trust ReadFault old new of is = run_calls trust old.pass new.pass _ _ _ of is.serves.run
+sessions_are_calls trust Ended old new of is = run_calls trust old.state new.state _ _ _ of is.serves.run
+sessions_are_calls trust Closed old new of is = run_calls trust old.state new.state _ _ _ of is.serves.run
+sessions_are_calls trust CutOff old new of is = run_calls trust old.state new.state _ _ _ of is.serves.run
+sessions_are_calls trust ReadFault old new of is = run_calls trust old.state new.state _ _ _ of is.serves.run
 sessions_are_calls trust WriteFault old new of is =
-    let so_far = run_calls trust old.pass is.so_far.pass _ _ _ of is.serves.run in
-    calls_append old.pass is.so_far.pass new.pass so_far
-    (turn_calls trust is.item is.c is.before_year_10000 is.so_far.pass (still_of trust old.pass is.so_far.pass of (calls_facts old.pass is.so_far.pass so_far)) _ _ new.pass is.turn)
-sessions_are_calls trust NoMemory old new of is = stays old.pass new.pass (ap (λ (o : Outside). o.pass) is)
+    let so_far = run_calls trust old.state is.so_far.state _ _ _ of is.serves.run in
+    calls_append old.state is.so_far.state new.state so_far
+    (turn_calls trust is.item is.c is.before_year_10000 is.so_far.state (still_of trust old.state is.so_far.state of (calls_facts old.state is.so_far.state so_far)) _ _ new.state is.step)
+sessions_are_calls trust NoMemory old new of is = stays old.state new.state (ap (λ (o : Outside). o.state) is)
 
 -- ---- a worker
 

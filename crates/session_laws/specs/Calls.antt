@@ -4,10 +4,11 @@ use Rattle.kms_names.specs.Moment.{year_10000}
 use Rattle.account_steps.specs.declared.facts.RealmFacts.{RealmFacts}
 use Rattle.publish_pass.specs.Pass.{Pass, fresh_passes}
 use Rattle.pass_laws.specs.Calls.{Calls}
-use Rattle.kms_session.specs.declared.trust.Trust.{Trust}
-use Rattle.kms_session.specs.declared.session.SessionEnd.{SessionEnd}
-use Rattle.kms_session.specs.Callers.{IsOfAccount}
-use Rattle.kms_session.specs.Run.{Item, Turn, SessionRun}
+use Rattle.session_front.specs.declared.trust.Trust.{Trust}
+use Rattle.session_front.specs.declared.ends.SessionEnd.{SessionEnd}
+use Rattle.session_front.specs.Callers.{IsOfAccount}
+use Rattle.session_front.specs.Items.{Item}
+use Rattle.kms_session.specs.Run.{Turn, SessionRun}
 use Rattle.kms_session.specs.Session.{Outside, EndsBy}
 use Rattle.kms_server.specs.declared.server.Served.{Served}
 use Rattle.kms_server.specs.Work.{WorkerState, Works}
@@ -27,7 +28,7 @@ RunsAreCalls =
 
 -- a session, however it ends
 abbrev pub SessionsAreCalls : Type 0
-SessionsAreCalls = (trust : Trust) (end : SessionEnd) (old new : Outside) → IsOfAccount old.pass.facts.account trust → EndsBy trust end old new → Calls old.pass new.pass
+SessionsAreCalls = (trust : Trust) (end : SessionEnd) (old new : Outside) → IsOfAccount old.state.facts.account trust → EndsBy trust end old new → Calls old.state new.state
 
 -- a worker, over all its connections
 abbrev pub WorkersAreCalls : Type 0

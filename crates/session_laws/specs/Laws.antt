@@ -2,7 +2,7 @@
 use Rattle.std.specs.Prelude.{◌≡◌, ◌≢◌, ℕ, List, [], ◌∷◌, ◌++◌, length, Bool}
 use Rattle.httparse.specs.Grammar.{NeverHasRequest}
 use Rattle.http_front.specs.declared.judge.HttpFault.{HttpFault}
-use Rattle.kms_session.specs.declared.trust.Trust.{Trust}
+use Rattle.session_front.specs.declared.trust.Trust.{Trust}
 use Rattle.kms_json.specs.declared.asks.Ask.{Ask}
 use Rattle.kms_json.specs.declared.replies.Reply.{Reply}
 use Rattle.account_core.specs.Decide.{IsLawful}
@@ -11,9 +11,10 @@ use Rattle.published_account.specs.Answers.{Answer}
 use Rattle.published_account.specs.Pairs.{entries_of}
 use Rattle.kms_session.specs.Answers.{IsReplyText}
 use Rattle.publish_pass.specs.Pass.{Pass, Reads}
-use Rattle.kms_session.specs.declared.session.SessionEnd.{SessionEnd}
-use Rattle.kms_session.specs.Run.{Item, fault, Cuts, Turn, SessionRun, plan_of, asks}
-use Rattle.kms_session.specs.Callers.{IsOfAccount}
+use Rattle.session_front.specs.declared.ends.SessionEnd.{SessionEnd}
+use Rattle.session_front.specs.Items.{Item, fault, Cuts}
+use Rattle.kms_session.specs.Run.{Turn, SessionRun, plan_of, asks}
+use Rattle.session_front.specs.Callers.{IsOfAccount}
 use mathlib.Core.List.{IsPrefix}
 use Rattle.kms_session.specs.Session.{Outside, EndsBy}
 use Rattle.kms_session.specs.Complete.{TellsTaken, IsOneEnd, IsComplete}

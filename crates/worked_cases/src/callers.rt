@@ -2,7 +2,7 @@
 ghost use Rattle.std.specs.Prelude.{◌≡◌, All, IfOk};
 ghost use Rattle.kms_names.specs.Principal.{account_of};
 ghost use Rattle.sigv4_check.specs.declared.credentials.Credential.{Credential as AKey};
-ghost use Rattle.kms_session.specs.Callers.{IsOfAccount};
+ghost use Rattle.session_front.specs.Callers.{IsOfAccount};
 
 use crate::cases::Case;
 use crate::failures::Failure;

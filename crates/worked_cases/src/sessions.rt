@@ -2,7 +2,7 @@
 ghost use Rattle.std.specs.Prelude.{◌≡◌, IfOk};
 ghost use Rattle.kms_io.specs.Clock.{are_times};
 ghost use Rattle.published_account.specs.Rules.{Names};
-ghost use Rattle.kms_session.specs.Callers.{IsOfAccount};
+ghost use Rattle.session_front.specs.Callers.{IsOfAccount};
 
 use crate::callers::trust_of;
 use crate::cases::Case;

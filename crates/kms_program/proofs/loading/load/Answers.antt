@@ -1,6 +1,6 @@
 use Rattle.std.proofs.Common.{ℕ, List, refl, inl, inr, subst}
 use Rattle.std.specs.Prelude.{string_bytes}
-use Rattle.kms_session.specs.Session.{SendsWhole, SendsShort}
+use Rattle.session_front.specs.Sending.{SendsWhole, SendsShort}
 use Rattle.kms_program.specs.Program.{sums}
 use Rattle.kms_program.proofs.loading.load.Goals as goal
 

@@ -1,7 +1,7 @@
-use Rattle.std.proofs.Common.{Some, map, option_map, slice_set, subst, sym, refl, arith}
+use Rattle.std.proofs.Common.{Some, map, slice_set, subst, sym, refl, arith}
 use Rattle.kms_words.specs.declared.asked.Asked.{Asked}
-use Rattle.kms_words.specs.Words.{values_in, shown}
-use Rattle.kms_program.specs.Program.{around, everything, first_of, RunsValues, RunsConfig, WithFile, Does}
+use Rattle.kms_words.specs.Words.{source_in, shown}
+use Rattle.kms_program.specs.Program.{around, everything, first_of, Serves, Explains, FromSource, Does}
 use Rattle.kms_program.proofs.Clocks.{in_first_place, others_rest}
 use Rattle.kms_program.proofs.program.obey.Goals as goal
 
@@ -9,37 +9,38 @@ pub returns-in-Run : goal.returns-in-Run
 returns-in-Run g c =
     let told = g.C.Clock.told in
     let clocks = c.args.clocks.now.items in
-    let clock = c.run_values.new.clock in
-    let shelf = g.F.Files.shows c.args.files.now in
+    let held = c.hold_session in
+    let old_shelf = g.F.Files.shows c.args.files.now in
+    let new_shelf = g.F.Files.shows held.new.files in
     let door = g.D.Door.shows c.args.door.now in
     let before = g.L.Link.shows c.args.link.now in
-    let after = g.L.Link.shows c.run_values.new.link in
-    subst (λ (asked : Asked). Does (Some (shown asked)) c.run_values.result (everything before shelf door (map told clocks)) (everything after shelf door (map told (slice_set clocks 0 clock)))) (sym c.in-Run.is) (
-      in_first_place told clocks c.index_mut.result.now clock
-          (λ old new. RunsValues (values_in c.in-Run.words) c.run_values.result (around before old shelf) (around after new shelf))
-          (omega arith) c.index_mut.ensures.value (c.run_values.ensures shelf),
-      refl,
-      record { door = refl; clocks = others_rest told clocks clock },
+    let after = g.L.Link.shows held.new.link in
+    let source = source_in c.in-Run.words in
+    let status = held.result in
+    subst (λ (asked : Asked). Does (Some (shown asked)) status (everything before old_shelf door (map told clocks)) (everything after new_shelf door (map told (slice_set clocks 0 held.new.clock)))) (sym c.in-Run.is) (
+      in_first_place told clocks c.index_mut.result.now held.new.clock
+          (λ old new. FromSource source status (around before old old_shelf) (around after new new_shelf) (λ settings. Serves settings status (around before old old_shelf) (around after new new_shelf)))
+          (omega arith) c.index_mut.ensures.value held.ensures,
+      record { door = refl; clocks = others_rest told clocks held.new.clock },
     )
 
-pub returns-in-RunFile : goal.returns-in-RunFile
-returns-in-RunFile g c =
+pub returns-in-Explain : goal.returns-in-Explain
+returns-in-Explain g c =
     let told = g.C.Clock.told in
     let clocks = c.args.clocks.now.items in
-    let clock = c.run_file.new.clock in
+    let held = c.hold_session-in-Explain in
     let old_shelf = g.F.Files.shows c.args.files.now in
-    let new_shelf = g.F.Files.shows c.run_file.new.files in
+    let new_shelf = g.F.Files.shows held.new.files in
     let door = g.D.Door.shows c.args.door.now in
     let before = g.L.Link.shows c.args.link.now in
-    let after = g.L.Link.shows c.run_file.new.link in
-    let file = c.in-RunFile.file.now in
-    let caller = option_map (λ caller. caller.now) c.in-RunFile.caller in
-    let status = c.run_file.result in
-    subst (λ (asked : Asked). Does (Some (shown asked)) status (everything before old_shelf door (map told clocks)) (everything after new_shelf door (map told (slice_set clocks 0 clock)))) (sym c.in-RunFile.is) (
-      in_first_place told clocks c.index_mut-in-RunFile.result.now clock
-          (λ old new. WithFile file status (around before old old_shelf) (around after new new_shelf) (λ config. RunsConfig config caller status (around before old old_shelf) (around after new new_shelf)))
-          (omega arith) c.index_mut-in-RunFile.ensures.value c.run_file.ensures,
-      record { door = refl; clocks = others_rest told clocks clock },
+    let after = g.L.Link.shows held.new.link in
+    let source = source_in c.in-Explain.words in
+    let status = held.result in
+    subst (λ (asked : Asked). Does (Some (shown asked)) status (everything before old_shelf door (map told clocks)) (everything after new_shelf door (map told (slice_set clocks 0 held.new.clock)))) (sym c.in-Explain.is) (
+      in_first_place told clocks c.index_mut-in-Explain.result.now held.new.clock
+          (λ old new. FromSource source status (around before old old_shelf) (around after new new_shelf) (λ settings. Explains settings status (around before old old_shelf) (around after new new_shelf)))
+          (omega arith) c.index_mut-in-Explain.ensures.value held.ensures,
+      record { door = refl; clocks = others_rest told clocks held.new.clock },
     )
 
 pub returns-in-Check : goal.returns-in-Check

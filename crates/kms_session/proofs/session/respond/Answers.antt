@@ -1,5 +1,6 @@
 use Rattle.std.proofs.Common.{refl}
-use Rattle.kms_session.specs.Run.{plan_of, whole}
+use Rattle.session_front.specs.Items.{whole}
+use Rattle.kms_session.specs.Run.{plan_of}
 use Rattle.kms_session.proofs.ReplyLemmas.{replied_given, wanted}
 use Rattle.kms_session.proofs.session.respond.Goals as goal
 

@@ -1,5 +1,6 @@
 use Rattle.std.proofs.Common.{◌≡◌, ◌<◌, false}
-use Rattle.kms_session.specs.Session.{outside, Serves}
+use Rattle.session_front.specs.Session.{outside}
+use Rattle.kms_session.specs.Session.{Serves}
 use Rattle.kms_session.proofs.session.serve_messages.Given as goal
 
 abbrev pub invariant-loop-number : goal.invariant-loop-number

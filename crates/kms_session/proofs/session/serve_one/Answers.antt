@@ -1,10 +1,11 @@
 use Rattle.std.proofs.Common.{◌+◌, ℕ, sym, subst, drop, ap, ◌∙◌, List}
 use Rattle.http_front.specs.Message.{CutsOff}
-use Rattle.kms_session.specs.Session.{outside}
-use Rattle.kms_session.proofs.Runs.{serves_read, serves_message, serves_fault, message_closes, serves_where, serves_rest, breaks_at_message, breaks_at_fault}
-use Rattle.kms_session.proofs.Messages.{not_last}
+use Rattle.session_front.specs.Session.{outside}
+use Rattle.session_front.proofs.Cutting.{message_closes}
+use Rattle.session_front.proofs.Runs.{serves_read, serves_message, serves_fault, serves_where, serves_rest, breaks_at_message, breaks_at_fault}
+use Rattle.session_front.proofs.Messages.{not_last}
 use Rattle.kms_session.proofs.ReplyLemmas.{facts_kept}
-use Rattle.kms_session.proofs.Wires.{rose_since}
+use Rattle.session_front.proofs.Wires.{rose_since}
 use Rattle.kms_session.proofs.session.serve_one.Goals as goal
 
 pub returns-then-not-respond-clause-goes : goal.returns-then-not-respond-clause-goes
@@ -20,7 +21,7 @@ pub returns-then-not-respond-clause-facts : goal.returns-then-not-respond-clause
 returns-then-not-respond-clause-facts g c =
     let found = c.in-Message.ensures.finds in
     let here = subst (λ (bytes : List ℕ). CutsOff bytes c.in-Message.cut found.0) (sym c.bytes.ensures.value) found.1 in
-    facts_kept (c.if-not-respond.ensures found.0 here).replies
+    facts_kept (c.if-not-respond.ensures found.0 here).is
 
 pub returns-then-closes-clause-goes : goal.returns-then-closes-clause-goes
 returns-then-closes-clause-goes g c = λ start s.
@@ -36,7 +37,7 @@ pub returns-then-closes-clause-facts : goal.returns-then-closes-clause-facts
 returns-then-closes-clause-facts g c =
     let found = c.in-Message.ensures.finds in
     let here = subst (λ (bytes : List ℕ). CutsOff bytes c.in-Message.cut found.0) (sym c.bytes.ensures.value) found.1 in
-    facts_kept (c.if-not-respond.ensures found.0 here).replies
+    facts_kept (c.if-not-respond.ensures found.0 here).is
 
 pub returns-else-closes-clause-goes : goal.returns-else-closes-clause-goes
 returns-else-closes-clause-goes g c = λ start s.
@@ -54,7 +55,7 @@ pub returns-else-closes-clause-facts : goal.returns-else-closes-clause-facts
 returns-else-closes-clause-facts g c =
     let found = c.in-Message.ensures.finds in
     let here = subst (λ (bytes : List ℕ). CutsOff bytes c.in-Message.cut found.0) (sym c.bytes.ensures.value) found.1 in
-    facts_kept (c.if-not-respond.ensures found.0 here).replies
+    facts_kept (c.if-not-respond.ensures found.0 here).is
 
 pub returns-then-respond_fault-clause-goes : goal.returns-then-respond_fault-clause-goes
 returns-then-respond_fault-clause-goes g c = λ start s.

@@ -1,5 +1,7 @@
-use Rattle.kms_session.proofs.Complete.{each_is_answered}
+use Rattle.std.proofs.Common.{◌≡◌}
+use Rattle.session_front.proofs.Complete.{each_is_answered}
+use Rattle.kms_session.specs.Run.{turns}
 use Rattle.session_laws.proofs.laws.each_message_is_answered.Goals as goal
 
 pub returns : goal.returns
-returns c = each_is_answered
+returns c = λ trust end old new is. each_is_answered (turns trust) (new ≡ old) end old new is

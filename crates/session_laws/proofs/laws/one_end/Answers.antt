@@ -1,5 +1,6 @@
-use Rattle.kms_session.proofs.OneEnds.{one_end}
+use Rattle.session_front.proofs.OneEnds.{one_end}
+use Rattle.kms_session.specs.Run.{turns}
 use Rattle.session_laws.proofs.laws.one_end.Goals as goal
 
 pub returns : goal.returns
-returns c = one_end
+returns c = λ trust old new told. one_end (turns trust) old new told

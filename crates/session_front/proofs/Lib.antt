@@ -1,0 +1,9 @@
+pub mod Wires
+pub mod AskedLemmas
+pub mod Messages
+pub mod Signers
+pub mod Cutting
+pub mod Runs
+pub mod OneEnds
+pub mod Complete
+pub mod Asks

@@ -1,0 +1,10 @@
+pub mod Pace
+pub mod Sending
+pub mod Inbox
+pub mod Items
+pub mod Runs
+pub mod Session
+pub mod Complete
+pub mod Asked
+pub mod Callers
+pub mod Early
