@@ -1,0 +1,7 @@
+mod DocumentFacts
+mod MarkFacts
+mod RunFacts
+mod HitFacts
+mod GrantWalk
+mod GroundFacts
+mod FindingFacts

@@ -1,0 +1,34 @@
+-- Certificates: what is found of each question of a request, up to the first that is denied.
+use Rattle.std.specs.Prelude.{◌≡◌, Bool, true, false, List, [], ◌∷◌, ⊤}
+use Rattle.std.specs.List.{list_all}
+use Rattle.steps_stub.specs.declared.questions.Question.{Question}
+use Rattle.access_explain.specs.declared.certificates.Certificate.{Certificate}
+use Rattle.access_explain.specs.declared.findings.Finding.{Finding}
+use Rattle.access_explain.specs.Findings.{Basis, IsFinding}
+use Rattle.access_explain.specs.Grounds.{allows}
+
+-- after a finding come those of the next questions where it allows, and none where it denies
+abbrev pub IfAllowed : Bool → Type 0 → List Finding → Type 0
+IfAllowed true Others findings = Others
+IfAllowed false Others findings = findings ≡ []
+
+-- the findings of questions, in order, up to the first that denies
+abbrev pub AreFindings : Basis → List Question → List Finding → Type 0
+AreFindings basis [] [] = ⊤
+AreFindings basis [] (f ∷ findings) = ⊥
+AreFindings basis (q ∷ questions) [] = ⊥
+AreFindings basis (q ∷ questions) (f ∷ findings) = IsFinding basis q f × IfAllowed (allows f.ground) (AreFindings basis questions findings) findings
+
+-- none denies
+abbrev pub none_denies : List Finding → Bool
+none_denies findings = list_all (λ (f : Finding). allows f.ground) findings
+
+-- the certificate of a request that is refused before authority is asked
+abbrev pub early_one : Certificate
+early_one = record { early = true; allowed = false; findings = [] }
+
+-- the certificate of a request with these questions
+pub record IsCertificateOf (basis : Basis) (questions : List Question) (c : Certificate) : Type 0 where
+  pub early : c.early ≡ false
+  pub findings : AreFindings basis questions c.findings
+  pub allowed : c.allowed ≡ none_denies c.findings

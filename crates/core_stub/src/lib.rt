@@ -1,0 +1,6 @@
+//! A stub.
+#![tactic(auto)]
+
+mod account;
+
+pub use account::Account;
