@@ -5,3 +5,5 @@ mod HitFacts
 mod GrantWalk
 mod GroundFacts
 mod FindingFacts
+mod EqualFacts
+mod CertificateFacts

@@ -1,10 +1,16 @@
 -- Certificates: what is found of each question of a request, up to the first that is denied.
 use Rattle.std.specs.Prelude.{◌≡◌, Bool, true, false, List, [], ◌∷◌, ⊤}
 use Rattle.std.specs.List.{list_all}
+use Rattle.account_rows.specs.declared.entries.Entry.{Entry}
+use Rattle.core_stub.specs.Decide.{asked_at}
+use Rattle.core_stub.specs.declared.account.Ask.{Ask}
+use Rattle.core_stub.specs.declared.account.Asked.{Asked}
+use Rattle.core_stub.specs.declared.account.Asked.TheVariants as asked
+use Rattle.steps_stub.specs.declared.facts.RealmFacts.{RealmFacts}
 use Rattle.steps_stub.specs.declared.questions.Question.{Question}
 use Rattle.access_explain.specs.declared.certificates.Certificate.{Certificate}
 use Rattle.access_explain.specs.declared.findings.Finding.{Finding}
-use Rattle.access_explain.specs.Findings.{Basis, IsFinding}
+use Rattle.access_explain.specs.Findings.{Basis, basis_of, IsFinding}
 use Rattle.access_explain.specs.Grounds.{allows}
 
 -- after a finding come those of the next questions where it allows, and none where it denies
@@ -32,3 +38,12 @@ pub record IsCertificateOf (basis : Basis) (questions : List Question) (c : Cert
   pub early : c.early ≡ false
   pub findings : AreFindings basis questions c.findings
   pub allowed : c.allowed ≡ none_denies c.findings
+
+-- the certificate of what is asked
+abbrev pub IsCertificateBy : Basis → Asked → Certificate → Type 0
+IsCertificateBy basis asked.Early c = c ≡ early_one
+IsCertificateBy basis (asked.Questions questions) c = IsCertificateOf basis questions c
+
+-- the certificate of a request at a history
+unfoldable pub IsCertificate : RealmFacts → List Entry → Ask → Certificate → Type 0
+IsCertificate facts entries x c = IsCertificateBy (basis_of facts entries) (asked_at facts entries x) c

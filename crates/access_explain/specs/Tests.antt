@@ -86,3 +86,7 @@ finding_of q runs g = record {
   ceiling_marks = marks_in runs.ceiling;
   grant_marks = runs.grants;
 }
+
+-- two findings with the same marks
+abbrev pub SameMarks : Finding → Finding → Type 0
+SameMarks f g = (f.key_marks ≡ g.key_marks) × (f.identity_marks ≡ g.identity_marks) × (f.ceiling_marks ≡ g.ceiling_marks) × (f.grant_marks ≡ g.grant_marks)

@@ -4,6 +4,7 @@
 
 mod certificates;
 mod documents;
+mod equality;
 mod findings;
 mod grants;
 mod grounds;

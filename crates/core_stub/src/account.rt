@@ -3,8 +3,34 @@
 use account_rows::Rows;
 use grant_table::GrantRow;
 use kms_names::{KeyId, Text};
-use steps_stub::RealmFacts;
+use kms_names::NoMemory;
+use steps_stub::{QuestionList, RealmFacts};
+use std::alloc::Global;
 use std::marker::Model;
+
+/// What is asked.
+pub enum Asked {
+    /// Refused before.
+    Early,
+    /// These.
+    Questions(QuestionList),
+}
+
+impl Drop for Asked {
+    fn drop(self) {
+        match self {
+            Asked::Early => {}
+            Asked::Questions(_) => {}
+        }
+    }
+}
+
+/// A request.
+#[derive(Drop)]
+pub struct Ask {
+    /// Whether it is refused before.
+    pub early: bool,
+}
 
 /// An account.
 #[derive(Drop)]
@@ -22,10 +48,22 @@ impl Model for Account {
 }
 
 impl Account {
-    ghost use Rattle.std.specs.Prelude.{◌≡◌, option_map};
+    ghost use Rattle.std.specs.Prelude.{◌≡◌, IfOk, option_map};
+    ghost use Rattle.core_stub.specs.Decide.{asked_at, IsProper};
     ghost use Rattle.key_states.specs.declared.rows.KeyRow.{KeyRow};
     ghost use Rattle.account_rows.specs.History.{replay, key_with};
     ghost use Rattle.grant_table.specs.Grants.{grant_of_key, AreGrants};
+
+    /// Questions.
+    pub fn questions(&self, alloc: Global, ask: &Ask) -> Result<Asked, NoMemory>
+        requires { IsProper self.now.facts ask.now }
+        ensures { IfOk result (λ a. a ≡ asked_at self.now.facts self.now.entries ask.now) }
+    {
+        if ask.early {
+            return Ok(Asked::Early);
+        }
+        Ok(Asked::Questions(QuestionList::new(Vec::new(alloc))))
+    }
 
     /// Facts.
     pub fn facts(&self) -> &RealmFacts

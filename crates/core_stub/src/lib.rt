@@ -3,4 +3,4 @@
 
 mod account;
 
-pub use account::Account;
+pub use account::{Account, Ask, Asked};

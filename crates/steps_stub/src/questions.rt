@@ -53,6 +53,13 @@ impl Model for QuestionList {
 impl QuestionList {
     ghost use Rattle.std.specs.Prelude.{◌≡◌};
 
+    /// Questions.
+    pub fn new(items: Vec<Question>) -> QuestionList
+        ensures { result ≡ items.items }
+    {
+        QuestionList { items }
+    }
+
     /// The questions in order.
     pub fn as_slice(&self) -> &[Question]
         ensures { result.now ≡ self.now }

@@ -1,4 +1,3 @@
-use Rattle.std.proofs.Common.{refl}
 use Rattle.access_explain.proofs.FindingFacts.{is_finding}
 use Rattle.access_explain.specs.Findings.{basis_of}
 use Rattle.access_explain.proofs.findings.find.Goals as goal

@@ -1,7 +1,6 @@
-use Rattle.std.proofs.Common.{rules, ◌≡◌, List, sym, subst, ap, ◌∙◌}
+use Rattle.std.proofs.Common.{rules, ◌≡◌, List, subst}
 use Rattle.std.specs.Prelude.{Bool}
 use Rattle.policy_doc.specs.declared.policies.Policy.{Policy}
-use Rattle.authority.specs.Setting.{is_root}
 use Rattle.access_explain.specs.Findings.{basis_of}
 use Rattle.access_explain.specs.Tests.{AreTested}
 use Rattle.access_explain.proofs.GroundFacts.{is_ground}
