@@ -7,3 +7,4 @@ mod GroundFacts
 mod FindingFacts
 mod EqualFacts
 mod CertificateFacts
+mod MayFacts

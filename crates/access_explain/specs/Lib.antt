@@ -4,3 +4,4 @@ pub mod Grounds
 pub mod Findings
 pub mod Certificates
 pub mod Tests
+pub mod Laws

@@ -8,12 +8,14 @@ mod equality;
 mod findings;
 mod grants;
 mod grounds;
+mod laws;
 mod marks;
 mod runs;
 mod statements;
 mod subjects;
 
-pub use certificates::Certificate;
+pub use certificates::{Certificate, check_certificate, explain};
 pub use findings::{Finding, FindingList};
 pub use grounds::Ground;
+pub use laws::certificates_are_one;
 pub use marks::{Mark, MarkList};
