@@ -3,7 +3,7 @@ use Rattle.std.proofs.Common.{◌≡◌, ◌⊎◌, inl, inr, ⊎_elim, ℕ, ◌
 use Rattle.std.specs.Prelude.{◌↔◌, IsTrue}
 use Rattle.std.specs.List.{list_all}
 use Rattle.std.proofs.lemmas.List.{take_more, drop_more, take_all, take-append-drop}
-use Rattle.steps_stub.specs.declared.questions.Question.{Question}
+use Rattle.account_steps.specs.declared.questions.Question.{Question}
 use Rattle.access_explain.specs.declared.certificates.Certificate.{Certificate}
 use Rattle.access_explain.specs.declared.findings.Finding.{Finding}
 use Rattle.access_explain.specs.Certificates.{IfAllowed, AreFindings, none_denies, IsCertificateOf, IsCertificateBy, IsCertificate}
@@ -11,12 +11,12 @@ use Rattle.access_explain.specs.Findings.{Basis, basis_of, IsFinding}
 use Rattle.access_explain.specs.Grounds.{allows}
 use Rattle.access_explain.specs.Runs.{OneByOne}
 use Rattle.account_rows.specs.declared.entries.Entry.{Entry}
-use Rattle.core_stub.specs.Decide.{asked_at}
-use Rattle.core_stub.specs.declared.account.Ask.{Ask}
-use Rattle.core_stub.specs.declared.account.Asked.{Asked}
-use Rattle.core_stub.specs.declared.account.Asked.TheVariants as asked
+use Rattle.account_core.specs.Decide.{asked_at}
+use Rattle.kms_json.specs.declared.asks.Ask.{Ask}
+use Rattle.account_core.specs.declared.asking.Asked.{Asked}
+use Rattle.account_core.specs.declared.asking.Asked.TheVariants as asked
 use Rattle.kms_names.specs.declared.faults.NoMemory.{NoMemory}
-use Rattle.steps_stub.specs.declared.facts.RealmFacts.{RealmFacts}
+use Rattle.account_steps.specs.declared.facts.RealmFacts.{RealmFacts}
 use Rattle.access_explain.proofs.FindingFacts.{one_finding}
 use Rattle.access_explain.proofs.RunFacts.{take_one, one_more}
 

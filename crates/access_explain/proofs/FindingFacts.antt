@@ -8,7 +8,7 @@ use Rattle.access_explain.proofs.MarkFacts.{one_mark, one_key_mark, one_grant_ma
 use Rattle.access_explain.proofs.EqualFacts.{finding_is}
 use Rattle.kms_names.specs.declared.faults.NoMemory.{NoMemory}
 use Rattle.policy_doc.specs.declared.policies.PolicyKind.TheVariants.{Key, Identity}
-use Rattle.steps_stub.specs.declared.questions.Question.{Question}
+use Rattle.account_steps.specs.declared.questions.Question.{Question}
 use Rattle.access_explain.specs.declared.findings.Finding.{Finding}
 use Rattle.access_explain.specs.declared.findings.Runs.{Runs}
 use Rattle.access_explain.specs.declared.grounds.Ground.{Ground}

@@ -7,7 +7,7 @@ use Rattle.kms_names.specs.Place.{is_behind}
 use Rattle.kms_names.proofs.Behind.{filter_all, find_in_filter}
 use Rattle.kms_names.proofs.Decisions.{any_here, any_there, any_of}
 use Rattle.grant_table.specs.declared.rows.GrantRow.{GrantRow}
-use Rattle.grant_table.specs.Grants.{AreGrants, is_of_key, grant_of_key}
+use Rattle.grant_table.specs.Grants.{is_of_key, grant_of_key}
 use Rattle.access_explain.specs.Runs.{OneByOne}
 use Rattle.access_explain.proofs.RunFacts.{one_more}
 
@@ -105,9 +105,9 @@ first_own key rows at =
     find_alike (λ (row : GrantRow). is_of_key key row && behind at row) (λ (row : GrantRow). behind at row && is_of_key key row) (λ row. turned (is_of_key key row) (behind at row)) rows
     ∙ sym (find_in_filter (is_of_key key) (behind at) rows)
 
-module _ (key : List ℕ) (rows : List GrantRow) (grants : AreGrants rows) (at : Option ℕ) where
+module _ (key : List ℕ) (rows : List GrantRow) (rise : Rise rows) (at : Option ℕ) where
   pub on : (row : GrantRow) → grant_of_key rows key at ≡ Some row → from at (own key rows) ≡ row ∷ from (Some row.born) (own key rows)
-  on row is = one_on (own key rows) (AllPairs-filter (λ (p q : GrantRow). p.born < q.born) (is_of_key key) rows grants.1) at row (sym (first_own key rows at) ∙ is)
+  on row is = one_on (own key rows) (AllPairs-filter (λ (p q : GrantRow). p.born < q.born) (is_of_key key) rows rise) at row (sym (first_own key rows at) ∙ is)
 
   pub fewer : (row : GrantRow) → grant_of_key rows key at ≡ Some row → length (from (Some row.born) (own key rows)) < length (from at (own key rows))
   fewer row is = let e : length (from at (own key rows)) ≡ length (row ∷ from (Some row.born) (own key rows)) = ap length (on row is) in omega (arith, e)

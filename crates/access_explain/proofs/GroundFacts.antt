@@ -5,7 +5,7 @@ use Rattle.policy_doc.specs.declared.policies.Policy.{Policy}
 use Rattle.policy_doc.specs.declared.policies.PolicyKind.TheVariants.{Key, Identity}
 use Rattle.policy_eval.specs.Ceiling.{Under}
 use Rattle.authority.specs.Setting.{callers_policies, is_root}
-use Rattle.steps_stub.specs.declared.questions.Question.{Question}
+use Rattle.account_steps.specs.declared.questions.Question.{Question}
 use Rattle.access_explain.specs.declared.findings.Finding.{Finding}
 use Rattle.access_explain.specs.declared.findings.Runs.{Runs}
 use Rattle.access_explain.specs.declared.grounds.Ground.{Ground}

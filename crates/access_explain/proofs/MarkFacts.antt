@@ -6,7 +6,7 @@ use Rattle.kms_names.specs.declared.operations.GrantOp.{GrantOp}
 use Rattle.kms_names.specs.declared.principals.Principal.{Principal}
 use Rattle.policy_doc.specs.declared.policies.Statement.{Statement}
 use Rattle.grant_table.specs.declared.rows.GrantRow.{GrantRow}
-use Rattle.steps_stub.specs.declared.questions.OfGrants.{OfGrants}
+use Rattle.account_steps.specs.declared.questions.OfGrants.{OfGrants}
 use Rattle.access_explain.specs.declared.marks.Mark.{Mark}
 use Rattle.access_explain.specs.declared.marks.Mark.TheVariants as mark
 use Rattle.access_explain.specs.contracts.marks.MarkPartialEq.TheImpl as derived

@@ -14,7 +14,7 @@ use Rattle.policy_eval.specs.CeilingOf.{ceiling_of, ceiling_of_lem}
 use Rattle.policy_eval.specs.declared.ceilings.CeilingVerdict.{CeilingVerdict}
 use Rattle.policy_eval.specs.declared.ceilings.CeilingVerdict.TheVariants.{Passes, Stops}
 use Rattle.authority.specs.Setting.{callers_policies, is_root}
-use Rattle.steps_stub.specs.declared.questions.Question.{Question}
+use Rattle.account_steps.specs.declared.questions.Question.{Question}
 use Rattle.access_explain.specs.declared.findings.Finding.{Finding}
 use Rattle.access_explain.specs.declared.grounds.Ground.{Ground}
 use Rattle.access_explain.specs.declared.grounds.Ground.TheVariants as ground

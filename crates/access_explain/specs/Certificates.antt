@@ -2,12 +2,12 @@
 use Rattle.std.specs.Prelude.{◌≡◌, Bool, true, false, List, [], ◌∷◌, ⊤}
 use Rattle.std.specs.List.{list_all}
 use Rattle.account_rows.specs.declared.entries.Entry.{Entry}
-use Rattle.core_stub.specs.Decide.{asked_at}
-use Rattle.core_stub.specs.declared.account.Ask.{Ask}
-use Rattle.core_stub.specs.declared.account.Asked.{Asked}
-use Rattle.core_stub.specs.declared.account.Asked.TheVariants as asked
-use Rattle.steps_stub.specs.declared.facts.RealmFacts.{RealmFacts}
-use Rattle.steps_stub.specs.declared.questions.Question.{Question}
+use Rattle.account_core.specs.Decide.{asked_at}
+use Rattle.kms_json.specs.declared.asks.Ask.{Ask}
+use Rattle.account_core.specs.declared.asking.Asked.{Asked}
+use Rattle.account_core.specs.declared.asking.Asked.TheVariants as asked
+use Rattle.account_steps.specs.declared.facts.RealmFacts.{RealmFacts}
+use Rattle.account_steps.specs.declared.questions.Question.{Question}
 use Rattle.access_explain.specs.declared.certificates.Certificate.{Certificate}
 use Rattle.access_explain.specs.declared.findings.Finding.{Finding}
 use Rattle.access_explain.specs.Findings.{Basis, basis_of, IsFinding}

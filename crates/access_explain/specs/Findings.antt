@@ -14,11 +14,11 @@ use Rattle.grant_table.specs.Grants.{is_of_key}
 use Rattle.grant_table.specs.declared.rows.GrantRow.{GrantRow}
 use Rattle.account_rows.specs.History.{replay, key_with}
 use Rattle.account_rows.specs.declared.entries.Entry.{Entry}
-use Rattle.steps_stub.specs.Authority.{MayRetire}
-use Rattle.steps_stub.specs.declared.facts.RealmFacts.{RealmFacts}
-use Rattle.steps_stub.specs.declared.questions.OfGrants.{OfGrants}
-use Rattle.steps_stub.specs.declared.questions.OfGrants.TheVariants as of_grants
-use Rattle.steps_stub.specs.declared.questions.Question.{Question}
+use Rattle.account_steps.specs.Authority.{MayRetire}
+use Rattle.account_steps.specs.declared.facts.RealmFacts.{RealmFacts}
+use Rattle.account_steps.specs.declared.questions.OfGrants.{OfGrants}
+use Rattle.account_steps.specs.declared.questions.OfGrants.TheVariants as of_grants
+use Rattle.account_steps.specs.declared.questions.Question.{Question}
 use Rattle.access_explain.specs.declared.findings.Finding.{Finding}
 use Rattle.access_explain.specs.declared.grounds.Ground.{Ground}
 use Rattle.access_explain.specs.declared.grounds.Ground.TheVariants as ground

@@ -1,8 +1,8 @@
 -- Laws of certificates.
 use Rattle.std.specs.Prelude.{◌≡◌, List}
 use Rattle.account_rows.specs.declared.entries.Entry.{Entry}
-use Rattle.core_stub.specs.declared.account.Ask.{Ask}
-use Rattle.steps_stub.specs.declared.facts.RealmFacts.{RealmFacts}
+use Rattle.kms_json.specs.declared.asks.Ask.{Ask}
+use Rattle.account_steps.specs.declared.facts.RealmFacts.{RealmFacts}
 use Rattle.access_explain.specs.declared.certificates.Certificate.{Certificate}
 use Rattle.access_explain.specs.Certificates.{IsCertificate}
 

@@ -11,8 +11,8 @@ use Rattle.policy_eval.specs.Naming.{NamesCaller, NamesAccount}
 use Rattle.grant_table.specs.Constraints.{ConstraintHolds}
 use Rattle.grant_table.specs.Grants.{asks_constraint, IsChildOf}
 use Rattle.grant_table.specs.declared.rows.GrantRow.{GrantRow}
-use Rattle.steps_stub.specs.declared.questions.OfGrants.{OfGrants}
-use Rattle.steps_stub.specs.declared.questions.OfGrants.TheVariants as of_grants
+use Rattle.account_steps.specs.declared.questions.OfGrants.{OfGrants}
+use Rattle.account_steps.specs.declared.questions.OfGrants.TheVariants as of_grants
 use Rattle.access_explain.specs.declared.marks.Mark.{Mark}
 use Rattle.access_explain.specs.declared.marks.Mark.TheVariants as mark
 

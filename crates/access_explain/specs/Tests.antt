@@ -14,7 +14,7 @@ use Rattle.access_explain.specs.declared.findings.Finding.{Finding}
 use Rattle.access_explain.specs.declared.findings.Runs.{Runs}
 use Rattle.access_explain.specs.declared.subjects.Subject.{Subject}
 use Rattle.policy_doc.specs.declared.policies.Policy.{Policy}
-use Rattle.steps_stub.specs.declared.questions.Question.{Question}
+use Rattle.account_steps.specs.declared.questions.Question.{Question}
 use Rattle.access_explain.specs.Findings.{Basis, of_the_key, of_the_caller, of_the_ceiling, grants_asked, AreGrantMarks}
 use Rattle.access_explain.specs.Marks.{IsMark, IsKeyMark}
 use Rattle.access_explain.specs.Runs.{OneByOne}

@@ -1,15 +1,15 @@
 // Certificates.
 ghost use Rattle.std.specs.Prelude.{◌≡◌, ◌↔◌, IsTrue, IfOk};
-ghost use Rattle.core_stub.specs.Decide.{asked_at, IsProper};
+ghost use Rattle.account_core.specs.Decide.{asked_at, IsProper};
 ghost use Rattle.access_explain.specs.Certificates.{AreFindings, none_denies, early_one, IsCertificateOf, IsCertificateBy, IsCertificate};
 ghost use Rattle.access_explain.specs.Findings.{basis_of};
 
 use crate::equality::same_findings;
 use crate::findings::{Finding, FindingList, find};
-use core_stub::{Account, Ask, Asked};
+use account_core::{Account, Ask, Asked};
 use kms_names::NoMemory;
 use std::alloc::Global;
-use steps_stub::Question;
+use account_steps::Question;
 
 /// Why a request was served or denied by the step of authority.
 #[derive(Drop)]

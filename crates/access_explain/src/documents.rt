@@ -7,7 +7,7 @@ ghost use Rattle.authority.specs.Setting.{identity_at, policies_of, callers_poli
 ghost use Rattle.access_explain.specs.Findings.{policy_statements};
 
 use authority::Identity;
-use core_stub::Account;
+use account_core::Account;
 use kms_names::{KeyId, NoMemory, Principal, Text, write_principal};
 use policy_doc::{Policy, PolicyFault, PolicyKind, StatementList, read_policy};
 use std::alloc::Global;

@@ -2,8 +2,7 @@
 ghost use Rattle.std.specs.Prelude.{◌≡◌, ◌↔◌, ℕ, List, IsTrue, IfOk};
 ghost use Rattle.account_rows.specs.History.{replay};
 ghost use Rattle.authority.specs.Setting.{is_root};
-ghost use Rattle.core_stub.specs.Account as seen;
-ghost use Rattle.steps_stub.specs.declared.questions.Question.{Question as QuestionValue};
+ghost use Rattle.account_steps.specs.declared.questions.Question.{Question as QuestionValue};
 ghost use Rattle.access_explain.specs.Findings.{Basis, basis_of, Fits, IsFinding};
 ghost use Rattle.access_explain.specs.Grounds.{IsFirst, rows_for};
 ghost use Rattle.access_explain.specs.Tests.{AreRuns, AreTested, finding_of};
@@ -15,12 +14,12 @@ use crate::grounds::{Ground, Tested};
 use crate::marks::{Mark, MarkList};
 use crate::runs::{Run, some_hits};
 use crate::subjects::{Subject, subject_of};
-use core_stub::Account;
+use account_core::Account;
 use kms_names::{Action, KeyId, NoMemory, Principal, Text};
 use policy_doc::{Policy, PolicyKind};
 use std::alloc::Global;
 use std::marker::Model;
-use steps_stub::Question;
+use account_steps::Question;
 
 /// What is found of a question.
 #[derive(Drop)]

@@ -1,8 +1,10 @@
 // The marks of grants.
-ghost use Rattle.std.specs.Prelude.{◌≡◌, ◌↔◌, IsTrue, IfOk, filter};
-ghost use Rattle.grant_table.specs.Grants.{asks_constraint, is_of_key};
+ghost use Rattle.std.specs.Prelude.{◌≡◌, ◌↔◌, IsTrue, IfOk, filter, option_map};
+ghost use Rattle.grant_table.specs.Grants.{asks_constraint, is_of_key, grant_of_key};
+ghost use Rattle.grant_table.specs.declared.rows.GrantRow.{GrantRow as Grant};
+ghost use Rattle.account_laws.specs.Laws.{AreInOrder};
 ghost use Rattle.account_rows.specs.History.{replay};
-ghost use Rattle.steps_stub.specs.Authority.{MayRetire};
+ghost use Rattle.account_steps.specs.Authority.{MayRetire};
 ghost use Rattle.access_explain.specs.Findings.{AreGrantMarks, IsRetirable, Retires};
 ghost use Rattle.access_explain.specs.declared.subjects.Subject.TheVariants as about;
 ghost use Rattle.access_explain.specs.Marks.{needed, Suits, IsGrantMark};
@@ -10,11 +12,12 @@ ghost use Rattle.access_explain.specs.Runs.{OneByOne};
 
 use crate::marks::{Mark, MarkList};
 use crate::subjects::Subject;
-use core_stub::Account;
+use account_core::Account;
+use account_laws::rows_stand_in_order;
 use grant_table::{GrantRow, same_principal};
 use kms_names::{GrantId, GrantOp, KeyId, NoMemory, Principal};
 use std::alloc::Global;
-use steps_stub::{OfGrants, Question};
+use account_steps::{OfGrants, Question};
 
 // Whether a grant's constraint is asked of an operation's context.
 fn is_constrained(op: GrantOp) -> bool
@@ -68,6 +71,16 @@ fn grant_mark_of(caller: &Principal, op: GrantOp, grants: &OfGrants, row: &Grant
     }
 }
 
+// The first grant of a key that was made behind a place. The grants stand in order of making.
+fn next_grant<'a>(account: &'a Account, key: &KeyId, at: Option<u64>) -> Option<&'a GrantRow>
+    ensures first { option_map (λ row. row.now) result ≡ grant_of_key (replay account.now.entries).grants key.now at }
+    ensures order { AreInOrder (λ (row : Grant). row.born) (replay account.now.entries).grants }
+{
+    let _entries = account.entries();
+    rows_stand_in_order();
+    account.key_grant(key, at)
+}
+
 // The marks of the grants of a key, for an operation.
 fn marks_for(
     alloc: Global,
@@ -81,7 +94,7 @@ fn marks_for(
 {
     let mut marks = Vec::new(alloc);
     let mut at = None;
-    while let Some(row) = account.key_grant(key, at) {
+    while let Some(row) = next_grant(account, key, at) {
         at = Some(row.born);
         marks.push(grant_mark_of(caller, op, asked, row))?;
     }
@@ -132,7 +145,7 @@ fn retires(account: &Account, key: &KeyId, grant: &GrantId, caller: &Principal) 
     ensures { IsTrue result ↔ Retires caller.now (replay account.now.entries).grants (about.Retiring key.now grant.now) }
 {
     let mut at = None;
-    while let Some(row) = account.key_grant(key, at) {
+    while let Some(row) = next_grant(account, key, at) {
         if is_retirable(row, grant, caller) {
             return true;
         }

@@ -3,7 +3,7 @@ ghost use Rattle.std.specs.Prelude.{◌≡◌};
 ghost use Rattle.access_explain.specs.Findings.{subject_of};
 
 use kms_names::{GrantId, KeyId};
-use steps_stub::{OfGrants, Question};
+use account_steps::{OfGrants, Question};
 
 /// What a question is about.
 #[derive(Clone, Copy)]

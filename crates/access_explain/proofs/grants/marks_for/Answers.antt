@@ -16,14 +16,14 @@ loop-row-init c =
 
 pub loop-row-smaller : goal.loop-row-smaller
 loop-row-smaller c =
-    fewer c.args.key.now (replay c.args.account.now.entries).grants c.in-Some.ensures.grants c.loop-row.at c.in-Some.row.now (sym c.in-Some.ensures.first)
+    fewer c.args.key.now (replay c.args.account.now.entries).grants c.in-Some.ensures.order c.loop-row.at c.in-Some.row.now (sym c.in-Some.ensures.first)
 
 pub loop-row-preserved : goal.loop-row-preserved
 loop-row-preserved c =
     let grants = (replay c.args.account.now.entries).grants in
     let pushed : c.push.new.self.items ≡ c.loop-row.marks.items ++ c.grant_mark_of.result ∷ [] = search rules in
     gone_on (IsGrantMark c.args.caller.now c.args.op c.args.asked.now) (own c.args.key.now grants) _ _ c.loop-row.marks.items c.push.new.self.items c.in-Some.row.now c.grant_mark_of.result
-    (on c.args.key.now grants c.in-Some.ensures.grants c.loop-row.at c.in-Some.row.now (sym c.in-Some.ensures.first)) pushed c.grant_mark_of.ensures c.loop-row.invariant
+    (on c.args.key.now grants c.in-Some.ensures.order c.loop-row.at c.in-Some.row.now (sym c.in-Some.ensures.first)) pushed c.grant_mark_of.ensures c.loop-row.invariant
 
 pub returns : goal.returns
 returns c =

@@ -15,18 +15,18 @@ pub returns-then-is_retirable : goal.returns-then-is_retirable
 returns-then-is_retirable c =
     let P = IsRetirable c.args.caller.now c.args.grant.now in
     let grants = (replay c.args.account.now.entries).grants in
-    (λ t. found_one P (own c.args.key.now grants) _ _ c.in-Some.row.now (on c.args.key.now grants c.in-Some.ensures.grants c.loop-row.at c.in-Some.row.now (sym c.in-Some.ensures.first))
+    (λ t. found_one P (own c.args.key.now grants) _ _ c.in-Some.row.now (on c.args.key.now grants c.in-Some.ensures.order c.loop-row.at c.in-Some.row.now (sym c.in-Some.ensures.first))
     c.loop-row.invariant (c.is_retirable.ensures.0 c.if-is_retirable.true), λ any. refl)
 
 pub loop-row-smaller : goal.loop-row-smaller
 loop-row-smaller c =
-    fewer c.args.key.now (replay c.args.account.now.entries).grants c.in-Some.ensures.grants c.loop-row.at c.in-Some.row.now (sym c.in-Some.ensures.first)
+    fewer c.args.key.now (replay c.args.account.now.entries).grants c.in-Some.ensures.order c.loop-row.at c.in-Some.row.now (sym c.in-Some.ensures.first)
 
 pub loop-row-preserved : goal.loop-row-preserved
 loop-row-preserved c =
     let P = IsRetirable c.args.caller.now c.args.grant.now in
     let grants = (replay c.args.account.now.entries).grants in
-    passed_one P (own c.args.key.now grants) _ _ c.in-Some.row.now (on c.args.key.now grants c.in-Some.ensures.grants c.loop-row.at c.in-Some.row.now (sym c.in-Some.ensures.first))
+    passed_one P (own c.args.key.now grants) _ _ c.in-Some.row.now (on c.args.key.now grants c.in-Some.ensures.order c.loop-row.at c.in-Some.row.now (sym c.in-Some.ensures.first))
     c.loop-row.invariant (λ p. let bad = sym (c.is_retirable.ensures.1 p) in cc)
 
 pub returns : goal.returns

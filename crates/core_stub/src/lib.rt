@@ -1,6 +1,0 @@
-//! A stub.
-#![tactic(auto)]
-
-mod account;
-
-pub use account::{Account, Ask, Asked};
