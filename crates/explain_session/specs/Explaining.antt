@@ -58,14 +58,14 @@ exception_in other = codes "Ok"
 -- a request that is decided here: the reply, and what comes after it
 pub record Answers (met : Explainer) (x : Ask) (answer : Reply) (t : Explainer) : Type 0 where
   pub reply : answer ≡ (decided met x).reply
-  pub then : t ≡ after met x
+  pub next : t ≡ after met x
 
 -- the line of a request: its certificate at the account where it is decided, with the exception of its reply
 pub record ExplainsAt (met : Explainer) (x : Ask) (line : List ℕ) (t : Explainer) : Type 0 where
   pub certificate : Certificate
   pub is : IsCertificate met.facts met.entries x certificate
   pub text : line ≡ certificate_text certificate (exception_in (decided met x).reply)
-  pub then : t ≡ after met x
+  pub next : t ≡ after met x
 
 -- the line of what is refused before the account is asked, by its exception
 abbrev pub early_line : List ℕ → List ℕ

@@ -1,5 +1,5 @@
 -- How a session that is explained ends.
-use Rattle.std.specs.Prelude.{◌≡◌, ◌<◌, ◌⊎◌, ◌∷◌, ◌++◌, ℕ, List, [], Bool, Option}
+use Rattle.std.specs.Prelude.{◌≡◌, ◌<◌, ◌⊎◌, ◌∷◌, ◌++◌, ℕ, List, [], Bool, false, Option}
 use Rattle.kms_names.specs.Moment.{year_10000}
 use Rattle.kms_io.specs.Wire.{Wire, TellsMore}
 use Rattle.account_steps.specs.declared.facts.RealmFacts.{RealmFacts}
@@ -7,13 +7,22 @@ use Rattle.session_front.specs.declared.ends.SessionEnd.{SessionEnd}
 use Rattle.session_front.specs.declared.trust.Trust.{Trust}
 use Rattle.session_front.specs.Complete as front
 use Rattle.session_front.specs.Items.{Item, Cuts}
+use Rattle.session_front.specs.Sending.{Writes, WritesShort}
 use Rattle.session_front.specs.Session as session
 use Rattle.session_front.specs.Session.{outside}
+use Rattle.explain_session.specs.declared.session.Told.{Told}
+use Rattle.explain_session.specs.declared.session.Told.TheVariants.{Whole, Short, Lacking}
 use Rattle.explain_session.specs.Explaining.{Explainer, fresh, tells}
 
 -- what a link and a clock tell, and what the account is
 abbrev pub Outside : Type 0
 Outside = session.Outside Explainer
+
+-- what became of a line of this kind
+abbrev pub IsTold : (List ℕ → Type 0) → Wire → Told → Wire → Type 0
+IsTold Is old Whole new = Writes Is old new
+IsTold Is old Short new = WritesShort Is old new
+IsTold Is old Lacking new = new ≡ old
 
 -- the lines of a run over the items into which the bytes taken are cut, up to this rest, were written
 abbrev pub Explains : Trust → Outside → Outside → Bool → ℕ → List ℕ → Type 0

@@ -1,13 +1,12 @@
 // One connection, from its first byte to its end.
-ghost use Rattle.std.specs.Prelude.{◌≡◌, ◌+◌, ◌<◌, MatchBool, IfOk, OnErr, codes, true, false};
+ghost use Rattle.std.specs.Prelude.{◌≡◌, ◌+◌, ◌<◌, IfOk, codes, false};
 ghost use Rattle.kms_names.specs.Moment.{year_10000};
 ghost use Rattle.http_front.specs.Message.{Message, CutsOff};
 ghost use Rattle.session_front.specs.Callers.{IsOfAccount};
-ghost use Rattle.session_front.specs.Items.{whole, fault};
-ghost use Rattle.session_front.specs.Sending.{Writes, WritesShort};
+ghost use Rattle.session_front.specs.Items.{whole};
 ghost use Rattle.session_front.specs.Session.{outside};
 ghost use Rattle.explain_session.specs.Explaining.{Tells, early_line};
-ghost use Rattle.explain_session.specs.Session.{Outside, Explains, EndsBy, GoesOn, Explained};
+ghost use Rattle.explain_session.specs.Session.{Outside, IsTold, Explains, EndsBy, GoesOn, Explained};
 
 use crate::explainer::Explainer;
 use crate::lines::early_line;
@@ -44,8 +43,18 @@ fn line_of(
     }
 }
 
-// Writes the line of a message. It is false where the link failed; without memory for the line nothing is
-// written.
+// What became of a line.
+#[derive(Clone, Copy)]
+enum Told {
+    // It was written whole.
+    Whole,
+    // The link failed.
+    Short,
+    // There was no memory for it, and nothing of it was written.
+    Lacking,
+}
+
+// Writes the line of a message.
 fn tell_message<L: Link>(
     alloc: Global,
     trust: &Trust,
@@ -55,29 +64,35 @@ fn tell_message<L: Link>(
     cut: &Cut,
     buffer: &[u8],
     now: u64,
-) -> Result<bool, NoMemory>
+) -> Told
     requires now { now < year_10000 }
     requires trust { IsOfAccount explainer.old.facts.account trust.now }
     requires message { (m : Message) × CutsOff buffer.now cut.now m }
-    ensures told { (m : Message) → CutsOff buffer.now cut.now m → IfOk result (λ sent. MatchBool sent
-        (Writes (λ line. Tells explainer.old trust.now (whole m) now line explainer.new) (L.shows link.old) (L.shows link.new))
-        (WritesShort (λ line. Tells explainer.old trust.now (whole m) now line explainer.new) (L.shows link.old) (L.shows link.new))) }
-    ensures nothing { OnErr result (L.shows link.new ≡ L.shows link.old) }
+    ensures told { (m : Message) → CutsOff buffer.now cut.now m → IsTold (λ line. Tells explainer.old trust.now (whole m) now line explainer.new) (L.shows link.old) result (L.shows link.new) }
     ensures facts { explainer.new.facts ≡ explainer.old.facts }
 {
-    let line = line_of(alloc, trust, kept, explainer, cut, buffer, now)?;
-    Ok(send(link, line.as_slice()))
+    let Ok(line) = line_of(alloc, trust, kept, explainer, cut, buffer, now) else {
+        return Told::Lacking;
+    };
+    if send(link, line.as_slice()) {
+        Told::Whole
+    } else {
+        Told::Short
+    }
 }
 
-// Writes the line of bytes that are refused, in the same way.
-fn tell_fault<L: Link>(alloc: Global, link: &mut L) -> Result<bool, NoMemory>
-    ensures told { IfOk result (λ sent. MatchBool sent
-        (Writes (λ line. line ≡ early_line (codes "HttpFault")) (L.shows link.old) (L.shows link.new))
-        (WritesShort (λ line. line ≡ early_line (codes "HttpFault")) (L.shows link.old) (L.shows link.new))) }
-    ensures nothing { OnErr result (L.shows link.new ≡ L.shows link.old) }
+// Writes the line of bytes that are refused.
+fn tell_fault<L: Link>(alloc: Global, link: &mut L) -> Told
+    ensures { IsTold (λ line. line ≡ early_line (codes "HttpFault")) (L.shows link.old) result (L.shows link.new) }
 {
-    let line = early_line(alloc, "HttpFault")?;
-    Ok(send(link, line.as_slice()))
+    let Ok(line) = early_line(alloc, "HttpFault") else {
+        return Told::Lacking;
+    };
+    if send(link, line.as_slice()) {
+        Told::Whole
+    } else {
+        Told::Short
+    }
 }
 
 // Awaits one message and writes its line.
@@ -111,9 +126,9 @@ fn explain_one<L: Link, C: Clock>(
                 inbox.bytes(),
                 now,
             ) {
-                Ok(true) => {}
-                Ok(false) => return Some(SessionEnd::WriteFault),
-                Err(NoMemory) => return Some(SessionEnd::NoMemory),
+                Told::Whole => {}
+                Told::Short => return Some(SessionEnd::WriteFault),
+                Told::Lacking => return Some(SessionEnd::NoMemory),
             }
             inbox.drop_front(cut.len());
             if closes {
@@ -125,9 +140,9 @@ fn explain_one<L: Link, C: Clock>(
         Awaited::Bad(_fault) => {
             let _now = clock.now();
             match tell_fault(alloc, link) {
-                Ok(true) => Some(SessionEnd::Closed),
-                Ok(false) => Some(SessionEnd::WriteFault),
-                Err(NoMemory) => Some(SessionEnd::NoMemory),
+                Told::Whole => Some(SessionEnd::Closed),
+                Told::Short => Some(SessionEnd::WriteFault),
+                Told::Lacking => Some(SessionEnd::NoMemory),
             }
         }
         Awaited::End if inbox.is_empty() => Some(SessionEnd::Ended),

@@ -97,7 +97,7 @@ serves_item {S} {Step} {start} {old} {new} {count} {buffer} {reply} {more} item 
 }
 
 -- a message at the front of the buffer is cut off
-cuts_message : {S : Type 0} {Step : S → Item → ℕ → Bool → List ℕ → S → Type 0} {start old : Outside S} {count : ℕ} {buffer : List ℕ} {closes : Bool} (cut : Offsets) (m : Message) (s : Serves Step start old false count buffer) → CutsOff buffer cut m
+pub cuts_message : {S : Type 0} {Step : S → Item → ℕ → Bool → List ℕ → S → Type 0} {start old : Outside S} {count : ℕ} {buffer : List ℕ} {closes : Bool} (cut : Offsets) (m : Message) (s : Serves Step start old false count buffer) → CutsOff buffer cut m
     → closes ≡ closes_at count (whole m) → Cuts s.input closes (s.items ++ whole m ∷ []) (drop (size_of cut) buffer)
 cuts_message {buffer = buffer} cut m s cuts is =
     message s.cuts (sym (take-append-drop (size_of cut) buffer)) cuts.message (is ∙ ap (λ n. closes_at n (whole m)) (sym s.number))
