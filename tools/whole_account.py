@@ -279,13 +279,17 @@ class Whole(make_key_lives.Account):
         kind, wanted = grant["constraint"]
         return context == wanted if kind == "EncryptionContextEquals" else includes(context, wanted)
 
-    def may(self, action, key, alias=None, more=(), context=None, child=None):
-        """Whether the caller may do this to the key: no statement denies it, and a statement or a grant allows it."""
-        context = context or {}
+    def told_of(self, action, key, alias, more, context):
+        """What a request says of a key and of itself to conditions."""
         facts = self.facts(key, alias) + list(more)
         facts += [(f"kms:EncryptionContext:{name}", [context[name]]) for name in sorted(context)]
         facts += [("kms:EncryptionContextKeys", sorted(context))] if context else []
-        facts += [("kms:EncryptionAlgorithm", ["SYMMETRIC_DEFAULT"])] if action in WITH_ALGORITHM else []
+        return facts + ([("kms:EncryptionAlgorithm", ["SYMMETRIC_DEFAULT"])] if action in WITH_ALGORITHM else [])
+
+    def may(self, action, key, alias=None, more=(), context=None, child=None):
+        """Whether the caller may do this to the key: no statement denies it, and a statement or a grant allows it."""
+        context = context or {}
+        facts = self.told_of(action, key, alias, more, context)
         resource = arn(key["id"])
         policy = make_verdicts.verdict("key", key["policy"], self.caller, action, resource, facts)
         own = self.own_verdict(action, resource, facts)
@@ -304,6 +308,10 @@ class Whole(make_key_lives.Account):
         facts = self.facts() + list(more)
         if self.own_verdict(action, resource, facts) != "Allow" or self.stops(action, resource, facts):
             self.denied(action, resource)
+
+    def must_retire(self, grant):
+        if self.caller not in (ROOT, grant["retiring"]) and not (self.caller == grant["grantee"] and "RetireGrant" in grant["operations"]):
+            self.denied("RetireGrant", arn(grant["key"]))
 
     def tokens(self, body):
         for token in body.get("GrantTokens") or []:
@@ -693,8 +701,7 @@ class Whole(make_key_lives.Account):
             grant = self.live_grant(body["GrantId"])
             if grant is None or grant["key"] != key["id"]:
                 raise Refused("NotFoundException", "Not found: grant.")
-        if self.caller not in (ROOT, grant["retiring"]) and not (self.caller == grant["grantee"] and "RetireGrant" in grant["operations"]):
-            self.denied("RetireGrant", arn(grant["key"]))
+        self.must_retire(grant)
         return self.drop(grant, body)
 
     def RevokeGrant(self, body):

@@ -23,7 +23,8 @@ use Rattle.account_steps.specs.Steps.{unless}
 use Rattle.account_steps.specs.Parts.{Outcome, Decided, refuses, decided_read, decided_change, entry_of}
 use Rattle.account_steps.specs.Settling.{Settles, Makes}
 use Rattle.account_core.specs.Operations.{change_outcome, read_outcome}
-use Rattle.account_core.specs.Decide.{lacking, decide_body, decide, decision_by, decision_of}
+use Rattle.account_core.specs.declared.asking.Asked.TheVariants as asked
+use Rattle.account_core.specs.Decide.{lacking, decide_body, decide, decision_by, decision_of, asked_of_body, asked_by, asked_at}
 
 module _ (facts : RealmFacts) (history : List Entry) (x : Ask) (places : Places) where
   -- the history is too short
@@ -55,6 +56,19 @@ module _ (facts : RealmFacts) (history : List Entry) (x : Ask) (places : Places)
       ap (λ (v : View). decided_change v.moment (change_outcome v body) places) seen
       ∙ ap (λ (first : Option Refusal). decided_change at.moment (unless first (change_outcome at body)) places) enough
       ∙ ap (λ (b : AskBody). decide_body facts history x b places) (sym is)
+
+-- ---- what is asked
+
+module _ (facts : RealmFacts) (history : List Entry) (x : Ask) where
+  pub asks_nothing : (why : Refusal) → Some why ≡ lacking (length history) x.after → asked.Early ≡ asked_at facts history x
+  unfolding asked_at
+  asks_nothing why is = ap (λ (first : Option Refusal). asked_by (unless first (asked_of_body (view_of facts history x no_places) x.body))) is
+
+  pub asks_of_body : (view : View) → None ≡ lacking (length history) x.after → view ≡ view_of facts history x no_places → asked_by (asked_of_body view x.body) ≡ asked_at facts history x
+  unfolding asked_at
+  asks_of_body view enough seen =
+      ap (λ (v : View). asked_by (asked_of_body v x.body)) seen
+      ∙ ap (λ (first : Option Refusal). asked_by (unless first (asked_of_body (view_of facts history x no_places) x.body))) enough
 
 -- ---- answers that stop
 

@@ -1,5 +1,5 @@
 -- What the account of one thread answers.
-use Rattle.std.specs.Prelude.{◌≡◌, ◌==◌, ◌<◌, ℕ, List, [], ◌∷◌, ◌++◌, length, nat_lt, if◌then◌else◌, Option, Some, None, Ok}
+use Rattle.std.specs.Prelude.{◌≡◌, ◌==◌, ◌<◌, ℕ, List, [], ◌∷◌, ◌++◌, length, nat_lt, if◌then◌else◌, Option, Some, None, Result, Ok, Err}
 use Rattle.kms_names.specs.Moment.{year_10000}
 use Rattle.kms_json.specs.declared.asks.Ask.{Ask}
 use Rattle.kms_json.specs.declared.asks.AskBody.{AskBody}
@@ -20,9 +20,12 @@ use Rattle.account_steps.specs.Places.{no_places}
 use Rattle.account_steps.specs.declared.places.Places.{Places}
 use Rattle.account_rows.specs.History.{housekeeping_of}
 use Rattle.account_steps.specs.Steps.{unless}
-use Rattle.account_steps.specs.View.{view_of}
+use Rattle.account_steps.specs.View.{View, view_of}
 use Rattle.account_steps.specs.Parts.{Decided, decided_read, decided_change}
-use Rattle.account_core.specs.Operations.{change_outcome, read_outcome}
+use Rattle.account_steps.specs.declared.questions.Question.{Question as Posed}
+use Rattle.account_core.specs.declared.asking.Asked.{Asked}
+use Rattle.account_core.specs.declared.asking.Asked.TheVariants as asked
+use Rattle.account_core.specs.Operations.{change_outcome, read_outcome, change_asked, read_asked}
 
 -- the history has fewer entries than the request asks for
 abbrev pub lacking : ℕ → Option ℕ → Option Refusal
@@ -70,3 +73,17 @@ pub data IsNext (facts : RealmFacts) (history : List Entry) (entry : Entry) : Ty
 pub data IsLawful (facts : RealmFacts) : List Entry → Type 0 where
   empty : IsLawful facts []
   longer : {history : List Entry} (entry : Entry) → IsLawful facts history → IsNext facts history entry → IsLawful facts (history ++ entry ∷ [])
+
+-- ---- what is asked of authority
+
+abbrev pub asked_of_body : View → AskBody → Result (List Posed) Refusal
+asked_of_body view (ask.Change body) = change_asked view body
+asked_of_body view (ask.Read body) = read_asked view body
+
+abbrev pub asked_by : Result (List Posed) Refusal → Asked
+asked_by (Ok questions) = asked.Questions questions
+asked_by (Err why) = asked.Early
+
+-- what the step of authority asks about a request at this history: nothing where the history is too short, or something that is named isn't there
+unfoldable pub asked_at : RealmFacts → List Entry → Ask → Asked
+asked_at facts history x = asked_by (unless (lacking (length history) x.after) (asked_of_body (view_of facts history x no_places) x.body))

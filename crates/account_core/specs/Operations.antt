@@ -1,5 +1,5 @@
 -- The operations, one line each.
-use Rattle.std.specs.Prelude.{Option, Result}
+use Rattle.std.specs.Prelude.{List, Option, Result}
 use Rattle.kms_json.specs.declared.asks.Changing.{Changing}
 use Rattle.kms_json.specs.declared.asks.Changing.TheVariants as changing
 use Rattle.kms_json.specs.declared.asks.Reading.{Reading}
@@ -8,7 +8,8 @@ use Rattle.kms_json.specs.declared.refusals.Refusal.{Refusal}
 use Rattle.account_rows.specs.declared.entries.What.{What}
 use Rattle.account_steps.specs.declared.places.Uses.{Uses}
 use Rattle.account_steps.specs.View.{View}
-use Rattle.account_steps.specs.Parts.{Outcome, reads, changes}
+use Rattle.account_steps.specs.declared.questions.Question.{Question as Posed}
+use Rattle.account_steps.specs.Parts.{Outcome, reads, changes, questions_of}
 use Rattle.account_keys.specs.Keys.{creates_key, describes_key}
 use Rattle.account_keys.specs.Policies.{puts_policy, gets_policy}
 use Rattle.account_keys.specs.declared.key_changes.KeyChange.TheVariants as change
@@ -64,3 +65,44 @@ read_outcome view (reading.GenerateRandom size custom_key_store recipient) = rea
 read_outcome view (reading.GenerateMac x) = reads view (generates_mac view x)
 read_outcome view (reading.VerifyMac x) = reads view (verifies_mac view x)
 read_outcome view (reading.ListResourceTags key_id page) = reads view (lists_tags view key_id page)
+
+-- what the step of authority asks about them, where all that they name is there
+abbrev pub change_asked : View → Changing → Result (List Posed) Refusal
+change_asked view (changing.CreateKey x) = questions_of view (creates_key view x).parts
+change_asked view (changing.PutKeyPolicy key_id text bypass) = questions_of view (puts_policy view key_id text bypass).parts
+change_asked view (changing.UpdateKeyDescription key_id text) = questions_of view (changes_key view key_id (change.Describe text)).parts
+change_asked view (changing.EnableKey key_id) = questions_of view (changes_key view key_id change.Enable).parts
+change_asked view (changing.DisableKey key_id) = questions_of view (changes_key view key_id change.Disable).parts
+change_asked view (changing.ScheduleKeyDeletion key_id days) = questions_of view (changes_key view key_id (change.ScheduleDeletion days)).parts
+change_asked view (changing.CancelKeyDeletion key_id) = questions_of view (changes_key view key_id change.CancelDeletion).parts
+change_asked view (changing.EnableKeyRotation key_id period) = questions_of view (changes_key view key_id (change.RotateEvery period)).parts
+change_asked view (changing.DisableKeyRotation key_id) = questions_of view (changes_key view key_id change.RotateNoMore).parts
+change_asked view (changing.RotateKeyOnDemand key_id) = questions_of view (changes_key view key_id change.RotateNow).parts
+change_asked view (changing.CreateAlias name key_id) = questions_of view (changes_alias view name (alias.Create key_id)).parts
+change_asked view (changing.UpdateAlias name key_id) = questions_of view (changes_alias view name (alias.Update key_id)).parts
+change_asked view (changing.DeleteAlias name) = questions_of view (changes_alias view name alias.Delete).parts
+change_asked view (changing.CreateGrant x) = questions_of view (creates_grant view x).parts
+change_asked view (changing.RetireGrant grant dry_run) = questions_of view (retires_grant view grant dry_run).parts
+change_asked view (changing.RevokeGrant key_id grant_id dry_run) = questions_of view (revokes_grant view key_id grant_id dry_run).parts
+change_asked view (changing.TagResource key_id tags) = questions_of view (tags_key view key_id tags).parts
+change_asked view (changing.UntagResource key_id keys) = questions_of view (untags_key view key_id keys).parts
+
+abbrev pub read_asked : View → Reading → Result (List Posed) Refusal
+read_asked view (reading.DescribeKey key_id tokens) = questions_of view (describes_key view key_id tokens).parts
+read_asked view (reading.ListKeys page) = questions_of view (lists_in view all.Keys page).parts
+read_asked view (reading.ListAliases key_id page) = questions_of view (lists_in view (all.Aliases key_id) page).parts
+read_asked view (reading.ListRetirableGrants retiring page) = questions_of view (lists_in view (all.RetirableGrants retiring) page).parts
+read_asked view (reading.ListKeyPolicies key_id page) = questions_of view (lists_on view key_id of.Policies page).parts
+read_asked view (reading.ListKeyRotations key_id page) = questions_of view (lists_on view key_id of.Rotations page).parts
+read_asked view (reading.ListGrants x) = questions_of view (lists_on view x.key_id (of.Grants x.grant_id x.grantee) x.page).parts
+read_asked view (reading.GetKeyPolicy key_id) = questions_of view (gets_policy view key_id).parts
+read_asked view (reading.GetKeyRotationStatus key_id) = questions_of view (gets_rotation_status view key_id).parts
+read_asked view (reading.Encrypt x) = questions_of view (encrypts view x).parts
+read_asked view (reading.Decrypt x) = questions_of view (decrypts view x).parts
+read_asked view (reading.ReEncrypt x) = questions_of view (re_encrypts view x).parts
+read_asked view (reading.GenerateDataKey x recipient) = questions_of view (generates_data_key view x (form.Plaintext recipient)).parts
+read_asked view (reading.GenerateDataKeyWithoutPlaintext x) = questions_of view (generates_data_key view x form.Sealed).parts
+read_asked view (reading.GenerateRandom size custom_key_store recipient) = questions_of view (generates_random view size custom_key_store recipient).parts
+read_asked view (reading.GenerateMac x) = questions_of view (generates_mac view x).parts
+read_asked view (reading.VerifyMac x) = questions_of view (verifies_mac view x).parts
+read_asked view (reading.ListResourceTags key_id page) = questions_of view (lists_tags view key_id page).parts

@@ -3,14 +3,16 @@ ghost use Rattle.std.specs.Prelude.{◌≡◌, ◌<◌, ◌++◌, ◌∷◌, [],
 ghost use Rattle.kms_names.specs.Moment.{year_10000};
 
 use crate::Decision;
-use crate::decide::{decision_from, lacking_entries};
+use crate::asking::{Asked, asked_about};
+use crate::decide::{asked_by, decision_from, lacking_entries};
 use crate::held_facts::HeldFacts;
 use crate::operations::{change_body, read_body};
 use account_rows::{Entry, Rows};
 use account_steps::{Places, RealmFacts, Stop, View};
 use draw_lines::DrawLine;
+use grant_table::GrantRow;
 use kms_json::{Ask, AskBody, Reply};
-use kms_names::NoMemory;
+use kms_names::{KeyId, NoMemory, Text};
 use std::alloc::Global;
 use std::marker::Model;
 
@@ -46,7 +48,10 @@ impl Account {
     ghost use Rattle.std.specs.Prelude.{OnOk, OnErr};
     ghost use Rattle.account_steps.specs.Places.{places_of, line_at, IsLineOf, IsWithin};
     ghost use Rattle.account_steps.specs.View.{view_of};
-    ghost use Rattle.account_core.specs.Decide.{decide, decision_of, IsProper, IsNext, IsLawful};
+    ghost use Rattle.std.specs.Prelude.{slice_get, option_map};
+    ghost use Rattle.account_rows.specs.History.{replay, key_with};
+    ghost use Rattle.grant_table.specs.Grants.{grant_of_key};
+    ghost use Rattle.account_core.specs.Decide.{decide, decision_of, asked_at, IsProper, IsNext, IsLawful};
 
     /// The account of these facts with no entries.
     pub fn empty(alloc: Global, facts: RealmFacts) -> Result<Account, NoMemory>
@@ -131,6 +136,54 @@ impl Account {
             Err(Stop::Refused(refusal)) => Ok(Decision::Refused(Reply::Refused(refusal))),
             Err(Stop::NoMemory) => Err(NoMemory),
         }
+    }
+
+    /// What the step of authority asks about a request: nothing where the request is refused before it, and else its questions
+    /// in order, as policies and grants are asked them (IAM User Guide, "Policy evaluation logic"). The time grows with the number
+    /// of the aliases of the keys that it is about.
+    pub fn questions(&self, alloc: Global, ask: &Ask) -> Result<Asked, NoMemory>
+        requires proper { IsProper self.now.facts ask.now }
+        ensures { IfOk result (λ asked. asked ≡ asked_at self.now.facts self.now.entries ask.now) }
+    {
+        if let Some(_refusal) = lacking_entries(self.rows.entries(), ask.after) {
+            return Ok(Asked::Early);
+        }
+        let view = self.view(alloc, ask, Places::NONE)?;
+        asked_by(asked_about(alloc, &view, &ask.body))
+    }
+
+    /// The text of a key's policy; `None` where no row of the key is there. It takes no memory.
+    pub fn policy_text(&self, key: &KeyId) -> Option<&Text>
+        ensures { option_map (λ text. text.now) result ≡ option_map (λ row. row.policy) (key_with (replay self.now.entries).keys key.now) }
+    {
+        match self.rows.key(key) {
+            Some(held) => Some(&held.row().policy),
+            None => None,
+        }
+    }
+
+    /// The first grant of a key, in order of making, that was made behind a place, or the first of all. It takes no memory.
+    pub fn key_grant(&self, key: &KeyId, after: Option<u64>) -> Option<&GrantRow>
+        ensures { option_map (λ grant. grant.now) result ≡ grant_of_key (replay self.now.entries).grants key.now after }
+    {
+        self.rows.grants().of_key(key, after)
+    }
+
+    /// The entry at a place, counted from 0, and `None` past the last one. It takes no memory.
+    pub fn entry(&self, place: u64) -> Option<&Entry>
+        ensures { option_map (λ entry. entry.now) result ≡ slice_get self.now.entries place }
+    {
+        self.rows.entry(place)
+    }
+
+    /// The same account once more. Nothing of it is copied.
+    pub fn share(&self) -> Result<Account, NoMemory>
+        ensures { IfOk result (λ a. a ≡ self.now) }
+    {
+        Ok(Account {
+            facts: self.facts.share()?,
+            rows: self.rows.share()?,
+        })
     }
 
     // What the steps of a request's decision go by.

@@ -5,6 +5,7 @@
 #![tactic(auto)]
 
 mod account;
+mod asking;
 mod decide;
 mod held_facts;
 mod operations;
@@ -12,7 +13,8 @@ mod threads;
 
 pub use account::Account;
 pub use account_rows::{Entry, What};
-pub use account_steps::{Places, RealmFacts};
+pub use account_steps::{OfGrants, Places, Question, QuestionList, RealmFacts};
+pub use asking::Asked;
 pub use authority::{Identity, IdentityList, PolicyList};
 pub use decide::Decision;
 pub use draw_lines::DrawLine;

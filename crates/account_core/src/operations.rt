@@ -46,7 +46,7 @@ fn change_key(
 }
 
 // The alias name that a request gives.
-fn alias_name(alloc: Global, text: &Text) -> Result<AliasName, NoMemory>
+pub(crate) fn alias_name(alloc: Global, text: &Text) -> Result<AliasName, NoMemory>
     requires { is_alias_text text.now ≡ true }
     ensures { IfOk result (λ name. name ≡ text.now) }
 {

@@ -6,7 +6,8 @@ ghost use Rattle.account_crypto.specs.Crypto.{generates_data_key};
 use crate::crypto::{draw, seal};
 use account_rows::Lent;
 use account_steps::{
-    Named, Reads, Request, Stop, Uses, View, key_of, of_context, other_kind, refuse, unsupported,
+    Asking, Named, Questions, Reads, Request, Stop, Uses, View, key_of, of_context, other_kind,
+    refuse, unsupported,
 };
 use draw_lines::DrawLine;
 use hmac_keys::KeyKind;
@@ -116,11 +117,10 @@ impl<'a> Request for GeneratingDataKey<'a> {
         key_of(alloc, self.view, &self.request.key_id)
     }
 
-    fn authorize(&self, alloc: Global, found: &Named<'a>) -> Result<(), Stop> {
+    fn questions<'q>(&'q self, found: &'q Named<'a>) -> Questions<'q> {
         let row = found.row.row();
         let said = of_context(self.view, row, &found.alias, &self.request.context);
-        self.view
-            .authorize_on(alloc, self.form.action(), &found.row, &said)
+        Asking::on_key(self.form.action(), &found.row, said).alone()
     }
 
     fn tokens(&self) -> &[Text] {

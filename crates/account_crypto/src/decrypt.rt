@@ -2,7 +2,8 @@
 ghost use Rattle.account_crypto.specs.Crypto.{decrypts};
 
 use account_steps::{
-    Reads, Request, Sealed, Stop, Uses, View, find_source, of_context, refuse, unfit, unsupported,
+    Asking, Questions, Reads, Request, Sealed, Stop, Uses, View, find_source, of_context, refuse,
+    unfit, unsupported,
 };
 use draw_lines::DrawLine;
 use kms_json::{Decrypt, Reply, Unsupported};
@@ -41,15 +42,14 @@ impl<'a> Request for Decrypting<'a> {
         )
     }
 
-    fn authorize(&self, alloc: Global, found: &Sealed<'a>) -> Result<(), Stop> {
+    fn questions<'q>(&'q self, found: &'q Sealed<'a>) -> Questions<'q> {
         let said = of_context(
             self.view,
             found.lent().row(),
             found.alias(),
             &self.request.context,
         );
-        self.view
-            .authorize_on(alloc, Action::Decrypt, found.lent(), &said)
+        Asking::on_key(Action::Decrypt, found.lent(), said).alone()
     }
 
     fn tokens(&self) -> &[Text] {

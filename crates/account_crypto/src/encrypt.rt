@@ -3,7 +3,9 @@ ghost use Rattle.std.specs.Prelude.{◌≤◌, length};
 ghost use Rattle.account_crypto.specs.Crypto.{encrypts};
 
 use crate::crypto::{ONE_IV, seal};
-use account_steps::{Named, Reads, Request, Stop, Uses, View, key_of, of_context, refuse, unfit};
+use account_steps::{
+    Asking, Named, Questions, Reads, Request, Stop, Uses, View, key_of, of_context, refuse, unfit,
+};
 use draw_lines::DrawLine;
 use kms_json::{Encrypt, Reply};
 use kms_names::{Action, NoMemory, Text};
@@ -37,11 +39,10 @@ impl<'a> Request for Encrypting<'a> {
         key_of(alloc, self.view, &self.request.key_id)
     }
 
-    fn authorize(&self, alloc: Global, found: &Named<'a>) -> Result<(), Stop> {
+    fn questions<'q>(&'q self, found: &'q Named<'a>) -> Questions<'q> {
         let row = found.row.row();
         let said = of_context(self.view, row, &found.alias, &self.request.context);
-        self.view
-            .authorize_on(alloc, Action::Encrypt, &found.row, &said)
+        Asking::on_key(Action::Encrypt, &found.row, said).alone()
     }
 
     fn tokens(&self) -> &[Text] {

@@ -2,7 +2,9 @@
 ghost use Rattle.std.specs.Prelude.{◌≡◌};
 ghost use Rattle.account_crypto.specs.Crypto.{wrong_mac, generates_mac, verifies_mac};
 
-use account_steps::{Named, Reads, Request, Stop, Uses, View, key_of, of_mac, refuse, unfit_mac};
+use account_steps::{
+    Asking, Named, Questions, Reads, Request, Stop, Uses, View, key_of, of_mac, refuse, unfit_mac,
+};
 use draw_lines::DrawLine;
 use hmac_keys::{mac_of, verify_mac};
 use key_states::KeyRow;
@@ -36,11 +38,10 @@ impl<'a> Request for GeneratingMac<'a> {
         key_of(alloc, self.view, &self.request.key_id)
     }
 
-    fn authorize(&self, alloc: Global, found: &Named<'a>) -> Result<(), Stop> {
+    fn questions<'q>(&'q self, found: &'q Named<'a>) -> Questions<'q> {
         let row = found.row.row();
         let said = of_mac(self.view, row, &found.alias, &self.request.algorithm);
-        self.view
-            .authorize_on(alloc, Action::GenerateMac, &found.row, &said)
+        Asking::on_key(Action::GenerateMac, &found.row, said).alone()
     }
 
     fn tokens(&self) -> &[Text] {
@@ -129,11 +130,10 @@ impl<'a> Request for VerifyingMac<'a> {
         key_of(alloc, self.view, &self.request.key_id)
     }
 
-    fn authorize(&self, alloc: Global, found: &Named<'a>) -> Result<(), Stop> {
+    fn questions<'q>(&'q self, found: &'q Named<'a>) -> Questions<'q> {
         let row = found.row.row();
         let said = of_mac(self.view, row, &found.alias, &self.request.algorithm);
-        self.view
-            .authorize_on(alloc, Action::VerifyMac, &found.row, &said)
+        Asking::on_key(Action::VerifyMac, &found.row, said).alone()
     }
 
     fn tokens(&self) -> &[Text] {

@@ -3,7 +3,9 @@ ghost use Rattle.std.specs.Prelude.{◌≤◌};
 ghost use Rattle.account_crypto.specs.Crypto.{generates_random};
 
 use crate::crypto::draw;
-use account_steps::{Reads, Request, Stop, Uses, View, of_none, refuse, unsupported};
+use account_steps::{
+    Asking, Questions, Reads, Request, Stop, Uses, View, of_none, refuse, unsupported,
+};
 use draw_lines::DrawLine;
 use kms_json::{Reply, Unsupported};
 use kms_names::{Action, Bytes, NoMemory, Text};
@@ -44,9 +46,12 @@ impl<'a> Request for GeneratingRandom<'a> {
         Ok(())
     }
 
-    fn authorize(&self, alloc: Global, _found: &()) -> Result<(), Stop> {
-        self.view
-            .authorize(alloc, Action::GenerateRandom, "*", &of_none())
+    fn questions<'q>(&'q self, _found: &'q ()) -> Questions<'q> {
+        let asking = Asking::OnAll {
+            action: Action::GenerateRandom,
+            said: of_none(),
+        };
+        asking.alone()
     }
 
     fn tokens(&self) -> &[Text] {

@@ -4,7 +4,8 @@ ghost use Rattle.account_crypto.specs.Crypto.{re_encrypts};
 use crate::crypto::{ONE_IV, Sealable, seal};
 use account_rows::same_key;
 use account_steps::{
-    Named, Reads, Request, Sealed, Stop, Uses, View, find_source, key_of, of_context, refuse, unfit,
+    Asking, Named, Questions, Reads, Request, Sealed, Stop, Uses, View, find_source, key_of,
+    of_context, refuse, unfit,
 };
 use authority::Particulars;
 use draw_lines::DrawLine;
@@ -99,12 +100,13 @@ impl<'a> Request for ReEncrypting<'a> {
         Ok(Turning { source, to })
     }
 
-    fn authorize(&self, alloc: Global, found: &Turning<'a>) -> Result<(), Stop> {
-        let source = found.source.lent();
-        self.view
-            .authorize_on(alloc, Action::ReEncryptFrom, source, &self.from(found))?;
-        self.view
-            .authorize_on(alloc, Action::ReEncryptTo, &found.to.row, &self.to(found))
+    fn questions<'q>(&'q self, found: &'q Turning<'a>) -> Questions<'q> {
+        let (source, to) = (found.source.lent(), &found.to.row);
+        Questions {
+            first: Asking::on_key(Action::ReEncryptFrom, source, self.from(found)),
+            second: Some(Asking::on_key(Action::ReEncryptTo, to, self.to(found))),
+            third: None,
+        }
     }
 
     fn tokens(&self) -> &[Text] {

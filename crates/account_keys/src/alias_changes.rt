@@ -4,11 +4,11 @@ ghost use Rattle.account_keys.specs.Aliases.{action_of, changes_alias};
 
 use account_rows::{Lent, What};
 use account_steps::{
-    Changes, LentText, Made, Request, Stop, View, key_of_alias, of_key, of_none, only_key_of,
-    refuse,
+    Asking, Changes, LentAlias, LentText, Made, Questions, Request, Stop, View, key_of_alias,
+    of_key, only_key_of, refuse,
 };
 use kms_json::{Refusal, Reply};
-use kms_names::{Action, AliasName, NoMemory, Text, alias_arn};
+use kms_names::{Action, AliasName, NoMemory, Text};
 use std::alloc::Global;
 
 /// What is done to an alias.
@@ -57,33 +57,20 @@ pub struct ChangingAlias<'a> {
 
 impl<'a> ChangingAlias<'a> {
     ghost use Rattle.std.specs.Prelude.{◌≡◌, IfOk};
-    ghost use Rattle.account_steps.specs.Steps.{Passes};
-    ghost use Rattle.account_steps.specs.Authority.{denied, denied_one, on_other, of_none};
-    ghost use Rattle.account_steps.specs.Steps.{alias_arn_of};
+    ghost use Rattle.account_steps.specs.Authority.{asked_if};
     ghost use Rattle.account_keys.specs.Aliases.{action_of, question_on, taken, done_to};
 
     // Whether the caller may do it on a key, where there is one.
-    fn authorize_on(&self, alloc: Global, key: &Option<Lent<'a>>) -> Result<(), Stop>
-        ensures { Passes (denied self.now.view.now (question_on self.now.view.now (action_of self.now.change) key.now)) result }
+    fn question_on<'q>(&'q self, key: &'q Option<Lent<'a>>) -> Option<Asking<'q>>
+        ensures { asked_if self.now.view.now result ≡ question_on self.now.view.now (action_of self.now.change) key.now }
     {
         match key {
             Some(lent) => {
                 let said = of_key(self.view, lent.row());
-                self.view
-                    .authorize_on(alloc, self.change.action(), lent, &said)
+                Some(Asking::on_key(self.change.action(), lent, said))
             }
-            None => Ok(()),
+            None => None,
         }
-    }
-
-    // Whether the caller may do it on the alias.
-    fn authorize_on_alias(&self, alloc: Global) -> Result<(), Stop>
-        ensures { Passes (denied_one self.now.view.now (on_other (action_of self.now.change) (alias_arn_of self.now.view.now.facts self.now.name.now) of_none)) result }
-    {
-        let facts = self.view.facts();
-        let arn = alias_arn(alloc, &facts.account, facts.region.as_str(), self.name)?;
-        self.view
-            .authorize(alloc, self.change.action(), arn.as_str(), &of_none())
     }
 
     // The refusal of an alias that is there already.
@@ -142,10 +129,15 @@ impl<'a> Request for ChangingAlias<'a> {
         Ok(Moving { old, new })
     }
 
-    fn authorize(&self, alloc: Global, found: &Moving<'a>) -> Result<(), Stop> {
-        self.authorize_on_alias(alloc)?;
-        self.authorize_on(alloc, &found.old)?;
-        self.authorize_on(alloc, &found.new)
+    fn questions<'q>(&'q self, found: &'q Moving<'a>) -> Questions<'q> {
+        Questions {
+            first: Asking::OnAlias {
+                action: self.change.action(),
+                alias: LentAlias::new(self.name),
+            },
+            second: self.question_on(&found.old),
+            third: self.question_on(&found.new),
+        }
     }
 
     fn tokens(&self) -> &[Text] {

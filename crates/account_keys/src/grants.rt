@@ -7,8 +7,8 @@ ghost use Rattle.account_keys.specs.Grants.{constraint_of, pairs_of, grant_of, c
 
 use account_rows::{Lent, What, same_key};
 use account_steps::{
-    Changes, LentGrant, Made, Request, Stop, View, grant_id, grant_id_in, grant_of_token, of_key,
-    only_key_of, principal_if_given, principal_in,
+    Asking, Changes, LentGrant, Made, Questions, Request, Stop, View, grant_id, grant_id_in,
+    grant_of_token, of_key, only_key_of, principal_if_given, principal_in,
 };
 use authority::{GrantSaid, Particulars};
 use enc_context::Context;
@@ -169,9 +169,8 @@ impl<'a> Request for CreatingGrant<'a> {
         })
     }
 
-    fn authorize(&self, alloc: Global, found: &Granting<'a>) -> Result<(), Stop> {
-        self.view
-            .authorize_on(alloc, Action::CreateGrant, &found.row, &self.said(found))
+    fn questions<'q>(&'q self, found: &'q Granting<'a>) -> Questions<'q> {
+        Asking::on_key(Action::CreateGrant, &found.row, self.said(found)).alone()
     }
 
     fn tokens(&self) -> &[Text] {
@@ -247,8 +246,11 @@ impl<'a> Request for RetiringGrant<'a> {
         }
     }
 
-    fn authorize(&self, alloc: Global, found: &LentGrant<'a>) -> Result<(), Stop> {
-        self.view.authorize_retiring(alloc, found.row())
+    fn questions<'q>(&'q self, found: &'q LentGrant<'a>) -> Questions<'q> {
+        let asking = Asking::Retiring {
+            grant: LentGrant::new(found.row()),
+        };
+        asking.alone()
     }
 
     fn tokens(&self) -> &[Text] {
@@ -329,10 +331,9 @@ impl<'a> Request for RevokingGrant<'a> {
         Ok(Revoking { row, grant })
     }
 
-    fn authorize(&self, alloc: Global, found: &Revoking<'a>) -> Result<(), Stop> {
+    fn questions<'q>(&'q self, found: &'q Revoking<'a>) -> Questions<'q> {
         let said = of_key(self.view, found.row.row());
-        self.view
-            .authorize_on(alloc, Action::RevokeGrant, &found.row, &said)
+        Asking::on_key(Action::RevokeGrant, &found.row, said).alone()
     }
 
     fn tokens(&self) -> &[Text] {

@@ -5,8 +5,8 @@ ghost use Rattle.account_keys.specs.KeyChanges.{action_of, said_of, refused_for,
 
 use account_rows::{Lent, What, days_after};
 use account_steps::{
-    Changes, LentText, Made, Reads, Request, Stop, Uses, View, of_key, only_key_of, refuse,
-    unrotated,
+    Asking, Changes, LentText, Made, Questions, Reads, Request, Stop, Uses, View, of_key,
+    only_key_of, refuse, unrotated,
 };
 use authority::Particulars;
 use draw_lines::DrawLine;
@@ -166,10 +166,9 @@ impl<'a> Request for ChangingKey<'a> {
         only_key_of(alloc, self.view, self.key_id)
     }
 
-    fn authorize(&self, alloc: Global, found: &Lent<'a>) -> Result<(), Stop> {
-        let action = self.change.action();
+    fn questions<'q>(&'q self, found: &'q Lent<'a>) -> Questions<'q> {
         let said = self.change.said(of_key(self.view, found.row()));
-        self.view.authorize_on(alloc, action, found, &said)
+        Asking::on_key(self.change.action(), found, said).alone()
     }
 
     fn tokens(&self) -> &[Text] {
@@ -240,10 +239,9 @@ impl<'a> Request for GettingRotationStatus<'a> {
         only_key_of(alloc, self.view, self.key_id)
     }
 
-    fn authorize(&self, alloc: Global, found: &Lent<'a>) -> Result<(), Stop> {
+    fn questions<'q>(&'q self, found: &'q Lent<'a>) -> Questions<'q> {
         let said = of_key(self.view, found.row());
-        self.view
-            .authorize_on(alloc, Action::GetKeyRotationStatus, found, &said)
+        Asking::on_key(Action::GetKeyRotationStatus, found, said).alone()
     }
 
     fn tokens(&self) -> &[Text] {

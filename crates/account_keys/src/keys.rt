@@ -4,14 +4,16 @@ ghost use Rattle.kms_json.specs.declared.replies.Reply.TheVariants as Reply;
 ghost use Rattle.hmac_keys.specs.Asked.{spec_meant, usage_meant};
 ghost use Rattle.resource_tags.specs.Tags.{with_tags};
 ghost use Rattle.account_steps.specs.Steps.{Gives, Passes};
-ghost use Rattle.account_steps.specs.Authority.{denied};
+ghost use Rattle.kms_names.specs.declared.actions.Action.TheVariants as action;
+ghost use Rattle.account_steps.specs.declared.questions.Asking.TheVariants as asking;
+ghost use Rattle.account_steps.specs.Authority.{asked_if};
 ghost use Rattle.account_keys.specs.Keys.{description_of, creates_key, describes_key, unsupported_unless, kind_asked, field_of, served_kind, of_creation, questions_of_tags, said_new_key, unserved_key, policy_or_default, refused_if_given};
 
 use crate::policies::accept;
 use account_rows::What;
 use account_steps::{
-    Changes, KeySaid, Made, Named, Reads, Request, Stop, Uses, View, improper, key_id, key_of,
-    of_named, of_new_key, refuse, told_state, unsupported,
+    Asking, Changes, KeySaid, Made, Named, Questions, Reads, Request, Stop, Uses, View, improper,
+    key_id, key_of, of_named, of_new_key, refuse, told_state, unsupported,
 };
 use authority::{KindSaid, Particulars, default_policy_text};
 use draw_lines::DrawLine;
@@ -187,19 +189,27 @@ fn policy_or_default(
     }
 }
 
-// Whether the caller may give tags to a key that it makes, where it gives some.
-fn authorize_tags(
-    alloc: Global,
-    view: &View<'_>,
-    tags: &[Tag],
-    said: &Particulars<'_>,
-) -> Result<(), Stop>
-    ensures { Passes (denied view.now (questions_of_tags tags.now said.now)) result }
+// Whether the caller may make the key.
+fn question_of_key(request: &CreateKey) -> Asking<'_>
+    ensures { result ≡ asking.OnAll action.CreateKey (of_creation request.now) }
 {
-    if tags.is_empty() {
-        return Ok(());
+    Asking::OnAll {
+        action: Action::CreateKey,
+        said: of_creation(request),
     }
-    view.authorize(alloc, Action::TagResource, "*", said)
+}
+
+// Whether it may give tags to it, where it gives some.
+fn question_of_tags<'a>(view: &View<'_>, request: &'a CreateKey) -> Option<Asking<'a>>
+    ensures { asked_if view.now result ≡ questions_of_tags request.now.tags (of_creation request.now) }
+{
+    if request.tags.as_slice().is_empty() {
+        return None;
+    }
+    Some(Asking::OnAll {
+        action: Action::TagResource,
+        said: of_creation(request),
+    })
 }
 
 /// CreateKey, with at most 50 tags.
@@ -229,10 +239,12 @@ impl<'a> Request for CreatingKey<'a> {
         Ok(())
     }
 
-    fn authorize(&self, alloc: Global, _found: &()) -> Result<(), Stop> {
-        let said = of_creation(self.request);
-        self.view.authorize(alloc, Action::CreateKey, "*", &said)?;
-        authorize_tags(alloc, self.view, self.request.tags.as_slice(), &said)
+    fn questions<'q>(&'q self, _found: &'q ()) -> Questions<'q> {
+        Questions {
+            first: question_of_key(self.request),
+            second: question_of_tags(self.view, self.request),
+            third: None,
+        }
     }
 
     fn tokens(&self) -> &[Text] {
@@ -313,10 +325,9 @@ impl<'a> Request for DescribingKey<'a> {
         key_of(alloc, self.view, self.key_id)
     }
 
-    fn authorize(&self, alloc: Global, found: &Named<'a>) -> Result<(), Stop> {
+    fn questions<'q>(&'q self, found: &'q Named<'a>) -> Questions<'q> {
         let said = of_named(self.view, found.row.row(), &found.alias);
-        self.view
-            .authorize_on(alloc, Action::DescribeKey, &found.row, &said)
+        Asking::on_key(Action::DescribeKey, &found.row, said).alone()
     }
 
     fn tokens(&self) -> &[Text] {

@@ -9,7 +9,8 @@ ghost use Rattle.account_keys.specs.Policies.{StopsAt, IsStopAt, may_put_again, 
 
 use account_rows::{Lent, What};
 use account_steps::{
-    Changes, KeySaid, Made, Reads, Request, Stop, Uses, View, of_key, of_said, only_key_of,
+    Asking, Changes, KeySaid, Made, Questions, Reads, Request, Stop, Uses, View, of_key, of_said,
+    only_key_of,
 };
 use authority::{KeyPolicy, Particulars};
 use draw_lines::DrawLine;
@@ -146,10 +147,9 @@ impl<'a> Request for PuttingPolicy<'a> {
         only_key_of(alloc, self.view, self.key_id)
     }
 
-    fn authorize(&self, alloc: Global, found: &Lent<'a>) -> Result<(), Stop> {
+    fn questions<'q>(&'q self, found: &'q Lent<'a>) -> Questions<'q> {
         let said = of_policy(self.view, &KeySaid::of(found.row()), self.bypass);
-        self.view
-            .authorize_on(alloc, Action::PutKeyPolicy, found, &said)
+        Asking::on_key(Action::PutKeyPolicy, found, said).alone()
     }
 
     fn tokens(&self) -> &[Text] {
@@ -211,10 +211,9 @@ impl<'a> Request for GettingPolicy<'a> {
         only_key_of(alloc, self.view, self.key_id)
     }
 
-    fn authorize(&self, alloc: Global, found: &Lent<'a>) -> Result<(), Stop> {
+    fn questions<'q>(&'q self, found: &'q Lent<'a>) -> Questions<'q> {
         let said = of_key(self.view, found.row());
-        self.view
-            .authorize_on(alloc, Action::GetKeyPolicy, found, &said)
+        Asking::on_key(Action::GetKeyPolicy, found, said).alone()
     }
 
     fn tokens(&self) -> &[Text] {

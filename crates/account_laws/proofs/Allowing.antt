@@ -23,7 +23,7 @@ use Rattle.account_steps.specs.View.{View}
 use Rattle.account_steps.specs.Steps.{or_else}
 use Rattle.account_steps.specs.Authority.{Question, on_key, on_other, retiring, setting_of, resource_of, action_of, granted_op, grant_op_of, denied_one, denied, MayAsk, IsParent, GrantedOp}
 use Rattle.account_laws.specs.Laws.{PassesWhereStatementsAllow, MayByStatements, PassesWithoutACeiling, IsFirstDenied, NamesTheFirstDenied, GrantsPermit}
-use Rattle.account_steps.proofs.Asking.{one_passes, one_names}
+use Rattle.account_steps.proofs.Authorizing.{one_passes, one_names}
 
 -- ---- grants
 

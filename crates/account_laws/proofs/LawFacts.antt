@@ -54,7 +54,7 @@ use Rattle.account_rows.proofs.RowFacts.{found_key, found_all, latest-push}
 use Rattle.account_rows.proofs.VersionFacts.{versions_grow, kind_stays}
 use Rattle.account_rows.proofs.HouseFacts.{kept_once}
 use Rattle.account_core.proofs.Fitting.{laws_of, comes_next, lawful_front, id_ends, grant_ends}
-use Rattle.account_steps.proofs.Asking.{one_passes}
+use Rattle.account_steps.proofs.Authorizing.{one_passes}
 use Rattle.account_steps.proofs.Holding.{there_of, live_of}
 use Rattle.account_laws.proofs.StateFacts.{by_state}
 use Rattle.account_laws.proofs.LawSealings.{IsText, is_sealed}

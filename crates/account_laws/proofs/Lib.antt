@@ -1,4 +1,5 @@
 mod Allowing
+mod AskingFacts
 mod Serving
 mod Retiring
 mod DeadTokens

@@ -30,7 +30,7 @@ use Rattle.account_steps.specs.Steps.{unless, or_else, unfit_mac, key_of, arn_of
 use Rattle.account_steps.specs.View.{View, view_of}
 use Rattle.account_steps.specs.Authority.{on_key, denied, of_mac, MayAsk}
 use Rattle.account_steps.specs.Parts.{Outcome, reads, spent, dead_token, decided_read, only_asked, unfit_one}
-use Rattle.account_steps.proofs.Asking.{one_passes}
+use Rattle.account_steps.proofs.Authorizing.{one_passes}
 use Rattle.account_steps.proofs.Holding.{key_there, key_lives}
 use Rattle.account_steps.proofs.Passing.{none_of, ok_same, read_passed, goes_through, stops_at_state, stops_at_own}
 use Rattle.account_crypto.specs.Crypto.{mac_under, wrong_mac, generates_mac, verifies_mac}

@@ -1,5 +1,5 @@
 -- Laws of what the account answers.
-use Rattle.std.specs.Prelude.{◌≡◌, ◌≢◌, ◌^◌, ℕ, ◌<◌, ◌≤◌, List, [], ◌++◌, length, slice_range, Bool, false, Option, Some, None, Ok, All, AllPairs, ◌↔◌, ◌∷◌, IsTrue}
+use Rattle.std.specs.Prelude.{◌≡◌, ◌≢◌, ◌^◌, ℕ, ◌<◌, ◌≤◌, List, [], ◌++◌, length, map, slice_range, Bool, false, Option, Some, None, Ok, All, AllPairs, ◌↔◌, ◌∷◌, IsTrue}
 use Rattle.std.specs.List.Sorted.{IsNonDecreasingBy}
 use Rattle.enc_context.specs.declared.pairs.Pair.{Pair}
 use Rattle.crypto_ops.specs.Sealed.{opened, sealed_one}
@@ -33,7 +33,8 @@ use Rattle.account_steps.specs.declared.facts.RealmFacts.{RealmFacts}
 use Rattle.account_rows.specs.declared.entries.Entry.{Entry}
 use Rattle.key_states.specs.declared.rows.KeyRow.{KeyRow}
 use Rattle.account_steps.specs.Ids.{key_id_at, grant_id_at}
-use Rattle.account_steps.specs.Places.{IsUpTo}
+use Rattle.account_steps.specs.Places.{IsUpTo, no_places}
+use Rattle.account_steps.specs.declared.questions.Question.{Question as Posed}
 use Rattle.account_steps.specs.declared.places.Places.{Places}
 use Rattle.blob_format.specs.Names.{name_in}
 use Rattle.account_rows.specs.declared.entries.What.TheVariants as what
@@ -45,7 +46,7 @@ use Rattle.account_steps.specs.View.{View, view_of, key_held}
 use Rattle.account_steps.specs.Steps.{unfit_algorithm, draws, key_if_given, other_key, alias_of, arn_of, newest_version}
 use Rattle.account_steps.specs.declared.checks.Named.{Named}
 use Rattle.authority.specs.Setting.{Particulars}
-use Rattle.account_steps.specs.Authority.{Question, on_key, on_other, retiring, action_of, resource_of, asked_of, denied, setting_of, granted, IsGranted, MayRetire, MayAsk}
+use Rattle.account_steps.specs.Authority.{Question, on_key, on_other, retiring, action_of, resource_of, asked_of, posed, denied, setting_of, granted, IsGranted, MayRetire, MayAsk}
 use Rattle.account_steps.specs.Authority.{of_context}
 use Rattle.account_steps.specs.Parts.{dead_token}
 use Rattle.account_lists.specs.declared.listings.Numbered.{Numbered}
@@ -53,7 +54,9 @@ use Rattle.account_lists.specs.declared.lists.Sought.{Sought}
 use Rattle.account_lists.specs.Pages.{PartsFrom, rows_behind}
 use Rattle.account_tags.specs.Pages.{PartsFrom as TagPartsFrom, tags_behind}
 use Rattle.account_lists.specs.Lists.{listed_keys, listed_aliases, retirable_grants, grants_of_key, rotations_of}
-use Rattle.account_core.specs.Decide.{lacking, decide, IsProper, IsLawful}
+use Rattle.account_core.specs.declared.asking.Asked.{Asked}
+use Rattle.account_core.specs.declared.asking.Asked.TheVariants as asked
+use Rattle.account_core.specs.Decide.{lacking, decide, asked_at, IsProper, IsLawful}
 
 -- a blob, the text that is sealed in it, the context that it is sealed under, and the ARN of the key
 pub record Sealing : Type 0 where
@@ -289,3 +292,20 @@ NamesTheFirstDenied =
 -- encryption context, or for CreateGrant the new grant has no further operation and a constraint as strict
 abbrev pub GrantsPermit : Type 0
 GrantsPermit = (view : View) (action : Action) (key : List ℕ) (said : Particulars) → IsTrue (granted view action key said) ↔ IsGranted view action key said
+
+-- ---- what is asked of authority
+
+-- The step of authority asks about a request these questions, as policies and grants are asked them: where the first of them that isn't allowed is denied,
+-- that is the reply, whatever the places of the pass
+pub record IsAskedOf (facts : RealmFacts) (history : List Entry) (x : Ask) (places : Places) (list : List Posed) : Type 0 where
+  pub questions : List Question
+  pub posed : list ≡ map (posed (view_of facts history x no_places)) questions
+  pub stops : (why : Refusal) → denied (view_of facts history x no_places) questions ≡ Some why → reply_to facts history x places ≡ Refused why
+
+-- where nothing is asked, the request is refused before
+abbrev pub IsAskedSo : RealmFacts → List Entry → Ask → Places → Asked → Type 0
+IsAskedSo facts history x places asked.Early = (why : Refusal) × (reply_to facts history x places ≡ Refused why)
+IsAskedSo facts history x places (asked.Questions list) = IsAskedOf facts history x places list
+
+abbrev pub AuthorityAsksTheseQuestions : Type 0
+AuthorityAsksTheseQuestions = (facts : RealmFacts) (history : List Entry) (x : Ask) (places : Places) → IsAskedSo facts history x places (asked_at facts history x)

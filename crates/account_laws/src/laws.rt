@@ -1,6 +1,6 @@
 //! Laws of what the account answers. Each stands as the contract of a function that does nothing.
 
-ghost use Rattle.account_laws.specs.Laws.{SealedIsDecryptedAgain, EarlierBlobsAreDecrypted, OnePassRepeatsNoIv, PassesShareNoIv, BootsShareNoIv, TimesNeverFall, HouseIsKeptOnce, KeysDiffer, GrantsDiffer, PassesWhereStatementsAllow, PassesWithoutACeiling, NamesTheFirstDenied, GrantsPermit, DroppedGrantsStayAway, RowsStandInOrder, ListsOfLawfulHistoriesAreWhole, TagsOfKeysAreWhole};
+ghost use Rattle.account_laws.specs.Laws.{SealedIsDecryptedAgain, EarlierBlobsAreDecrypted, OnePassRepeatsNoIv, PassesShareNoIv, BootsShareNoIv, TimesNeverFall, HouseIsKeptOnce, KeysDiffer, GrantsDiffer, PassesWhereStatementsAllow, PassesWithoutACeiling, NamesTheFirstDenied, AuthorityAsksTheseQuestions, GrantsPermit, DroppedGrantsStayAway, RowsStandInOrder, ListsOfLawfulHistoriesAreWhole, TagsOfKeysAreWhole};
 ghost use Rattle.account_laws.specs.Macs.{MacsAreVerifiedAgain};
 ghost use Rattle.account_laws.specs.Tokens.{DeadTokensAreRefused};
 ghost use Rattle.account_steps.specs.View.{View};
@@ -92,6 +92,12 @@ pub fn without_a_ceiling_statements_and_grants_decide()
 /// its resource.
 pub fn denial_names_the_first_denied()
     ensures { NamesTheFirstDenied }
+{}
+
+/// What `Account::questions` tells about a request is what the step of authority asks: where the first question that isn't
+/// allowed is denied, that is the reply, for any pass. Where nothing is asked, the request is refused before.
+pub fn authority_asks_these_questions()
+    ensures { AuthorityAsksTheseQuestions }
 {}
 
 /// A grant of the key permits what the law of authority says where the caller is its grantee, the

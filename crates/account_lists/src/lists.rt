@@ -10,8 +10,8 @@ use crate::listings::{
 use crate::pages::{Part, behind_marker, part_behind};
 use account_rows::Lent;
 use account_steps::{
-    LentText, Reads, Request, Stop, Uses, View, grant_id_in, of_key, of_none, only_key_of,
-    principal_in, refuse, unrotated,
+    Asking, LentText, Questions, Reads, Request, Stop, Uses, View, grant_id_in, of_key, of_none,
+    only_key_of, principal_in, refuse, unrotated,
 };
 use draw_lines::DrawLine;
 use hmac_keys::KeyKind;
@@ -190,9 +190,12 @@ impl<'a> Request for ListingAccount<'a> {
         }
     }
 
-    fn authorize(&self, alloc: Global, _found: &ListedIn) -> Result<(), Stop> {
-        self.view
-            .authorize(alloc, self.what.action(), "*", &of_none())
+    fn questions<'q>(&'q self, _found: &'q ListedIn) -> Questions<'q> {
+        let asking = Asking::OnAll {
+            action: self.what.action(),
+            said: of_none(),
+        };
+        asking.alone()
     }
 
     fn tokens(&self) -> &[Text] {
@@ -411,10 +414,9 @@ impl<'a> Request for ListingKey<'a> {
         Ok(ListedOf { row, sought })
     }
 
-    fn authorize(&self, alloc: Global, found: &ListedOf<'a>) -> Result<(), Stop> {
+    fn questions<'q>(&'q self, found: &'q ListedOf<'a>) -> Questions<'q> {
         let said = of_key(self.view, found.row.row());
-        self.view
-            .authorize_on(alloc, self.what.action(), &found.row, &said)
+        Asking::on_key(self.what.action(), &found.row, said).alone()
     }
 
     fn tokens(&self) -> &[Text] {

@@ -71,7 +71,7 @@ impl HeldAliases {
     }
 
     // The same once more.
-    fn share(&self) -> Result<HeldAliases, NoMemory>
+    pub(crate) fn share(&self) -> Result<HeldAliases, NoMemory>
         ensures { IfOk result (λ held. held ≡ self.now) }
     {
         match Arc::try_clone(&self.map) {

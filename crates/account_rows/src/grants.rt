@@ -76,7 +76,7 @@ impl HeldGrants {
     }
 
     // The same once more.
-    fn share(&self) -> Result<HeldGrants, NoMemory>
+    pub(crate) fn share(&self) -> Result<HeldGrants, NoMemory>
         ensures { IfOk result (λ held. held ≡ self.now) }
     {
         match Arc::try_clone(&self.table) {

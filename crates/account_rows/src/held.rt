@@ -180,6 +180,13 @@ impl<'a> Lent<'a> {
         Lent { held }
     }
 
+    /// The same, lent once more.
+    pub fn again(&self) -> Lent<'a>
+        ensures { result ≡ self.now }
+    {
+        Lent { held: self.held }
+    }
+
     /// The row, which has at least one version.
     pub fn row(&self) -> &'a KeyRow
         ensures row { result.now ≡ self.now }

@@ -123,6 +123,22 @@ impl Rows {
         })
     }
 
+    /// The same rows once more. They are shared, and no entry is copied.
+    pub fn share(&self) -> Result<Rows, NoMemory>
+        ensures { IfOk result (λ rows. rows ≡ self.now) }
+    {
+        Ok(Rows {
+            alloc: self.alloc,
+            default: self.default.share()?,
+            entries: self.entries.share()?,
+            keys: self.keys.share()?,
+            aliases: self.aliases.share()?,
+            grants: self.grants.share()?,
+            latest: self.latest,
+            bytes: self.bytes,
+        })
+    }
+
     /// The entry of housekeeping at the clock's answer, if any: where the date of deletion of some key has come or an
     /// automatic rotation is due, and there is room for one more entry of 64 bytes. It takes no memory; the first of
     /// the dates tells.

@@ -3,7 +3,7 @@ pub mod KeyIds
 pub mod Passing
 pub mod Done
 pub mod Fit
-pub mod Asking
+pub mod Authorizing
 pub mod Referring
 pub mod TokenFacts
 mod PrincipalFacts

@@ -1,5 +1,5 @@
 -- Whether the caller may do what a request asks (IAM User Guide, "Policy evaluation logic"; AWS KMS Developer Guide, "Key policies" and "Grants in AWS KMS").
-use Rattle.std.specs.Prelude.{◌≡◌, ◌==◌, ◌⊎◌, ℕ, find, List, [], ◌∷◌, Bool, true, false, ◌&&◌, ◌||◌, IsTrue, Option, Some, None, is_some, Any}
+use Rattle.std.specs.Prelude.{◌≡◌, ◌==◌, ◌⊎◌, ℕ, find, List, [], ◌∷◌, ◌++◌, codes, Bool, true, false, ◌&&◌, ◌||◌, IsTrue, Option, Some, None, is_some, Any}
 use Rattle.enc_context.specs.declared.pairs.Pair.{Pair}
 use Rattle.kms_names.specs.declared.actions.Action.{Action}
 use Rattle.kms_names.specs.declared.actions.Action.TheVariants as action
@@ -22,7 +22,13 @@ use Rattle.key_states.specs.declared.rows.KeyRow.{KeyRow}
 use Rattle.grant_table.specs.declared.rows.GrantRow.{GrantRow}
 use Rattle.grant_table.specs.Grants.{Permits, IsChildOf, grant_permitting, parent_of, has_retiring}
 use Rattle.grant_table.specs.Principals.{same_principal}
-use Rattle.account_steps.specs.Steps.{or_else, arn_of}
+use Rattle.account_steps.specs.declared.questions.Asking.{Asking}
+use Rattle.account_steps.specs.declared.questions.Asking.TheVariants as asking
+use Rattle.account_steps.specs.declared.questions.Questions.{Questions}
+use Rattle.account_steps.specs.declared.questions.OfGrants.{OfGrants}
+use Rattle.account_steps.specs.declared.questions.OfGrants.TheVariants as of
+use Rattle.account_steps.specs.declared.questions.Question.{Question as Posed}
+use Rattle.account_steps.specs.Steps.{or_else, arn_of, alias_arn_of}
 use Rattle.account_steps.specs.View.{View}
 
 -- whether the caller may do this: on a key, with what the request says of itself; on a resource that is no key, which is `*` or the ARN of an alias;
@@ -162,6 +168,59 @@ of_context view row alias context = record (of_named view row alias) { context =
 -- and one that makes a MAC by an algorithm, or verifies one
 abbrev pub of_mac : View → KeyRow → Option (List ℕ) → List ℕ → Particulars
 of_mac view row alias algorithm = record (of_named view row alias) { mac_algorithm = Some algorithm }
+
+-- ---- questions as operations lend them
+
+-- a question in the form in which an operation lends it
+abbrev pub asked_one : View → Asking → Question
+asked_one view (asking.OnKey action key said) = on_key action key said
+asked_one view (asking.OnAll action said) = on_other action (codes "*") said
+asked_one view (asking.OnAlias action alias) = on_other action (alias_arn_of view.facts alias) of_none
+asked_one view (asking.Retiring grant) = retiring grant
+
+abbrev pub asked_if : View → Option Asking → List Question
+asked_if view None = []
+asked_if view (Some asking) = asked_one view asking ∷ []
+
+-- all that an operation asks, in order
+abbrev pub all_asked : View → Questions → List Question
+all_asked view questions = asked_one view questions.first ∷ (asked_if view questions.second ++ asked_if view questions.third)
+
+-- one question, and no other
+abbrev pub alone : Asking → Questions
+alone asking = record { first = asking; second = None; third = None }
+
+-- ---- questions as policies and grants are asked them
+
+-- what the grants of the key are asked, where the action is an operation that grants permit: of CreateGrant that the new grant would be a child of one
+abbrev pub of_grants : Option GrantOp → Option GrantSaid → List Pair → OfGrants
+of_grants None made context = of.Nothing
+of_grants (Some op) (Some grant) context = of.Child grant.operations grant.constraint
+of_grants (Some op) None context = of.Permit context
+
+-- with all that the request says to conditions; who may retire a grant is asked of the grant alone
+abbrev pub posed_on_key : View → Action → List ℕ → Particulars → Posed
+posed_on_key view action key said = record {
+  key = Some key;
+  facts = request_of (setting_of view) (asked_of action (arn_of view.facts key) said);
+  op = grant_op_of action;
+  grants = of_grants (grant_op_of action) said.grant said.context;
+}
+
+abbrev pub posed : View → Question → Posed
+posed view (on_key action row said) = posed_on_key view action row.key said
+posed view (on_other action resource said) = record {
+  key = None;
+  facts = request_of (setting_of view) (asked_of action resource said);
+  op = None;
+  grants = of.Nothing;
+}
+posed view (retiring grant) = record {
+  key = Some grant.key;
+  facts = request_of (setting_of view) (asked_of action.RetireGrant (arn_of view.facts grant.key) of_none);
+  op = Some op.RetireGrant;
+  grants = of.Retire grant.grant;
+}
 
 -- ---- in terms of statements and grants
 

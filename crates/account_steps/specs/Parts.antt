@@ -1,5 +1,5 @@
 -- The steps of a decision in their order. Each operation says its own parts of them; the order is written here alone.
-use Rattle.std.specs.Prelude.{ℕ, ◌+◌, ◌^◌, List, [], ◌∷◌, length, filter, ◌&&◌, nat_le, nat_lt, Bool, if◌then◌else◌, Option, Some, None, is_some, is_none, option_and_then, Result, Ok, Err}
+use Rattle.std.specs.Prelude.{ℕ, ◌+◌, ◌^◌, List, [], ◌∷◌, length, filter, map, ◌&&◌, nat_le, nat_lt, Bool, if◌then◌else◌, Option, Some, None, is_some, is_none, option_and_then, Result, Ok, Err}
 use Rattle.std.specs.List.{list_any}
 use Rattle.std.specs.Result.{result_ok}
 use Rattle.std.specs.Str.{bytes_eq}
@@ -30,7 +30,8 @@ use Rattle.key_states.specs.declared.rows.KeyRow.{KeyRow}
 use Rattle.account_steps.specs.declared.places.Uses.{Uses}
 use Rattle.account_steps.specs.Places.{Places}
 use Rattle.account_steps.specs.Steps.{unless, and_then, or_else, arn_of}
-use Rattle.account_steps.specs.Authority.{Question, denied}
+use Rattle.account_steps.specs.declared.questions.Question.{Question as Posed}
+use Rattle.account_steps.specs.Authority.{Question, denied, posed}
 use Rattle.account_steps.specs.View.{View, grant_held}
 
 -- a key whose state counts, for this action
@@ -57,6 +58,12 @@ pub record ReadParts (F R : Type 0) : Type 0 where
 pub record ChangeParts (F R : Type 0) : Type 0 where
   pub parts : Parts F R
   pub does : F → R → Option What
+
+-- ---- questions
+
+-- what was asked of the caller, as policies and grants are asked it, where all that is named is there
+abbrev pub questions_of : {F R : Type 0} → View → Parts F R → Result (List Posed) Refusal
+questions_of view parts = and_then parts.found (λ found. Ok (map (posed view) (parts.questions found)))
 
 -- ---- grant tokens
 

@@ -8,6 +8,7 @@ mod ids;
 mod particulars;
 mod parts;
 mod places;
+mod questions;
 mod sources;
 mod stops;
 mod texts;
@@ -24,8 +25,11 @@ pub use ids::{draw_line, grant_id, key_id, key_id_of};
 pub use particulars::{
     KeySaid, of_context, of_key, of_mac, of_named, of_new_key, of_none, of_said,
 };
-pub use parts::{Changes, Made, Reads, Request, change, grant_id_of, grant_of_token, read, refuse};
+pub use parts::{
+    Changes, Made, Reads, Request, change, grant_id_of, grant_of_token, questions_of, read, refuse,
+};
 pub use places::{Places, Uses};
+pub use questions::{Asking, LentAlias, OfGrants, Question, QuestionList, Questions};
 pub use sources::{Sealed, find_source};
 pub use stops::Stop;
 pub use texts::{LentText, lent_if_given};

@@ -5,13 +5,14 @@ ghost use Rattle.std.specs.List.{list_any};
 ghost use Rattle.account_steps.specs.Places.{places_of, line_at, IsLineOf, IsWithin};
 ghost use Rattle.account_steps.specs.View.{View as SeenView};
 ghost use Rattle.account_steps.specs.Steps.{Gives, Passes, unless, or_else, stopping};
-ghost use Rattle.account_steps.specs.Authority.{denied};
-ghost use Rattle.account_steps.specs.Parts.{Parts, cleared, outcome, decided_read, spent, full, overfull, limited, only_asked, after, unfit_state, entries_full, bytes_full, rotations_full, keys_full, grant_id_of, grant_of_token, is_dead, dead_token, aliases_full, grants_full};
+ghost use Rattle.account_steps.specs.Authority.{denied, all_asked};
+ghost use Rattle.account_steps.specs.Parts.{Parts, cleared, outcome, decided_read, questions_of, spent, full, overfull, limited, only_asked, after, unfit_state, entries_full, bytes_full, rotations_full, keys_full, grant_id_of, grant_of_token, is_dead, dead_token, aliases_full, grants_full};
 ghost use Rattle.account_steps.specs.Settling.{Settles, Makes};
 ghost use Rattle.account_steps.specs.declared.places.Uses.{Uses as TakenUses};
 ghost use Rattle.account_rows.specs.declared.entries.What.{What as DoneWhat};
 
 use crate::places::{Places, Uses};
+use crate::questions::{QuestionList, Questions, pass_all, pose_all};
 use crate::stops::Stop;
 use crate::view::{LentGrant, View};
 use account_rows::{BYTES, ENTRIES, What};
@@ -57,9 +58,9 @@ pub trait Request {
     fn find(&self, alloc: Global) -> Result<Self::Found, Stop>
         ensures { Gives (parts self.now).found result };
 
-    /// Whether the caller may do what it asks: its questions, in order.
-    fn authorize(&self, alloc: Global, found: &Self::Found) -> Result<(), Stop>
-        ensures { Passes (denied (seen self.now) ((parts self.now).questions found.now)) result };
+    /// What the caller has to be allowed: its questions, in order.
+    fn questions<'q>(&'q self, found: &'q Self::Found) -> Questions<'q>
+        ensures { all_asked (seen self.now) result ≡ (parts self.now).questions found.now };
 
     /// The tokens of grants that it gives.
     fn tokens(&self) -> &[Text]
@@ -261,12 +262,28 @@ fn limited(view: &View<'_>, what: &Option<What>) -> Option<Refusal>
     }
 }
 
+// Whether the caller may do what an operation asks.
+fn authorize<O: Request>(alloc: Global, operation: &O, found: &O::Found) -> Result<(), Stop>
+    ensures { Passes (denied (O.seen operation.now) ((O.parts operation.now).questions found.now)) result }
+{
+    pass_all(alloc, operation.view(), &operation.questions(found))
+}
+
+/// What the step of authority asks about an operation, where its references name what is there: each question as policies and
+/// grants are asked it, in order.
+pub fn questions_of<O: Request>(alloc: Global, operation: &O) -> Result<QuestionList, Stop>
+    ensures { Gives (questions_of (O.seen operation.now) (O.parts operation.now)) result }
+{
+    let found = operation.find(alloc)?;
+    Ok(pose_all(alloc, operation.view(), &operation.questions(&found))?)
+}
+
 // The steps up to an operation's own refusals.
 fn clear<O: Request>(alloc: Global, operation: &O) -> Result<(O::Found, O::Ready), Stop>
     ensures { Gives (cleared (O.seen operation.now) (O.parts operation.now)) result }
 {
     let found = operation.find(alloc)?;
-    operation.authorize(alloc, &found)?;
+    authorize(alloc, operation, &found)?;
     refuse(dead_token(operation.view(), operation.tokens()))?;
     operation.fit(alloc, &found)?;
     let ready = operation.own(alloc, &found)?;

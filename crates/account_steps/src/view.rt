@@ -7,7 +7,9 @@ ghost use Rattle.key_states.specs.Permissions.{refusal_of, need_of};
 ghost use Rattle.key_states.specs.States.{state_of};
 
 use crate::facts::RealmFacts;
+use crate::particulars::of_none;
 use crate::places::Places;
+use crate::questions::{Asking, OfGrants, Question, of_grants};
 use crate::stops::Stop;
 use account_rows::{Lent, Rows, is_gone};
 use alias_map::AliasMap;
@@ -16,7 +18,9 @@ use enc_context::Context;
 use grant_table::{GrantRow, GrantTable, same_principal};
 use key_states::{KeyRow, State, StateFault, Stored, permits};
 use kms_json::{KeyState, Refusal};
-use kms_names::{Action, AliasName, GrantId, GrantOp, KeyId, NoMemory, Principal, Text, key_arn};
+use kms_names::{
+    Action, AliasName, GrantId, GrantOp, KeyId, NoMemory, Principal, Text, alias_arn, key_arn,
+};
 use policy_eval::Compiled;
 use std::alloc::Global;
 use std::marker::Model;
@@ -73,8 +77,8 @@ impl<'a> View<'a> {
     ghost use Rattle.account_steps.specs.Parts.{unfit_one};
     ghost use Rattle.grant_table.specs.Grants.{grant_of_key, grant_retirable};
     ghost use Rattle.account_steps.specs.View.{key_held, aliased, is_live, grant_held};
-    ghost use Rattle.account_steps.specs.Steps.{Passes, arn_of};
-    ghost use Rattle.account_steps.specs.Authority.{setting_of, granted, may_on_key, may_on_other, denied_at, denied_one, on_key, on_other, retiring};
+    ghost use Rattle.account_steps.specs.Steps.{Passes, arn_of, alias_arn_of};
+    ghost use Rattle.account_steps.specs.Authority.{setting_of, granted, may_on_key, may_on_other, denied_at, denied_one, on_key, on_other, retiring, asked_one, posed, posed_on_key, of_none};
 
     /// The view of these.
     pub fn new(
@@ -334,8 +338,8 @@ impl<'a> View<'a> {
         }))
     }
 
-    /// Goes on where the caller may do this on a key.
-    pub fn authorize_on(
+    // Goes on where the caller may do this on a key.
+    fn authorize_on(
         &self,
         alloc: Global,
         action: Action,
@@ -350,8 +354,8 @@ impl<'a> View<'a> {
         self.pass(allowed, action, arn)
     }
 
-    /// Goes on where the caller may do this on a resource that is no key.
-    pub fn authorize(
+    // Goes on where the caller may do this on a resource that is no key.
+    fn authorize(
         &self,
         alloc: Global,
         action: Action,
@@ -364,13 +368,122 @@ impl<'a> View<'a> {
         self.pass(allowed, action, Text::from_str(alloc, resource)?)
     }
 
-    /// Goes on where the caller may retire a grant: the root, its retiring principal, and its grantee where RetireGrant is
-    /// among its operations.
-    pub fn authorize_retiring(&self, alloc: Global, grant: &GrantRow) -> Result<(), Stop>
+    // Goes on where the caller may retire a grant: the root, its retiring principal, and its grantee where RetireGrant is
+    // among its operations.
+    fn authorize_retiring(&self, alloc: Global, grant: &GrantRow) -> Result<(), Stop>
         ensures { Passes (denied_one self.now (retiring grant.now)) result }
     {
         let allowed = may_retire(self.caller, grant);
         self.pass(allowed, Action::RetireGrant, self.arn(alloc, &grant.key)?)
+    }
+
+    // The ARN of an alias of the account.
+    fn alias_arn(&self, alloc: Global, name: &AliasName) -> Result<Text, NoMemory>
+        ensures { IfOk result (λ t. t ≡ alias_arn_of self.now.facts name.now) }
+    {
+        alias_arn(alloc, &self.facts.account, self.facts.region.as_str(), name)
+    }
+
+    // Goes on where the caller may do this to an alias.
+    fn authorize_on_alias(
+        &self,
+        alloc: Global,
+        action: Action,
+        name: &AliasName,
+    ) -> Result<(), Stop>
+        ensures { Passes (denied_one self.now (on_other action (alias_arn_of self.now.facts name.now) of_none)) result }
+    {
+        let arn = self.alias_arn(alloc, name)?;
+        self.authorize(alloc, action, arn.as_str(), &of_none())
+    }
+
+    // Goes on where the caller may do what a question asks.
+    pub(crate) fn pass_asked(&self, alloc: Global, asking: &Asking<'_>) -> Result<(), Stop>
+        ensures { Passes (denied_one self.now (asked_one self.now asking.now)) result }
+    {
+        match asking {
+            Asking::OnKey { action, key, said } => self.authorize_on(alloc, *action, key, said),
+            Asking::OnAll { action, said } => self.authorize(alloc, *action, "*", said),
+            Asking::OnAlias { action, alias } => {
+                self.authorize_on_alias(alloc, *action, alias.name())
+            }
+            Asking::Retiring { grant } => self.authorize_retiring(alloc, grant.row()),
+        }
+    }
+
+    // A question about a key, as it is asked.
+    fn pose_on_key(
+        &self,
+        alloc: Global,
+        action: Action,
+        key: &KeyId,
+        said: &Particulars<'_>,
+    ) -> Result<Question, NoMemory>
+        ensures { IfOk result (λ q. q ≡ posed_on_key self.now action key.now said.now) }
+    {
+        let arn = self.arn(alloc, key)?;
+        let facts = self
+            .setting()
+            .whole_request(alloc, action, arn.as_str(), said)?;
+        let op = grant_op_of(action);
+        Ok(Question {
+            key: Some(*key),
+            facts,
+            op,
+            grants: of_grants(alloc, op, said)?,
+        })
+    }
+
+    // A question about a resource that is no key, as it is asked.
+    fn pose_on_other(
+        &self,
+        alloc: Global,
+        action: Action,
+        resource: &str,
+        said: &Particulars<'_>,
+    ) -> Result<Question, NoMemory>
+        ensures { IfOk result (λ q. q ≡ posed self.now (on_other action resource.now said.now)) }
+    {
+        let facts = self.setting().whole_request(alloc, action, resource, said)?;
+        Ok(Question {
+            key: None,
+            facts,
+            op: None,
+            grants: OfGrants::Nothing,
+        })
+    }
+
+    // The question whether the caller may retire a grant, as it is asked.
+    fn pose_retiring(&self, alloc: Global, grant: &GrantRow) -> Result<Question, NoMemory>
+        ensures { IfOk result (λ q. q ≡ posed self.now (retiring grant.now)) }
+    {
+        let arn = self.arn(alloc, &grant.key)?;
+        let facts = self
+            .setting()
+            .whole_request(alloc, Action::RetireGrant, arn.as_str(), &of_none())?;
+        Ok(Question {
+            key: Some(grant.key),
+            facts,
+            op: Some(GrantOp::RetireGrant),
+            grants: OfGrants::Retire(grant.grant),
+        })
+    }
+
+    // A question, as policies and grants are asked it.
+    pub(crate) fn pose(&self, alloc: Global, asking: &Asking<'_>) -> Result<Question, NoMemory>
+        ensures { IfOk result (λ q. q ≡ posed self.now (asked_one self.now asking.now)) }
+    {
+        match asking {
+            Asking::OnKey { action, key, said } => {
+                self.pose_on_key(alloc, *action, &key.row().key, said)
+            }
+            Asking::OnAll { action, said } => self.pose_on_other(alloc, *action, "*", said),
+            Asking::OnAlias { action, alias } => {
+                let arn = self.alias_arn(alloc, alias.name())?;
+                self.pose_on_other(alloc, *action, arn.as_str(), &of_none())
+            }
+            Asking::Retiring { grant } => self.pose_retiring(alloc, grant.row()),
+        }
     }
 
     /// Goes on where the state of a key lets it be used for this.

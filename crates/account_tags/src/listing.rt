@@ -3,7 +3,7 @@ ghost use Rattle.account_tags.specs.Tagging.{lists_tags};
 
 use crate::pages::{behind_marker, part_of};
 use account_rows::Lent;
-use account_steps::{Reads, Request, Stop, Uses, View, of_key, only_key_of};
+use account_steps::{Asking, Questions, Reads, Request, Stop, Uses, View, of_key, only_key_of};
 use draw_lines::DrawLine;
 use kms_json::{Page, Reply};
 use kms_names::{Action, Bytes, NoMemory, Text};
@@ -37,10 +37,9 @@ impl<'a> Request for ListingTags<'a> {
         only_key_of(alloc, self.view, self.key_id)
     }
 
-    fn authorize(&self, alloc: Global, found: &Lent<'a>) -> Result<(), Stop> {
+    fn questions<'q>(&'q self, found: &'q Lent<'a>) -> Questions<'q> {
         let said = of_key(self.view, found.row());
-        self.view
-            .authorize_on(alloc, Action::ListResourceTags, found, &said)
+        Asking::on_key(Action::ListResourceTags, found, said).alone()
     }
 
     fn tokens(&self) -> &[Text] {

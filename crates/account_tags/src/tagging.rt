@@ -4,7 +4,9 @@ ghost use Rattle.account_steps.specs.Steps.{Passes};
 ghost use Rattle.account_tags.specs.Tagging.{too_many, has_some, tags_key, untags_key};
 
 use account_rows::{Lent, What};
-use account_steps::{Changes, Made, Request, Stop, View, improper, of_key, only_key_of, refuse};
+use account_steps::{
+    Asking, Changes, Made, Questions, Request, Stop, View, improper, of_key, only_key_of, refuse,
+};
 use authority::Particulars;
 use kms_json::{Limit, Refusal, Reply};
 use kms_names::{Action, NoMemory, Text, TextList};
@@ -50,13 +52,12 @@ impl<'a> Request for TaggingKey<'a> {
         only_key_of(alloc, self.view, self.key_id)
     }
 
-    fn authorize(&self, alloc: Global, found: &Lent<'a>) -> Result<(), Stop> {
+    fn questions<'q>(&'q self, found: &'q Lent<'a>) -> Questions<'q> {
         let said = Particulars {
             request_tags: Some(self.tags),
             ..of_key(self.view, found.row())
         };
-        self.view
-            .authorize_on(alloc, Action::TagResource, found, &said)
+        Asking::on_key(Action::TagResource, found, said).alone()
     }
 
     fn tokens(&self) -> &[Text] {
@@ -127,13 +128,12 @@ impl<'a> Request for UntaggingKey<'a> {
         only_key_of(alloc, self.view, self.key_id)
     }
 
-    fn authorize(&self, alloc: Global, found: &Lent<'a>) -> Result<(), Stop> {
+    fn questions<'q>(&'q self, found: &'q Lent<'a>) -> Questions<'q> {
         let said = Particulars {
             untagged: Some(self.keys),
             ..of_key(self.view, found.row())
         };
-        self.view
-            .authorize_on(alloc, Action::UntagResource, found, &said)
+        Asking::on_key(Action::UntagResource, found, said).alone()
     }
 
     fn tokens(&self) -> &[Text] {

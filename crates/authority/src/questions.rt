@@ -2,7 +2,7 @@
 ghost use Rattle.std.specs.Prelude.{◌≡◌, IfOk, option_map, true, false};
 ghost use Rattle.policy_eval.specs.VerdictOf.{verdict_of};
 ghost use Rattle.policy_eval.specs.CeilingOf.{CeilingGoesByQuestion};
-ghost use Rattle.authority.specs.Facts.{facts_of};
+ghost use Rattle.authority.specs.Facts.{facts_of, request_of};
 ghost use Rattle.authority.specs.Allowed.{is_deny, is_direct, some_deny, some_allow, own_allow, identity_allows, key_standing, own_standing, standing, bounded_standing, standing_of};
 ghost use Rattle.policy_eval.specs.Asking.{CeilingGoesWithout};
 ghost use Rattle.authority.specs.Questions.{GoByQuestions, KeyGoesByQuestion, GoWithoutAliases, KeyGoesWithoutAliases, resource_aliases, gathered, SaysWhatIsAsked};
@@ -222,6 +222,20 @@ impl Setting<'_> {
             resource,
             facts,
         })
+    }
+
+    /// All that policies can be asked about a request: who calls, the action, the resource, and every condition key. The time
+    /// grows with the number of the key's aliases.
+    pub fn whole_request(
+        &self,
+        alloc: Global,
+        action: Action,
+        resource: &str,
+        particulars: &Particulars<'_>,
+    ) -> Result<RequestFacts, NoMemory>
+        ensures { IfOk result (λ request. request ≡ request_of self.now (record { action = action; resource = resource.now; particulars = particulars.now })) }
+    {
+        self.request(alloc, true, true, action, resource, particulars)
     }
 
     // What policies say of the request. Where the ceiling stops it, no other is asked.

@@ -2,11 +2,18 @@
 //! shown, and the lines that are wanted stand in `stdout`.
 #![tactic(auto)]
 
+mod explained;
 mod scenes;
 
-use scenes::{Failure, show_all};
+use scenes::Failure;
 use std::io;
 use std::process::ExitCode;
+
+// The scenes, and then the sessions that are explained.
+fn show_all(rt: &HostRuntime) -> Result<(), Failure> {
+    scenes::show_all(rt)?;
+    explained::show_all(rt)
+}
 
 fn main(rt: HostRuntime) -> io::Result<ExitCode> {
     match show_all(&rt) {

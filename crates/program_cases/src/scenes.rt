@@ -34,7 +34,7 @@ impl From<io::Error> for Failure {
 }
 
 // The clock's first answer.
-const BEGIN: u64 = 1_700_000_000;
+pub(crate) const BEGIN: u64 = 1_700_000_000;
 
 // A session of the root of account 111122223333, with a root secret of zeros.
 const RUN: &[&str] = &[
@@ -136,7 +136,7 @@ fn read_exchange<W: rt::Runtime<A = Global>>(rt: &W) -> Result<Exchange, Failure
     })
 }
 
-fn words_of(alloc: Global, words: &[&str]) -> Result<Vec<String>, NoMemory> {
+pub(crate) fn words_of(alloc: Global, words: &[&str]) -> Result<Vec<String>, NoMemory> {
     let mut all = Vec::new(alloc);
     for word in words {
         all.push(String::from_str(alloc, word)?)?;
@@ -156,7 +156,7 @@ fn link_of(alloc: Global, exchange: &Exchange, scene: &Scene<'_>) -> Result<Memo
 }
 
 // 64 clocks, each a second later at each call.
-fn clocks(alloc: Global) -> Result<Vec<StepClock>, NoMemory>
+pub(crate) fn clocks(alloc: Global) -> Result<Vec<StepClock>, NoMemory>
     ensures { IfOk result (λ clocks. vec_len clocks ≡ 64) }
 {
     let mut clocks = Vec::with_capacity(alloc, 64)?;

@@ -1,5 +1,5 @@
 use Rattle.std.proofs.Common.{ℕ, List, ◌++◌, ap, ◌∙◌, subst}
-use Rattle.kms_session.specs.Session.{SendsWhole, SendsShort}
+use Rattle.session_front.specs.Sending.{SendsWhole, SendsShort}
 use Rattle.kms_session.proofs.ReplyLemmas.{head_short, body_sent, joined_sent}
 use Rattle.kms_session.proofs.outbox.send_reply.Goals as goal
 

@@ -2,7 +2,8 @@ use Rattle.std.proofs.Common.{◌≡◌, List, ℕ, subst, Ok, Err}
 use Rattle.std.specs.Prelude.{IfOk, OnErr}
 use Rattle.publish_pass.proofs.PassLemmas.{on_err}
 use Rattle.session_front.specs.Items.{whole}
-use Rattle.session_front.specs.Early.{ask_of}
+use Rattle.session_front.specs.declared.refused.Early.{Early}
+use Rattle.session_front.specs.Early.{ask_of, IsAskOrWants}
 use Rattle.kms_session.specs.Run.{Plan, Wanting, plan_of}
 use Rattle.kms_session.specs.Replying.{Gives}
 use Rattle.kms_session.proofs.ReplyLemmas.{wanting_none, plan_asks, plan_refuses}
@@ -26,7 +27,9 @@ returns-in-Ok-clause-wants g c = λ m is.
 
 pub returns-in-Err-Fault-clause-answer : goal.returns-in-Err-Fault-clause-answer
 returns-in-Err-Fault-clause-answer g c = λ m is.
-    let why = subst (λ (region : List ℕ). ask_of c.args.host.now.trust.now region m c.args.now ≡ Err c.in-Err-Fault.refusal) c.region_of-region.ensures (c.in-Err-Fault.ensures.ask m is) in
+    let there : ask_of c.args.host.now.trust.now c.region_of-region.result.now m c.args.now ≡ Err c.in-Err-Fault.refusal
+    = subst (λ (e : Early). IsAskOrWants (ask_of c.args.host.now.trust.now c.region_of-region.result.now m c.args.now) (Err e)) c.in-Err-Fault.field-0-is (c.in-Err-Fault.ensures.ask m is) in
+    let why = subst (λ (region : List ℕ). ask_of c.args.host.now.trust.now region m c.args.now ≡ Err c.in-Err-Fault.refusal) c.region_of-region.ensures there in
     let plan = plan_refuses c.args.host.now.trust.now c.args.pass.now.facts.region m c.args.now c.in-Err-Fault.refusal why in
     subst (λ (p : Plan). IfOk c.answer_refusal.result (λ a. Gives c.args.pass.now p a c.args.pass.now)) plan c.answer_refusal.ensures
 

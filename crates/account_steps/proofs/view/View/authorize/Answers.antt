@@ -2,7 +2,7 @@ use Rattle.std.proofs.Common.{Option, refl, subst}
 use Rattle.kms_json.specs.declared.refusals.Refusal.{Refusal}
 use Rattle.account_steps.specs.Steps.{Passes}
 use Rattle.account_steps.specs.Authority.{on_other}
-use Rattle.account_steps.proofs.Asking.{as_asked}
+use Rattle.account_steps.proofs.Authorizing.{as_asked}
 use Rattle.account_steps.proofs.view.View.authorize.Goals as goal
 
 pub returns : goal.returns

@@ -4,7 +4,7 @@ use Rattle.kms_json.specs.declared.refusals.Refusal.{Refusal}
 use Rattle.key_states.specs.declared.rows.KeyRow.{KeyRow}
 use Rattle.account_steps.specs.Steps.{Passes, arn_of}
 use Rattle.account_steps.specs.Authority.{on_key, may_on_key}
-use Rattle.account_steps.proofs.Asking.{as_asked}
+use Rattle.account_steps.proofs.Authorizing.{as_asked}
 use Rattle.account_steps.proofs.view.View.authorize_on.Goals as goal
 
 pub may_on_key-requires : goal.may_on_key-requires

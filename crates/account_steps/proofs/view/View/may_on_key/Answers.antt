@@ -4,7 +4,7 @@ use Rattle.authority.specs.Allowed.{standing_of}
 use Rattle.authority.specs.declared.standings.Standing.TheVariants.{Denied, Allowed, IfGranted}
 use Rattle.account_steps.specs.Authority.{asked_of}
 use Rattle.account_steps.proofs.Following.{ok_where}
-use Rattle.account_steps.proofs.Asking.{by_standing}
+use Rattle.account_steps.proofs.Authorizing.{by_standing}
 use Rattle.account_steps.proofs.view.View.may_on_key.Goals as goal
 
 pub returns-in-Denied : goal.returns-in-Denied

@@ -2,7 +2,7 @@ use Rattle.std.proofs.Common.{◌∙◌, ap, None}
 use Rattle.authority.specs.Setting.{Setting}
 use Rattle.authority.specs.Allowed.{standing_of}
 use Rattle.account_steps.specs.Authority.{asked_of}
-use Rattle.account_steps.proofs.Asking.{by_own_standing}
+use Rattle.account_steps.proofs.Authorizing.{by_own_standing}
 use Rattle.account_steps.proofs.view.View.may_on_other.Goals as goal
 
 pub returns : goal.returns

@@ -1,0 +1,10 @@
+mod DocumentFacts
+mod MarkFacts
+mod RunFacts
+mod HitFacts
+mod GrantWalk
+mod GroundFacts
+mod FindingFacts
+mod EqualFacts
+mod CertificateFacts
+mod MayFacts

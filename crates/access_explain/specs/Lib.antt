@@ -1,0 +1,7 @@
+pub mod Runs
+pub mod Marks
+pub mod Grounds
+pub mod Findings
+pub mod Certificates
+pub mod Tests
+pub mod Laws
