@@ -107,7 +107,7 @@ impl Explainer {
         ensures line { IfOk result (λ line. ExplainsAt self.old ask.now line self.new) }
         ensures facts { self.new.facts ≡ self.old.facts }
     {
-        let certificate = explain(&self.account, alloc, ask)?;
+        let certificate = explain(alloc, &self.account, ask)?;
         let reply = self.answer(alloc, ask)?;
         certificate_line(alloc, &certificate, exception_in(&reply))
     }
