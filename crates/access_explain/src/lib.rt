@@ -9,6 +9,7 @@ mod findings;
 mod grants;
 mod grounds;
 mod laws;
+mod lines;
 mod marks;
 mod runs;
 mod statements;
@@ -17,5 +18,8 @@ mod subjects;
 pub use certificates::{Certificate, check_certificate, explain};
 pub use findings::{Finding, FindingList};
 pub use grounds::Ground;
-pub use laws::certificates_are_one;
+pub use laws::{
+    allowed_where_none_is_denied, certificates_are_one, early_where_nothing_is_asked,
+};
+pub use lines::certificate_line;
 pub use marks::{Mark, MarkList};
