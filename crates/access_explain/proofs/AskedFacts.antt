@@ -1,35 +1,28 @@
 -- What the findings of an account's questions say of the step of authority.
 use Rattle.std.proofs.Common.{◌≡◌, ◌⊎◌, inl, inr, ⊎_elim, ℕ, zero, suc, ◌<◌, Bool, true, false, ◌&&◌, cond, List, [], ◌∷◌, length, get_or, map, Option, None, Some, refl, sym, ap, ◌∙◌, subst, arith}
-use Rattle.std.specs.Prelude.{◌↔◌, IsTrue, ⊤, All, AllPairs, Any, Contains, find, filter}
-use Rattle.std.specs.Str.{bytes_eq}
+use Rattle.std.specs.Prelude.{◌↔◌, IsTrue, All, AllPairs, Any, Contains, find, filter}
 use Rattle.std.proofs.lemmas.List.Elements.{All-nil, All-cons, All-head, All-tail}
 use Rattle.std.proofs.lemmas.Bool.{cases_lt}
 use Rattle.std.proofs.lemmas.List.{get_or_default}
 use Rattle.std.proofs.lemmas.Slice.Eq.{bytes_eq-Decides}
 use Rattle.kms_names.proofs.Decisions.{any_here, any_there, any_of}
 use Rattle.kms_names.specs.declared.actions.Action.{Action}
-use Rattle.kms_names.specs.declared.actions.Action.TheVariants as action
 use Rattle.kms_names.specs.declared.operations.GrantOp.{GrantOp}
-use Rattle.kms_names.specs.declared.operations.GrantOp.TheVariants as op
 use Rattle.kms_names.specs.declared.principals.Principal.{Principal}
 use Rattle.enc_context.specs.declared.pairs.Pair.{Pair}
-use Rattle.cond_ops.specs.declared.facts.RequestFacts.{RequestFacts}
 use Rattle.policy_doc.specs.declared.policies.Statement.{Statement}
 use Rattle.policy_eval.specs.Ceiling.{Under, SomeDocumentDenies}
 use Rattle.policy_eval.specs.Verdict.{SomeDenies, SomeAllowsCaller, SomeAllowsAccount}
-use Rattle.authority.specs.KeyPolicy.{policy_in}
 use Rattle.authority.specs.Setting.{Particulars, GrantSaid, callers_policies}
 use Rattle.authority.specs.Facts.{request_of}
-use Rattle.grant_table.specs.Constraints.{ConstraintHolds}
-use Rattle.grant_table.specs.Grants.{is_of_key, has_id, grant_with, Permits, asks_constraint}
+use Rattle.grant_table.specs.Grants.{is_of_key, has_id, grant_with, Permits}
 use Rattle.grant_table.specs.declared.rows.GrantRow.{GrantRow}
 use Rattle.key_states.specs.declared.rows.KeyRow.{KeyRow}
-use Rattle.account_rows.specs.History.{key_with, place_in_grant, IsGrantOf}
+use Rattle.account_rows.specs.History.{key_with, place_in_grant}
 use Rattle.account_steps.specs.declared.questions.OfGrants.{OfGrants}
 use Rattle.account_steps.specs.declared.questions.OfGrants.TheVariants as of
 use Rattle.account_steps.specs.declared.questions.Question.{Question as Posed}
-use Rattle.account_steps.specs.Authority.{Question, on_key, on_other, retiring, setting_of, asked_of, grant_op_of, granted, of_grants, posed, IsParent, GrantedOp, IsGranted, MayRetire, MayAsk, of_none}
-use Rattle.account_steps.specs.Steps.{arn_of}
+use Rattle.account_steps.specs.Authority.{Question, on_key, on_other, retiring, grant_op_of, granted, of_grants, posed, IsParent, GrantedOp, MayRetire, MayAsk}
 use Rattle.account_steps.specs.View.{View}
 use Rattle.account_laws.specs.Laws.{GrantsPermit}
 use Rattle.access_explain.specs.declared.findings.Finding.{Finding}

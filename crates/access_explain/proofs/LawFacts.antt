@@ -1,24 +1,20 @@
 -- The laws of certificates.
-use Rattle.std.proofs.Common.{◌≡◌, ℕ, ◌<◌, Bool, true, false, List, length, map, Option, None, Some, refl, sym, ap, ◌∙◌, subst}
-use Rattle.std.specs.Prelude.{◌↔◌, IsTrue, All, AllPairs}
-use Rattle.kms_json.specs.declared.asks.Ask.{Ask}
-use Rattle.authority.specs.Allowed.{AreIdentityPolicies}
+use Rattle.std.proofs.Common.{◌≡◌, true, false, map, refl, sym, ap, ◌∙◌, subst}
+use Rattle.std.specs.Prelude.{◌↔◌, All}
 use Rattle.grant_table.specs.declared.rows.GrantRow.{GrantRow}
-use Rattle.account_rows.specs.History.{replay, place_in_grant}
-use Rattle.account_rows.specs.declared.entries.Entry.{Entry}
-use Rattle.account_steps.specs.declared.facts.RealmFacts.{RealmFacts}
-use Rattle.account_steps.specs.Authority.{Question, posed, denied, MayAsk}
+use Rattle.account_rows.specs.History.{place_in_grant}
+use Rattle.account_steps.specs.Authority.{posed}
 use Rattle.account_steps.specs.Places.{no_places}
 use Rattle.account_steps.specs.View.{View, view_of}
 use Rattle.account_core.specs.declared.asking.Asked.{Asked}
 use Rattle.account_core.specs.declared.asking.Asked.TheVariants as asked
-use Rattle.account_core.specs.Decide.{asked_at, IsLawful}
+use Rattle.account_core.specs.Decide.{asked_at}
 use Rattle.account_core.proofs.Fitting.{laws_of}
 use Rattle.account_laws.specs.Laws.{GrantsPermit, PassesWhereStatementsAllow, RowsStandInOrder}
 use Rattle.access_explain.specs.declared.certificates.Certificate.{Certificate}
-use Rattle.access_explain.specs.Certificates.{early_one, IsCertificateOf, IsCertificateBy, IsCertificate}
+use Rattle.access_explain.specs.Certificates.{IsCertificateOf, IsCertificateBy, IsCertificate}
 use Rattle.access_explain.specs.Findings.{Basis, basis_of}
-use Rattle.access_explain.specs.Laws.{IsHeld, EarlyWhereNothingIsAsked, AllowedWhereNoneIsDenied}
+use Rattle.access_explain.specs.Laws.{EarlyWhereNothingIsAsked, AllowedWhereNoneIsDenied}
 use Rattle.access_explain.proofs.AskedFacts.{all_told}
 
 early_by : (basis : Basis) (a : Asked) (c : Certificate) → IsCertificateBy basis a c → (c.early ≡ true) ↔ (a ≡ asked.Early)

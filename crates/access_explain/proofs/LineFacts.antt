@@ -1,5 +1,5 @@
 -- The JSON value of a certificate has no floating-point number, so that its compact text is stated.
-use Rattle.std.proofs.Common.{◌≡◌, ℕ, List, [], ◌∷◌, Bool, true, false, ◌||◌, map, refl}
+use Rattle.std.proofs.Common.{◌≡◌, ℕ, List, [], ◌∷◌, Bool, true, false, ◌||◌, refl}
 use Rattle.serde_json.specs.Written.{has_float}
 use Rattle.kms_json.specs.Objects.{list_data}
 use Rattle.access_explain.specs.declared.certificates.Certificate.{Certificate}

@@ -1,5 +1,5 @@
 -- Laws of certificates.
-use Rattle.std.specs.Prelude.{◌≡◌, ◌↔◌, true, false, IsTrue, List, map, Some, None, All, ⊤}
+use Rattle.std.specs.Prelude.{◌≡◌, ◌↔◌, true, List, map, Some, None, All, ⊤}
 use Rattle.kms_json.specs.declared.asks.Ask.{Ask}
 use Rattle.authority.specs.Allowed.{AreIdentityPolicies}
 use Rattle.authority.specs.Setting.{callers_policies}

@@ -1,7 +1,7 @@
 -- The line of a certificate: a JSON object and a line feed.
 use Rattle.std.specs.Prelude.{ℕ, Bool, true, false, List, [], ◌∷◌, ◌++◌, codes}
 use Rattle.std.specs.List.{flat_map}
-use Rattle.serde_json.specs.Data.{Data, object, member, no_members, string}
+use Rattle.serde_json.specs.Data.{Data, object, member, no_members}
 use Rattle.serde_json.specs.Written.{compact_text}
 use Rattle.kms_names.specs.Action.{action_text}
 use Rattle.kms_json.specs.Objects.{with_text, list_data}
