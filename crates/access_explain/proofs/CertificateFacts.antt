@@ -1,8 +1,7 @@
 -- Certificates: those that are found are some, and there is one.
-use Rattle.std.proofs.Common.{◌≡◌, ◌⊎◌, inl, inr, ⊎_elim, ℕ, ◌<◌, ◌≤◌, ◌+◌, Bool, true, false, ◌&&◌, List, [], ◌∷◌, ◌++◌, length, take, drop, get_or, Result, Ok, Err, IfOk, refl, sym, ap, ap₂, ◌∙◌, subst, arith}
+use Rattle.std.proofs.Common.{◌≡◌, ℕ, ◌<◌, ◌≤◌, ◌+◌, Bool, true, false, ◌&&◌, List, [], ◌∷◌, ◌++◌, length, take, drop, get_or, Result, Ok, Err, IfOk, refl, sym, ap, ap₂, ◌∙◌, subst}
 use Rattle.std.specs.Prelude.{◌↔◌, IsTrue}
-use Rattle.std.specs.List.{list_all}
-use Rattle.std.proofs.lemmas.List.{take_more, drop_more, take_all, take-append-drop}
+use Rattle.std.proofs.lemmas.List.{drop_more, take_all, take-append-drop}
 use Rattle.account_steps.specs.declared.questions.Question.{Question}
 use Rattle.access_explain.specs.declared.certificates.Certificate.{Certificate}
 use Rattle.access_explain.specs.declared.findings.Finding.{Finding}
@@ -72,7 +71,7 @@ module _ (basis : Basis) where
       → IsFinding basis q f → allows f.ground ≡ false → Found questions i fs → AreFindings basis questions gs
   found_denied questions i fs gs q f within at pushed is denies found =
       let cut : take i questions ++ q ∷ drop (i + 1) questions ≡ questions =
-          ap (λ x. take i questions ++ x ∷ drop (i + 1) questions) at ∙ ap (λ l. take i questions ++ l) (sym (drop_more questions i q within)) ∙ take-append-drop i questions
+      ap (λ x. take i questions ++ x ∷ drop (i + 1) questions) at ∙ ap (λ l. take i questions ++ l) (sym (drop_more questions i q within)) ∙ take-append-drop i questions
       in
       subst (λ l. AreFindings basis questions l) (sym pushed) (subst (λ l. AreFindings basis l (fs ++ f ∷ [])) cut (stopped (take i questions) (drop (i + 1) questions) fs q f found.each found.allowed is denies))
 

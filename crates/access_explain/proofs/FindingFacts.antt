@@ -1,5 +1,5 @@
 -- What is made of the runs and the ground is the finding, and there is one.
-use Rattle.std.proofs.Common.{◌≡◌, ◌⊎◌, inl, inr, List, [], ◌∷◌, Option, None, Some, Result, Ok, Err, IfOk, refl, sym, ◌∙◌, subst}
+use Rattle.std.proofs.Common.{◌≡◌, inl, inr, List, [], ◌∷◌, Option, None, Some, Result, Ok, Err, IfOk, refl, sym, ◌∙◌, subst}
 use Rattle.kms_names.specs.declared.operations.GrantOp.{GrantOp}
 use Rattle.grant_table.specs.declared.rows.GrantRow.{GrantRow}
 use Rattle.access_explain.specs.declared.marks.Mark.{Mark}
@@ -66,10 +66,10 @@ module _ (basis : Basis) (q : Question) where
   one_on subject f g is also =
       let key : f.key_marks ≡ g.key_marks = one_list (λ s m. IsKeyMark s q.facts m) (λ s. one_key_mark s q.facts) (of_the_key basis q subject) f.key_marks g.key_marks is.key also.key in
       let identity : f.identity_marks ≡ g.identity_marks =
-          one_list (λ s m. IsMark s q.facts m) (λ s. one_mark s q.facts) (of_the_caller basis q subject) f.identity_marks g.identity_marks is.identity also.identity
+      one_list (λ s m. IsMark s q.facts m) (λ s. one_mark s q.facts) (of_the_caller basis q subject) f.identity_marks g.identity_marks is.identity also.identity
       in
       let ceiling : f.ceiling_marks ≡ g.ceiling_marks =
-          one_list (λ s m. IsMark s q.facts m) (λ s. one_mark s q.facts) (of_the_ceiling basis q subject) f.ceiling_marks g.ceiling_marks is.ceiling also.ceiling
+      one_list (λ s m. IsMark s q.facts m) (λ s. one_mark s q.facts) (of_the_ceiling basis q subject) f.ceiling_marks g.ceiling_marks is.ceiling also.ceiling
       in
       let grant : f.grant_marks ≡ g.grant_marks = one_grant_run q.op (grants_asked basis.grants subject) f.grant_marks g.grant_marks is.grant also.grant in
       let same : f ≡ with_marks f g = λ i. record { action = f.action; resource = f.resource; ground = f.ground; key_marks = key i; identity_marks = identity i; ceiling_marks = ceiling i; grant_marks = grant i } in

@@ -1,10 +1,10 @@
 -- The ground that is found is the first that fits.
-use Rattle.std.proofs.Common.{◌≡◌, ◌⊎◌, inl, inr, ⊎_elim, Bool, true, false, not, ◌&&◌, List, [], ◌∷◌, refl, sym, ◌∙◌}
+use Rattle.std.proofs.Common.{◌≡◌, inl, inr, ⊎_elim, Bool, true, false, not, ◌&&◌, List, [], ◌∷◌, refl, sym, ◌∙◌}
 use Rattle.std.specs.Prelude.{◌↔◌, IsTrue, ⊤}
 use Rattle.policy_doc.specs.declared.policies.Policy.{Policy}
 use Rattle.policy_doc.specs.declared.policies.PolicyKind.TheVariants.{Key, Identity}
 use Rattle.policy_eval.specs.Ceiling.{Under}
-use Rattle.authority.specs.Setting.{callers_policies, is_root}
+use Rattle.authority.specs.Setting.{is_root}
 use Rattle.account_steps.specs.declared.questions.Question.{Question}
 use Rattle.access_explain.specs.declared.findings.Finding.{Finding}
 use Rattle.access_explain.specs.declared.findings.Runs.{Runs}
@@ -84,14 +84,27 @@ module _ (basis : Basis) (q : Question) (runs : Runs) (g : Ground) where
     pub is_ground : (subject : Subject) → AreRuns basis q subject runs → AreTested runs basis.ceiling (is_root q.facts.caller) may t → IsTrue may ↔ Retires q.facts.caller basis.grants subject
         → IsFirst (λ row. IsTrue (fits t row)) (rows_for subject) g → IsFirst (Fits basis q subject (finding_of q runs g)) (rows_for subject) g
     is_ground (about.Key key) are tested tells is =
-        same_first (λ row. IsTrue (fits t row)) (Fits basis q (about.Key key) (finding_of q runs g)) (rows_for (about.Key key)) g
-        (key_deny t may (about.Key key) are tested, (identity_deny t may (about.Key key) are tested,
-        (nots t.is_under (also tested.is_under (lets_pass basis.ceiling are.ceiling)), (key_policy t may (about.Key key) are tested,
-        (root_and_identity t may (about.Key key) are tested, (tested.grant_permits, ((λ any. tt, λ any. refl), tt))))))) is
+        same_first (λ row. IsTrue (fits t row)) (Fits basis q (about.Key key) (finding_of q runs g)) (rows_for (about.Key key)) g (
+          key_deny t may (about.Key key) are tested,
+          (
+            identity_deny t may (about.Key key) are tested,
+            (
+              nots t.is_under (also tested.is_under (lets_pass basis.ceiling are.ceiling)),
+              (
+                key_policy t may (about.Key key) are tested,
+                (root_and_identity t may (about.Key key) are tested, (tested.grant_permits, ((λ any. tt, λ any. refl), tt))),
+              ),
+            ),
+          ),
+        ) is
     is_ground about.Other are tested tells is =
-        same_first (λ row. IsTrue (fits t row)) (Fits basis q about.Other (finding_of q runs g)) (rows_for about.Other) g
-        (identity_deny t may about.Other are tested, (nots t.is_under (also tested.is_under (lets_pass basis.ceiling are.ceiling)),
-        (identity t may about.Other are tested, (root t may about.Other are tested, ((λ any. tt, λ any. refl), tt))))) is
+        same_first (λ row. IsTrue (fits t row)) (Fits basis q about.Other (finding_of q runs g)) (rows_for about.Other) g (
+          identity_deny t may about.Other are tested,
+          (
+            nots t.is_under (also tested.is_under (lets_pass basis.ceiling are.ceiling)),
+            (identity t may about.Other are tested, (root t may about.Other are tested, ((λ any. tt, λ any. refl), tt))),
+          ),
+        ) is
     is_ground (about.Retiring key grant) are tested tells is =
         same_first (λ row. IsTrue (fits t row)) (Fits basis q (about.Retiring key grant) (finding_of q runs g)) (rows_for (about.Retiring key grant)) g
         (retire t may (about.Retiring key grant) are tested tells, ((λ any. tt, λ any. refl), tt)) is

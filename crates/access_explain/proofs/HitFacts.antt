@@ -1,5 +1,5 @@
 -- What hits of marks are, in terms of statements.
-use Rattle.std.proofs.Common.{◌≡◌, ◌⊎◌, inl, inr, ⊎_elim, Bool, true, false, List, sym, ◌∙◌}
+use Rattle.std.proofs.Common.{◌≡◌, inl, inr, ⊎_elim, true, false, List}
 use Rattle.std.specs.Prelude.{◌↔◌, Any}
 use Rattle.cond_ops.specs.declared.facts.RequestFacts.{RequestFacts}
 use Rattle.policy_doc.specs.declared.policies.Policy.{Policy}
@@ -11,7 +11,7 @@ use Rattle.policy_eval.specs.Ceiling.{SomeDocumentDenies, SomeDocumentAllows}
 use Rattle.access_explain.specs.declared.marks.Mark.{Mark}
 use Rattle.access_explain.specs.declared.marks.Mark.TheVariants as mark
 use Rattle.access_explain.specs.Runs.{OneByOne, SomeIs}
-use Rattle.access_explain.specs.Marks.{IsMark, CountsForCaller, CountsForRoot, IsKeyMark}
+use Rattle.access_explain.specs.Marks.{IsMark, IsKeyMark}
 use Rattle.access_explain.specs.Findings.{statements_of}
 use Rattle.access_explain.proofs.MarkFacts.{not_both, one_mark, one_key_mark}
 use Rattle.access_explain.proofs.RunFacts.{some_tells, any_flat}

@@ -8,3 +8,6 @@ mod FindingFacts
 mod EqualFacts
 mod CertificateFacts
 mod MayFacts
+mod LineFacts
+mod AskedFacts
+mod LawFacts

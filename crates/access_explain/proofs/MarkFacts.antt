@@ -1,5 +1,5 @@
 -- Marks compared, and that each statement and each grant has one.
-use Rattle.std.proofs.Common.{◌≡◌, ◌≢◌, Bool, true, false, refl, sym, ◌∙◌, arith, inl, inr}
+use Rattle.std.proofs.Common.{◌≡◌, Bool, true, false, refl, sym, ◌∙◌, arith, inl, inr}
 use Rattle.std.specs.Bool.{Decides}
 use Rattle.cond_ops.specs.declared.facts.RequestFacts.{RequestFacts}
 use Rattle.kms_names.specs.declared.operations.GrantOp.{GrantOp}

@@ -1,5 +1,5 @@
 -- A ground allows exactly where statements, grants and the ceiling say that the caller may.
-use Rattle.std.proofs.Common.{◌≡◌, ◌⊎◌, inl, inr, ⊎_elim, ℕ, Bool, true, false, List, refl, sym, ap, ◌∙◌, subst}
+use Rattle.std.proofs.Common.{◌≡◌, ◌⊎◌, inl, inr, ⊎_elim, ℕ, true, false, List, refl, sym, ap, ◌∙◌, subst}
 use Rattle.std.specs.Prelude.{◌↔◌, IsTrue, Any, Contains}
 use Rattle.kms_names.specs.declared.principals.Principal.{Principal}
 use Rattle.kms_names.specs.declared.principals.Principal.TheVariants.{Root, User, Role}
@@ -7,8 +7,8 @@ use Rattle.cond_ops.specs.declared.facts.RequestFacts.{RequestFacts}
 use Rattle.policy_doc.specs.declared.policies.Policy.{Policy}
 use Rattle.policy_doc.specs.declared.policies.Named.TheVariants.{One}
 use Rattle.policy_doc.specs.declared.policies.Statement.{Statement}
-use Rattle.policy_eval.specs.Naming.{root_of, NamesCaller, NamesAccount}
-use Rattle.policy_eval.specs.Verdict.{IsAllow, IsDeny, AllowsCaller, AllowsAccount, SomeDenies, SomeAllowsCaller, SomeAllowsAccount}
+use Rattle.policy_eval.specs.Naming.{root_of}
+use Rattle.policy_eval.specs.Verdict.{AllowsCaller, AllowsAccount, SomeDenies, SomeAllowsCaller, SomeAllowsAccount}
 use Rattle.policy_eval.specs.Ceiling.{Under, SomeDocumentDenies, SomeDocumentAllows}
 use Rattle.policy_eval.specs.CeilingOf.{ceiling_of, ceiling_of_lem}
 use Rattle.policy_eval.specs.declared.ceilings.CeilingVerdict.{CeilingVerdict}

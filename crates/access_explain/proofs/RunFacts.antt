@@ -1,18 +1,16 @@
 -- Runs of marks beside what they are marks of.
-use Rattle.std.proofs.Common.{◌≡◌, ◌⊎◌, inl, inr, ⊎_elim, ℕ, ◌<◌, ◌+◌, Bool, true, false, List, [], ◌∷◌, ◌++◌, length, map, take, get_or, refl, sym, ap, ap₂, ◌∙◌, subst, append_assoc, arith}
-use Rattle.std.specs.Prelude.{◌↔◌, Any, Contains}
+use Rattle.std.proofs.Common.{◌≡◌, ◌⊎◌, inl, inr, ⊎_elim, ℕ, ◌<◌, ◌+◌, Bool, List, [], ◌∷◌, ◌++◌, length, map, take, get_or, refl, sym, ap, ap₂, ◌∙◌, subst, append_assoc, arith}
+use Rattle.std.specs.Prelude.{◌↔◌, Any}
 use Rattle.std.specs.List.{flat_map}
 use Rattle.std.proofs.lemmas.List.{take_more}
 use Rattle.kms_names.proofs.Decisions.{any_here, any_there, any_of}
 use Rattle.cond_ops.specs.declared.facts.RequestFacts.{RequestFacts}
-use Rattle.policy_doc.specs.declared.policies.Policy.{Policy}
 use Rattle.policy_doc.specs.declared.policies.PolicyKind.{PolicyKind}
 use Rattle.policy_doc.specs.declared.policies.Statement.{Statement}
 use Rattle.access_explain.specs.declared.marks.Mark.{Mark}
 use Rattle.access_explain.specs.declared.runs.Marked.{Marked}
 use Rattle.access_explain.specs.Runs.{OneByOne, SomeIs}
-use Rattle.access_explain.specs.Findings.{statements_of}
-use Rattle.access_explain.specs.Tests.{IsMarkBy, IsMarkedBy, IsRunOf, SomeMarked}
+use Rattle.access_explain.specs.Tests.{IsMarkBy, IsRunOf, SomeMarked}
 
 -- the first items with one more
 pub take_one : {X : Type 0} (xs : List X) (i : ℕ) (x : X) → i < length xs → x ≡ get_or xs i x → take (i + 1) xs ≡ take i xs ++ x ∷ []

@@ -1,5 +1,5 @@
 -- What is found of a question: the mark of each statement and each grant that was asked, and the ground.
-use Rattle.std.specs.Prelude.{◌≡◌, ℕ, true, false, IsTrue, List, [], ◌∷◌, filter, Option, Some, None, Any, Contains, ⊤}
+use Rattle.std.specs.Prelude.{◌≡◌, ℕ, true, false, IsTrue, List, [], filter, Option, Some, None, Any, Contains, ⊤}
 use Rattle.std.specs.List.{flat_map}
 use Rattle.kms_names.specs.declared.operations.GrantOp.{GrantOp}
 use Rattle.kms_names.specs.declared.principals.Principal.{Principal}

@@ -1,5 +1,5 @@
 -- Why a question is allowed or denied: the first row of a table that fits.
-use Rattle.std.specs.Prelude.{◌≡◌, ◌⊎◌, ℕ, Bool, true, false, List, [], ◌∷◌}
+use Rattle.std.specs.Prelude.{◌≡◌, ◌⊎◌, Bool, true, false, List, [], ◌∷◌}
 use Rattle.access_explain.specs.declared.grounds.Ground.{Ground}
 use Rattle.access_explain.specs.declared.grounds.Ground.TheVariants as ground
 use Rattle.access_explain.specs.declared.subjects.Subject.{Subject}

@@ -4,4 +4,5 @@ pub mod Grounds
 pub mod Findings
 pub mod Certificates
 pub mod Tests
+pub mod Lines
 pub mod Laws

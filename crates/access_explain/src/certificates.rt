@@ -7,9 +7,9 @@ ghost use Rattle.access_explain.specs.Findings.{basis_of};
 use crate::equality::same_findings;
 use crate::findings::{Finding, FindingList, find};
 use account_core::{Account, Ask, Asked};
+use account_steps::Question;
 use kms_names::NoMemory;
 use std::alloc::Global;
-use account_steps::Question;
 
 /// Why a request was served or denied by the step of authority.
 #[derive(Drop)]
@@ -77,11 +77,7 @@ fn certificate_of(
 }
 
 // The certificate of what is asked.
-fn certificate_by(
-    alloc: Global,
-    account: &Account,
-    asked: &Asked,
-) -> Result<Certificate, NoMemory>
+fn certificate_by(alloc: Global, account: &Account, asked: &Asked) -> Result<Certificate, NoMemory>
     ensures { IfOk result (λ certificate. IsCertificateBy (basis_of account.now.facts account.now.entries) asked.now certificate) }
 {
     match asked {

@@ -6,8 +6,8 @@ ghost use Rattle.authority.specs.KeyPolicy.{fault_in, policy_in};
 ghost use Rattle.authority.specs.Setting.{identity_at, policies_of, callers_policies};
 ghost use Rattle.access_explain.specs.Findings.{policy_statements};
 
-use authority::Identity;
 use account_core::Account;
+use authority::Identity;
 use kms_names::{KeyId, NoMemory, Principal, Text, write_principal};
 use policy_doc::{Policy, PolicyFault, PolicyKind, StatementList, read_policy};
 use std::alloc::Global;

@@ -15,11 +15,11 @@ use crate::marks::{Mark, MarkList};
 use crate::runs::{Run, some_hits};
 use crate::subjects::{Subject, subject_of};
 use account_core::Account;
+use account_steps::Question;
 use kms_names::{Action, KeyId, NoMemory, Principal, Text};
 use policy_doc::{Policy, PolicyKind};
 use std::alloc::Global;
 use std::marker::Model;
-use account_steps::Question;
 
 /// What is found of a question.
 #[derive(Drop)]
@@ -104,11 +104,7 @@ impl Runs {
     }
 
     // Those of a question about no key.
-    fn of_other(
-        alloc: Global,
-        account: &Account,
-        question: &Question,
-    ) -> Result<Runs, NoMemory>
+    fn of_other(alloc: Global, account: &Account, question: &Question) -> Result<Runs, NoMemory>
         ensures { IfOk result (λ runs. AreRuns (basis_of account.now.facts account.now.entries) question.now about.Other runs) }
     {
         let facts = &question.facts;
@@ -139,7 +135,12 @@ impl Runs {
             grants: _,
         } = Runs::of_other(alloc, account, question)?;
         let statements = key_statements(alloc, account, key)?;
-        let run = Run::of(alloc, PolicyKind::Key, statements.as_slice(), &question.facts)?;
+        let run = Run::of(
+            alloc,
+            PolicyKind::Key,
+            statements.as_slice(),
+            &question.facts,
+        )?;
         Ok(Runs {
             key: run,
             identity,
@@ -203,12 +204,7 @@ impl Runs {
 }
 
 // The ground of a question about this, by its runs.
-fn ground_of(
-    account: &Account,
-    question: &Question,
-    subject: &Subject,
-    runs: &Runs,
-) -> Ground
+fn ground_of(account: &Account, question: &Question, subject: &Subject, runs: &Runs) -> Ground
     requires { AreRuns (basis_of account.now.facts account.now.entries) question.now subject.now runs.now }
     ensures { IsFirst (Fits (basis_of account.now.facts account.now.entries) question.now subject.now (finding_of question.now runs.now result)) (rows_for subject.now) result }
 {
@@ -220,11 +216,7 @@ fn ground_of(
 }
 
 /// What is found of a question at an account.
-pub fn find(
-    alloc: Global,
-    account: &Account,
-    question: &Question,
-) -> Result<Finding, NoMemory>
+pub fn find(alloc: Global, account: &Account, question: &Question) -> Result<Finding, NoMemory>
     ensures { IfOk result (λ finding. IsFinding (basis_of account.now.facts account.now.entries) question.now finding) }
 {
     let subject = subject_of(question);

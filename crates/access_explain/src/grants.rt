@@ -14,10 +14,10 @@ use crate::marks::{Mark, MarkList};
 use crate::subjects::Subject;
 use account_core::Account;
 use account_laws::rows_stand_in_order;
+use account_steps::{OfGrants, Question};
 use grant_table::{GrantRow, same_principal};
 use kms_names::{GrantId, GrantOp, KeyId, NoMemory, Principal};
 use std::alloc::Global;
-use account_steps::{OfGrants, Question};
 
 // Whether a grant's constraint is asked of an operation's context.
 fn is_constrained(op: GrantOp) -> bool

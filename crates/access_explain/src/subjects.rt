@@ -2,8 +2,8 @@
 ghost use Rattle.std.specs.Prelude.{◌≡◌};
 ghost use Rattle.access_explain.specs.Findings.{subject_of};
 
-use kms_names::{GrantId, KeyId};
 use account_steps::{OfGrants, Question};
+use kms_names::{GrantId, KeyId};
 
 /// What a question is about.
 #[derive(Clone, Copy)]

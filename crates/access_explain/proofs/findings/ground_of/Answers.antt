@@ -16,6 +16,6 @@ returns c =
     let root = c.is_root.result in
     let documents : c.as_slice-ceiling.result.now ≡ basis.ceiling = search rules in
     let tested =
-        subst (λ (r : Bool). AreTested runs basis.ceiling r may t) c.is_root.ensures
-        (subst (λ (ps : List Policy). AreTested runs ps root may t) documents c.tested-tested.ensures) in
+    subst (λ (r : Bool). AreTested runs basis.ceiling r may t) c.is_root.ensures
+    (subst (λ (ps : List Policy). AreTested runs ps root may t) documents c.tested-tested.ensures) in
     is_ground basis q runs c.ground.result t may c.args.subject.now c.requires tested c.may_retire_asked-may_retire.ensures c.ground.ensures

@@ -14,9 +14,11 @@ loop-row-init c =
 pub returns-then-is_retirable : goal.returns-then-is_retirable
 returns-then-is_retirable c =
     let P = IsRetirable c.args.caller.now c.args.grant.now in
-    let grants = (replay c.args.account.now.entries).grants in
-    (λ t. found_one P (own c.args.key.now grants) _ _ c.in-Some.row.now (on c.args.key.now grants c.in-Some.ensures.order c.loop-row.at c.in-Some.row.now (sym c.in-Some.ensures.first))
-    c.loop-row.invariant (c.is_retirable.ensures.0 c.if-is_retirable.true), λ any. refl)
+    let grants = (replay c.args.account.now.entries).grants in (
+      λ t. found_one P (own c.args.key.now grants) _ _ c.in-Some.row.now (on c.args.key.now grants c.in-Some.ensures.order c.loop-row.at c.in-Some.row.now (sym c.in-Some.ensures.first))
+          c.loop-row.invariant (c.is_retirable.ensures.0 c.if-is_retirable.true),
+      λ any. refl,
+    )
 
 pub loop-row-smaller : goal.loop-row-smaller
 loop-row-smaller c =

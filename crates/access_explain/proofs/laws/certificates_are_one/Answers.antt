@@ -1,5 +1,4 @@
 use Rattle.access_explain.proofs.CertificateFacts.{one_certificate}
-use Rattle.access_explain.proofs.MayFacts.{on_key, on_other, on_retiring}
 use Rattle.access_explain.proofs.laws.certificates_are_one.Goals as goal
 
 pub returns : goal.returns
