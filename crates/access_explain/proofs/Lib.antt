@@ -10,4 +10,5 @@ mod CertificateFacts
 mod MayFacts
 mod LineFacts
 mod AskedFacts
+mod HeldFacts
 mod LawFacts

@@ -1,6 +1,6 @@
 //! Laws of certificates. Each stands as the contract of a function that does nothing.
 
-ghost use Rattle.access_explain.specs.Laws.{CertificatesAreOne, EarlyWhereNothingIsAsked, AllowedWhereNoneIsDenied};
+ghost use Rattle.access_explain.specs.Laws.{CertificatesAreOne, EarlyWhereNothingIsAsked, WhatIsAskedIsThere, AllowedWhereNoneIsDenied};
 
 use account_laws::{authority_passes_where_statements_allow, grants_permit, rows_stand_in_order};
 
@@ -12,6 +12,11 @@ pub fn certificates_are_one()
 /// A certificate is early exactly where the request is refused before authority is asked.
 pub fn early_where_nothing_is_asked()
     ensures { EarlyWhereNothingIsAsked }
+{}
+
+/// What the step of authority asks about a request is asked about keys whose rows are there, and about grants that are there.
+pub fn what_is_asked_is_there()
+    ensures { WhatIsAskedIsThere }
 {}
 
 /// Where these questions are asked, a certificate is allowed exactly where the step of authority, which knows nothing of marks, denies
