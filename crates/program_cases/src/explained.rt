@@ -1,7 +1,7 @@
 // What `explain` tells of sessions, line by line.
 ghost use Rattle.std.specs.Prelude.{◌≡◌, IfOk, vec_len};
 
-use crate::scenes::{BEGIN, Failure, clocks, words_of};
+use crate::scenes::{Failure, clocks, words_of};
 use kms_io::{Clock, MemoryClock, MemoryDoor, MemoryFiles, MemoryLink, NoGate};
 use kms_names::NoMemory;
 use kms_program::kms_main;
@@ -62,14 +62,27 @@ fn later_clocks(alloc: Global) -> Result<Vec<MemoryClock>, NoMemory>
 {
     let mut clocks = Vec::with_capacity(alloc, 64)?;
     while clocks.len() < 64 {
-        let answers = vec![in alloc; 1_700_000_000, 1_700_000_001, 1_700_691_202, 1_700_691_203, 1_700_691_204]?;
+        let answers = vec![in alloc;
+            1_700_000_000,
+            1_700_000_001,
+            1_700_691_202,
+            1_700_691_203,
+            1_700_691_204,
+        ]?;
         clocks.push(MemoryClock::new(answers))?;
     }
     Ok(clocks)
 }
 
+// The file of a configuration.
+fn files_of(alloc: Global, config: String) -> Result<MemoryFiles, NoMemory> {
+    let mut files = Vec::new(alloc);
+    files.push((String::from_str(alloc, "config.json")?, config.into_bytes()))?;
+    Ok(MemoryFiles::new(alloc, files, Vec::new(alloc)))
+}
+
 // Lets the program explain a session, and shows its status and its lines.
-fn show<W: rt::Runtime<A = Global> + Threads + Wait + Sync, C: Clock + Send>(
+fn show<W: rt::Runtime<A = Global> + Threads + Wait + Sync, C: Clock + Send + Drop>(
     rt: &W,
     session: &Session<'_>,
     clocks: &mut Vec<C>,
@@ -80,22 +93,13 @@ fn show<W: rt::Runtime<A = Global> + Threads + Wait + Sync, C: Clock + Send>(
     let words = words_of(alloc, EXPLAIN)?;
     let config = fs::read_to_string(rt, session.config)?;
     let messages = fs::read_to_string(rt, session.messages)?;
-    let mut named = Vec::new(alloc);
-    named.push((String::from_str(alloc, "config.json")?, config.into_bytes()))?;
-    let mut files = MemoryFiles::new(alloc, named, Vec::new(alloc));
+    let mut files = files_of(alloc, config)?;
     let pieces = Vec::new(alloc);
     let none = Vec::new(alloc);
     let mut link = MemoryLink::new(alloc, messages.into_bytes(), pieces, none, Vec::new(alloc));
     let mut door = MemoryDoor::new(alloc, Vec::new(alloc), Vec::new(alloc));
     let status = kms_main(
-        rt,
-        alloc,
-        &words,
-        &mut files,
-        &mut link,
-        clocks,
-        &mut door,
-        &NoGate,
+        rt, alloc, &words, &mut files, &mut link, clocks, &mut door, &NoGate,
     );
     let what = session.what;
     let written = str::from_utf8(link.written()).unwrap_or("no text");

@@ -6,11 +6,14 @@ mod explained;
 mod scenes;
 
 use scenes::Failure;
-use std::io;
+use std::alloc::Global;
 use std::process::ExitCode;
+use std::sync::Wait;
+use std::thread::Threads;
+use std::{io, rt};
 
 // The scenes, and then the sessions that are explained.
-fn show_all(rt: &HostRuntime) -> Result<(), Failure> {
+fn show_all<W: rt::Runtime<A = Global> + Threads + Wait + Sync>(rt: &W) -> Result<(), Failure> {
     scenes::show_all(rt)?;
     explained::show_all(rt)
 }

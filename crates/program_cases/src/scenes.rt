@@ -34,7 +34,7 @@ impl From<io::Error> for Failure {
 }
 
 // The clock's first answer.
-pub(crate) const BEGIN: u64 = 1_700_000_000;
+const BEGIN: u64 = 1_700_000_000;
 
 // A session of the root of account 111122223333, with a root secret of zeros.
 const RUN: &[&str] = &[
