@@ -1,12 +1,11 @@
 -- What the step of authority is asked about is there.
 use Rattle.std.proofs.Common.{◌≡◌, ℕ, Bool, true, false, cond, List, [], ◌∷◌, ◌++◌, length, map, Option, None, Some, Result, Ok, Err, refl, sym, ap, ◌∙◌, subst, append-nil}
-use Rattle.std.specs.Prelude.{⊤, All, find, option_and_then, ok_or, if◌then◌else◌}
+use Rattle.std.specs.Prelude.{All, find, option_and_then, if◌then◌else◌}
 use Rattle.std.specs.Str.{bytes_eq}
 use Rattle.std.proofs.lemmas.List.Elements.{All-nil, All-cons}
 use Rattle.std.proofs.lemmas.Slice.Eq.{bytes_eq-Decides}
 use Rattle.kms_names.specs.declared.actions.Action.{Action}
 use Rattle.kms_names.specs.declared.actions.Action.TheVariants as action
-use Rattle.kms_json.specs.declared.asks.Ask.{Ask}
 use Rattle.kms_json.specs.declared.asks.AskBody.{AskBody}
 use Rattle.kms_json.specs.declared.asks.AskBody.TheVariants as ask
 use Rattle.kms_json.specs.declared.asks.Changing.{Changing}
@@ -19,15 +18,12 @@ use Rattle.kms_json.specs.declared.refusals.Refusal.{Refusal}
 use Rattle.alias_map.specs.declared.rows.AliasRow.{AliasRow}
 use Rattle.alias_map.specs.Aliases.{row_named}
 use Rattle.authority.specs.Setting.{Particulars}
-use Rattle.blob_format.specs.Names.{named_in}
 use Rattle.grant_table.specs.Grants.{has_id, grant_with}
 use Rattle.grant_table.specs.declared.rows.GrantRow.{GrantRow}
 use Rattle.key_states.specs.declared.rows.KeyRow.{KeyRow}
 use Rattle.resource_tags.specs.declared.tags.Tag.{Tag}
 use Rattle.account_rows.specs.History.{key_with}
-use Rattle.account_rows.specs.declared.entries.Entry.{Entry}
 use Rattle.account_steps.specs.declared.checks.Named.{Named}
-use Rattle.account_steps.specs.declared.facts.RealmFacts.{RealmFacts}
 use Rattle.account_steps.specs.declared.questions.Question.{Question as Posed}
 use Rattle.account_steps.specs.Authority.{Question, on_key, on_other, retiring, posed}
 use Rattle.account_steps.specs.Parts.{Parts, questions_of, grant_of_token, grant_id_of}
@@ -46,7 +42,6 @@ use Rattle.account_crypto.specs.declared.re_encrypt.Turning.{Turning}
 use Rattle.account_keys.specs.declared.grants.Granting.{Granting}
 use Rattle.account_keys.specs.declared.grants.Revoking.{Revoking}
 use Rattle.account_lists.specs.declared.lists.ListedOf.{ListedOf}
-use Rattle.account_lists.specs.declared.lists.Sought.{Sought}
 use Rattle.kms_json.specs.declared.asks.grants.CreateGrant.{CreateGrant}
 use Rattle.account_keys.specs.Grants.{granting_of, grant_of, if_of_key, retired_of, revoking_of, creates_grant, retires_grant, revokes_grant}
 use Rattle.account_keys.specs.KeyChanges.{changes_key, gets_rotation_status}

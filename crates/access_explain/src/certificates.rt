@@ -95,8 +95,9 @@ fn same_certificate(one: &Certificate, other: &Certificate) -> bool
         && same_findings(one.findings.as_slice(), other.findings.as_slice())
 }
 
-/// The certificate of a request at an account: each statement, grant and document that the step of authority asks, by its mark, and
-/// the ground that they come to, for each question up to the first that is denied. There is exactly one.
+/// The certificate of a request at an account: each statement, grant and document that the step of
+/// authority asks, by its mark, and the ground that they come to, for each question up to the first
+/// that is denied. There is exactly one.
 pub fn explain(alloc: Global, account: &Account, ask: &Ask) -> Result<Certificate, NoMemory>
     requires { IsProper account.now.facts ask.now }
     ensures { IfOk result (λ certificate. IsCertificate account.now.facts account.now.entries ask.now certificate) }
@@ -105,8 +106,9 @@ pub fn explain(alloc: Global, account: &Account, ask: &Ask) -> Result<Certificat
     certificate_by(alloc, account, &asked)
 }
 
-/// Whether this is the certificate of a request at an account. Each mark is found anew, by the globs, the conditions and the plain
-/// tests of grants, without what policies are compiled to when requests are served.
+/// Whether this is the certificate of a request at an account. Each mark is found anew, by the
+/// globs, the conditions and the plain tests of grants, without what policies are compiled to when
+/// requests are served.
 pub fn check_certificate(
     alloc: Global,
     account: &Account,

@@ -30,13 +30,16 @@ pub struct Finding {
     pub resource: Text,
     /// Why it is allowed or denied.
     pub ground: Ground,
-    /// The marks of the statements of the policy of the key, in order; none where the question is about no key.
+    /// The marks of the statements of the policy of the key, in order; none where the question is
+    /// about no key.
     pub key_marks: MarkList,
-    /// The marks of the statements of the caller's own policies, one policy after another; the root has none.
+    /// The marks of the statements of the caller's own policies, one policy after another; the root
+    /// has none.
     pub identity_marks: MarkList,
     /// The marks of the statements of the account's ceiling, one document after another.
     pub ceiling_marks: MarkList,
-    /// The marks of the grants of the key, in order of making; none where what is asked is no operation of grants.
+    /// The marks of the grants of the key, in order of making; none where what is asked is no
+    /// operation of grants.
     pub grant_marks: MarkList,
 }
 

@@ -53,8 +53,8 @@ fn suits(op: GrantOp, grants: &OfGrants, row: &GrantRow) -> bool
     }
 }
 
-// The mark of a grant: `Hit` where it permits the caller the operation, else the first that fails of its grantee, its
-// operations, and its constraint or the child.
+// The mark of a grant: `Hit` where it permits the caller the operation, else the first that fails
+// of its grantee, its operations, and its constraint or the child.
 fn grant_mark_of(caller: &Principal, op: GrantOp, grants: &OfGrants, row: &GrantRow) -> Mark
     ensures { IsGrantMark caller.now op grants.now row.now result }
 {
@@ -101,7 +101,8 @@ fn marks_for(
     Ok(MarkList::new(marks))
 }
 
-/// The marks of the grants of a key, in order of making; none where what is asked is no operation of grants.
+/// The marks of the grants of a key, in order of making; none where what is asked is no operation
+/// of grants.
 pub fn grant_marks(
     alloc: Global,
     account: &Account,
@@ -154,7 +155,8 @@ fn retires(account: &Account, key: &KeyId, grant: &GrantId, caller: &Principal) 
     false
 }
 
-/// Whether a question is about a grant that is to be retired, which is one of its key, and the caller may retire it.
+/// Whether a question is about a grant that is to be retired, which is one of its key, and the
+/// caller may retire it.
 pub fn may_retire_asked(account: &Account, subject: &Subject, caller: &Principal) -> bool
     ensures { IsTrue result ↔ Retires caller.now (replay account.now.entries).grants subject.now }
 {

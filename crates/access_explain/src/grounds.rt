@@ -13,15 +13,16 @@ pub enum Ground {
     KeyDeny,
     /// It is denied: a Deny statement of the caller's own policies hits.
     IdentityDeny,
-    /// It is denied: a Deny statement of the account's ceiling hits, or the account has a ceiling and no Allow statement of it
-    /// does.
+    /// It is denied: a Deny statement of the account's ceiling hits, or the account has a ceiling
+    /// and no Allow statement of it does.
     Ceiling,
     /// It is allowed: an Allow statement of the policy of the key hits.
     KeyPolicy,
-    /// It is allowed: an Allow statement of the policy of the key hits the root of the account, and one of the caller's own
-    /// policies hits.
+    /// It is allowed: an Allow statement of the policy of the key hits the root of the account, and
+    /// one of the caller's own policies hits.
     RootAndIdentity,
-    /// It is allowed: an Allow statement of the caller's own policies hits, and the question is about no key.
+    /// It is allowed: an Allow statement of the caller's own policies hits, and the question is
+    /// about no key.
     Identity,
     /// It is allowed: the caller is the root of the account, and the question is about no key.
     Root,

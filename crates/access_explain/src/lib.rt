@@ -1,5 +1,6 @@
-//! Why a request was served or denied: each statement, grant and document that was asked has its mark, and the marks say
-//! the ground (IAM User Guide, "Policy evaluation logic"; AWS KMS Developer Guide, "Troubleshooting key access").
+//! Why a request was served or denied: each statement, grant and document that was asked has its
+//! mark, and the marks say the ground (IAM User Guide, "Policy evaluation logic"; AWS KMS Developer
+//! Guide, "Troubleshooting key access").
 #![tactic(auto)]
 
 mod certificates;

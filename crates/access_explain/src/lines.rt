@@ -113,10 +113,12 @@ fn certificate_value(
     Ok(json!(in alloc; {"decision": decision, "questions": questions, "then": then})?)
 }
 
-/// The line of a certificate: a JSON object in its compact form, and a line feed. Its members are `decision`, which is `Early`,
-/// `Allowed` or `Denied`; `questions`, the list of what is found of each, with its action, its resource, the ground (`by`) and the four
-/// runs of marks, of the key, the caller, the ceiling and the grants, joined by `/`; and `then`, which is the exception of the reply, or
-/// what stands for it. A mark is one letter: H for `Hit`, T for `RootHit`, P, A, R and C for the part that fails.
+/// The line of a certificate: a JSON object in its compact form, and a line feed. Its members are
+/// `decision`, which is `Early`, `Allowed` or `Denied`; `questions`, the list of what is found of
+/// each, with its action, its resource, the ground (`by`) and the four runs of marks, of the key,
+/// the caller, the ceiling and the grants, joined by `/`; and `then`, which is the exception of the
+/// reply, or what stands for it. A mark is one letter: H for `Hit`, T for `RootHit`, P, A, R and C
+/// for the part that fails.
 pub fn certificate_line(
     alloc: Global,
     certificate: &Certificate,

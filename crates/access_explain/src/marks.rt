@@ -6,20 +6,21 @@ use std::marker::Model;
 /// What became of a statement or of a grant where a question was asked of it.
 #[derive(Clone, Copy, PartialEq, Eq)]
 pub enum Mark {
-    /// The statement matches, or the grant permits. A statement of a key's policy also names everyone or the caller, or denies
-    /// and names the root of the caller's account.
+    /// The statement matches, or the grant permits. A statement of a key's policy also names
+    /// everyone or the caller, or denies and names the root of the caller's account.
     Hit,
-    /// Of a key's policy: an Allow statement matches, and names the root of the caller's account, but neither everyone nor the
-    /// caller. So the caller's own policies may allow it.
+    /// Of a key's policy: an Allow statement matches, and names the root of the caller's account,
+    /// but neither everyone nor the caller. So the caller's own policies may allow it.
     RootHit,
-    /// A statement of a key's policy names none of everyone, the caller and the root of its account; a grant has another grantee.
+    /// A statement of a key's policy names none of everyone, the caller and the root of its
+    /// account; a grant has another grantee.
     Principal,
     /// The action isn't one that the statement is about; the operation isn't among the grant's.
     Action,
     /// The resource isn't one that the statement is about.
     Resource,
-    /// A condition of the statement doesn't hold; the grant's constraint doesn't hold of the encryption context, or what is asked
-    /// for wouldn't be a child of the grant.
+    /// A condition of the statement doesn't hold; the grant's constraint doesn't hold of the
+    /// encryption context, or what is asked for wouldn't be a child of the grant.
     Condition,
 }
 

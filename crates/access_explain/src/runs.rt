@@ -90,7 +90,8 @@ impl Run {
         Ok(run)
     }
 
-    /// The marks of the statements of documents, one document after another, of which whom they name doesn't count.
+    /// The marks of the statements of documents, one document after another, of which whom they
+    /// name doesn't count.
     pub fn of_documents(
         alloc: Global,
         documents: &[Policy],
@@ -114,8 +115,8 @@ impl Run {
             .any(|marked| marked.allow == allow && marked.mark == mark)
     }
 
-    /// Whether the documents of a ceiling, of which this is the run, let a question pass: there are none, or no Deny statement hits and
-    /// an Allow statement does.
+    /// Whether the documents of a ceiling, of which this is the run, let a question pass: there are
+    /// none, or no Deny statement hits and an Allow statement does.
     pub fn lets_pass(&self, documents: &[Policy]) -> bool
         ensures { IsTrue result ↔ ((documents.now ≡ []) ⊎ (¬ (SomeMarked false mark.Hit self.now) × SomeMarked true mark.Hit self.now)) }
     {

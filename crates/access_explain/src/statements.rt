@@ -153,8 +153,8 @@ fn names_account(names: &[Named], caller: &Principal) -> bool
 
 // ---- marks
 
-/// The mark of a statement of a caller's own policies, or of the ceiling: `Hit` where it matches, else the first that fails of
-/// its action, its resource and its conditions.
+/// The mark of a statement of a caller's own policies, or of the ceiling: `Hit` where it matches,
+/// else the first that fails of its action, its resource and its conditions.
 pub fn mark_of(statement: &Statement, facts: &RequestFacts) -> Mark
     ensures { IsMark statement.now facts.now result }
 {
