@@ -33,7 +33,7 @@ use Rattle.access_explain.specs.declared.subjects.Subject.{Subject}
 use Rattle.access_explain.specs.Certificates.{IfAllowed, AreFindings, none_denies}
 use Rattle.access_explain.specs.Findings.{Basis, subject_by, policy_statements, AreGrantMarks, IsRetirable, IsFindingOn, IsFinding}
 use Rattle.access_explain.specs.Grounds.{allows}
-use Rattle.access_explain.specs.Laws.{IsHeld}
+use Rattle.account_laws.specs.Laws.{IsHeld}
 use Rattle.access_explain.specs.Marks.{IsGrantMark}
 use Rattle.access_explain.specs.Runs.{OneByOne}
 use Rattle.access_explain.proofs.MarkFacts.{one_grant_mark}

@@ -10,5 +10,4 @@ mod CertificateFacts
 mod MayFacts
 mod LineFacts
 mod AskedFacts
-mod HeldFacts
 mod LawFacts

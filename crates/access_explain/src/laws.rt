@@ -1,8 +1,11 @@
 //! Laws of certificates. Each stands as the contract of a function that does nothing.
 
-ghost use Rattle.access_explain.specs.Laws.{CertificatesAreOne, EarlyWhereNothingIsAsked, WhatIsAskedIsThere, AllowedWhereNoneIsDenied};
+ghost use Rattle.access_explain.specs.Laws.{CertificatesAreOne, EarlyWhereNothingIsAsked, AllowedWhereNoneIsDenied, CertificatesExplainReplies};
 
-use account_laws::{authority_passes_where_statements_allow, grants_permit, rows_stand_in_order};
+use account_laws::{
+    authority_asks_these_questions, authority_passes_where_statements_allow, grants_permit,
+    rows_stand_in_order,
+};
 
 /// A request has one certificate at an account: two that both are its certificate are the same,
 /// mark by mark.
@@ -15,12 +18,6 @@ pub fn early_where_nothing_is_asked()
     ensures { EarlyWhereNothingIsAsked }
 {}
 
-/// What the step of authority asks about a request is asked about keys whose rows are there, and
-/// about grants that are there.
-pub fn what_is_asked_is_there()
-    ensures { WhatIsAskedIsThere }
-{}
-
 /// Where these questions are asked, a certificate is allowed exactly where the step of authority,
 /// which knows nothing of marks, denies none of them: so what the marks say is what the account's
 /// decision goes by. The caller's own policies are of the kind `Identity`.
@@ -30,4 +27,15 @@ pub fn allowed_where_none_is_denied()
     authority_passes_where_statements_allow();
     grants_permit();
     rows_stand_in_order();
+}
+
+/// A certificate says what the reply goes by, for any pass. Where it is early, the reply is a refusal
+/// that comes before authority; else it is allowed exactly where the step of authority denies none of
+/// the questions that it asks, and the first denial is the reply.
+pub fn certificates_explain_replies()
+    ensures { CertificatesExplainReplies }
+{
+    authority_asks_these_questions();
+    early_where_nothing_is_asked();
+    allowed_where_none_is_denied();
 }

@@ -19,6 +19,9 @@ mod subjects;
 pub use certificates::{Certificate, check_certificate, explain};
 pub use findings::{Finding, FindingList};
 pub use grounds::Ground;
-pub use laws::{allowed_where_none_is_denied, certificates_are_one, early_where_nothing_is_asked};
+pub use laws::{
+    allowed_where_none_is_denied, certificates_are_one, certificates_explain_replies,
+    early_where_nothing_is_asked,
+};
 pub use lines::certificate_line;
 pub use marks::{Mark, MarkList};

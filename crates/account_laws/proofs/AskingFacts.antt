@@ -15,6 +15,11 @@ use Rattle.account_steps.specs.declared.places.Places.{Places}
 use Rattle.account_steps.specs.declared.places.Uses.{Uses}
 use Rattle.account_steps.specs.declared.questions.Question.{Question as Posed}
 use Rattle.account_steps.specs.Places.{no_places}
+use Rattle.std.specs.Prelude.{All}
+use Rattle.std.proofs.lemmas.List.Elements.{All-nil, All-cons}
+use Rattle.kms_names.specs.declared.actions.Action.TheVariants as action
+use Rattle.account_crypto.specs.Crypto.{of_source, of_destination}
+use Rattle.account_steps.proofs.Holding.{key_there}
 use Rattle.account_steps.specs.Steps.{unless, and_then, or_else, key_of, only_key_of}
 use Rattle.account_steps.specs.View.{View, view_of}
 use Rattle.account_steps.specs.Authority.{Question, on_key, on_other, retiring, posed, may_on_key, may_on_other, denied_one, denied}
@@ -35,13 +40,14 @@ use Rattle.account_lists.specs.declared.lists.KeyList.TheVariants as of
 use Rattle.account_tags.specs.Tagging.{tags_key, untags_key, lists_tags}
 use Rattle.account_core.specs.Operations.{change_outcome, read_outcome, change_asked, read_asked}
 use Rattle.account_core.specs.Decide.{lacking, decide_body, decide, asked_of_body, asked_by, asked_at}
-use Rattle.account_laws.specs.Laws.{reply_to, IsAskedSo, AuthorityAsksTheseQuestions}
+use Rattle.account_laws.specs.Laws.{reply_to, IsHeld, IsAskedSo, AuthorityAsksTheseQuestions}
+use Rattle.account_laws.proofs.HeldFacts.{one, other, source_there, moved, retired_there, granting_there, revoking_there, listed_there, turning_there, tags_other, by_key}
 
 -- ---- one operation
 
 -- the first denial is the outcome, and what isn't found refuses before
 record Tells {E : Type 0} (view : View) (wanted : Result (List Posed) Refusal) (out : Result (Outcome E) Refusal) : Type 0 where
-  asks : (list : List Posed) → wanted ≡ Ok list → (questions : List Question) × (list ≡ map (posed view) questions) × ((why : Refusal) → denied view questions ≡ Some why → out ≡ Err why)
+  asks : (list : List Posed) → wanted ≡ Ok list → (questions : List Question) × (list ≡ map (posed view) questions) × All (IsHeld view) questions × ((why : Refusal) → denied view questions ≡ Some why → out ≡ Err why)
   early : (why : Refusal) → wanted ≡ Err why → out ≡ Err why
 
 refused_of : {A B : Type 0} (found : Result A Refusal) (next : A → B) (why : Refusal) → and_then found (λ (f : A). Ok (next f)) ≡ Err why → found ≡ Err why
@@ -56,61 +62,104 @@ module _ {F G E : Type 0} (denies : F → Option Refusal) (next : F → Result G
   lacks : (found : Result F Refusal) (why : Refusal) → found ≡ Err why → and_then (and_then found (λ (v : F). unless (denies v) (next v))) rest ≡ Err why
   lacks found why is = ap (λ (r : Result F Refusal). and_then (and_then r (λ (v : F). unless (denies v) (next v))) rest) is
 
-tells : {F R E : Type 0} (view : View) (parts : Parts F R) (limit : E → Option Refusal) (effect : F → R → E) → Tells view (questions_of view parts) (outcome view parts limit effect)
-tells {F} view parts limit effect = record {
+-- what an operation asks is about what is there
+abbrev AsksOfWhatIsThere : {F R : Type 0} → View → Parts F R → Type 0
+AsksOfWhatIsThere {F} {R} view parts = (f : F) → parts.found ≡ Ok f → All (IsHeld view) (parts.questions f)
+
+tells : {F R E : Type 0} (view : View) (parts : Parts F R) (limit : E → Option Refusal) (effect : F → R → E) → AsksOfWhatIsThere view parts → Tells view (questions_of view parts) (outcome view parts limit effect)
+tells {F} view parts limit effect held = record {
   asks = λ list e.
       let found = found_of parts.found (λ (f : F). Ok (map (posed view) (parts.questions f))) list e in
-      (parts.questions found.value, sym (ok_same (map (posed view) (parts.questions found.value)) list found.came), λ why no. stops (λ (f : F). denied view (parts.questions f)) _ _ parts.found found.value why found.is no);
+      (parts.questions found.value, sym (ok_same (map (posed view) (parts.questions found.value)) list found.came), held found.value found.is, λ why no. stops (λ (f : F). denied view (parts.questions f)) _ _ parts.found found.value why found.is no);
   early = λ why e. lacks (λ (f : F). denied view (parts.questions f)) _ _ parts.found why (refused_of parts.found (λ (f : F). map (posed view) (parts.questions f)) why e);
 }
 
-read_tells : {F R : Type 0} (view : View) (op : ReadParts F R) → Tells view (questions_of view op.parts) (reads view op)
-read_tells view op = tells view op.parts (spent view.places) (λ found ready. op.takes)
+read_tells : {F R : Type 0} (view : View) (op : ReadParts F R) → AsksOfWhatIsThere view op.parts → Tells view (questions_of view op.parts) (reads view op)
+read_tells view op held = tells view op.parts (spent view.places) (λ found ready. op.takes) held
 
-change_tells : {F R : Type 0} (view : View) (op : ChangeParts F R) → Tells view (questions_of view op.parts) (changes view op)
-change_tells view op = tells view op.parts (limited view) op.does
+change_tells : {F R : Type 0} (view : View) (op : ChangeParts F R) → AsksOfWhatIsThere view op.parts → Tells view (questions_of view op.parts) (changes view op)
+change_tells view op held = tells view op.parts (limited view) op.does held
 
 -- ---- all of them
 
 change_told : (view : View) (body : Changing) → Tells view (change_asked view body) (change_outcome view body)
-change_told view (changing.CreateKey x) = change_tells view (creates_key view x)
-change_told view (changing.PutKeyPolicy key_id text bypass) = change_tells view (puts_policy view key_id text bypass)
-change_told view (changing.UpdateKeyDescription key_id text) = change_tells view (changes_key view key_id (change.Describe text))
-change_told view (changing.EnableKey key_id) = change_tells view (changes_key view key_id change.Enable)
-change_told view (changing.DisableKey key_id) = change_tells view (changes_key view key_id change.Disable)
-change_told view (changing.ScheduleKeyDeletion key_id days) = change_tells view (changes_key view key_id (change.ScheduleDeletion days))
-change_told view (changing.CancelKeyDeletion key_id) = change_tells view (changes_key view key_id change.CancelDeletion)
-change_told view (changing.EnableKeyRotation key_id period) = change_tells view (changes_key view key_id (change.RotateEvery period))
-change_told view (changing.DisableKeyRotation key_id) = change_tells view (changes_key view key_id change.RotateNoMore)
-change_told view (changing.RotateKeyOnDemand key_id) = change_tells view (changes_key view key_id change.RotateNow)
-change_told view (changing.CreateAlias name key_id) = change_tells view (changes_alias view name (alias.Create key_id))
-change_told view (changing.UpdateAlias name key_id) = change_tells view (changes_alias view name (alias.Update key_id))
-change_told view (changing.DeleteAlias name) = change_tells view (changes_alias view name alias.Delete)
-change_told view (changing.CreateGrant x) = change_tells view (creates_grant view x)
-change_told view (changing.RetireGrant grant dry_run) = change_tells view (retires_grant view grant dry_run)
-change_told view (changing.RevokeGrant key_id grant_id dry_run) = change_tells view (revokes_grant view key_id grant_id dry_run)
-change_told view (changing.TagResource key_id tags) = change_tells view (tags_key view key_id tags)
-change_told view (changing.UntagResource key_id keys) = change_tells view (untags_key view key_id keys)
+change_told view (changing.CreateKey x) =
+    change_tells view (creates_key view x) (λ found e. other view action.CreateKey _ _ _ (tags_other view x.tags _))
+change_told view (changing.PutKeyPolicy key_id text bypass) =
+    change_tells view (puts_policy view key_id text bypass) (λ row e. one view _ row _ (by_key view key_id row e))
+change_told view (changing.UpdateKeyDescription key_id text) =
+    change_tells view (changes_key view key_id (change.Describe text)) (λ row e. one view _ row _ (by_key view key_id row e))
+change_told view (changing.EnableKey key_id) =
+    change_tells view (changes_key view key_id change.Enable) (λ row e. one view _ row _ (by_key view key_id row e))
+change_told view (changing.DisableKey key_id) =
+    change_tells view (changes_key view key_id change.Disable) (λ row e. one view _ row _ (by_key view key_id row e))
+change_told view (changing.ScheduleKeyDeletion key_id days) =
+    change_tells view (changes_key view key_id (change.ScheduleDeletion days)) (λ row e. one view _ row _ (by_key view key_id row e))
+change_told view (changing.CancelKeyDeletion key_id) =
+    change_tells view (changes_key view key_id change.CancelDeletion) (λ row e. one view _ row _ (by_key view key_id row e))
+change_told view (changing.EnableKeyRotation key_id period) =
+    change_tells view (changes_key view key_id (change.RotateEvery period)) (λ row e. one view _ row _ (by_key view key_id row e))
+change_told view (changing.DisableKeyRotation key_id) =
+    change_tells view (changes_key view key_id change.RotateNoMore) (λ row e. one view _ row _ (by_key view key_id row e))
+change_told view (changing.RotateKeyOnDemand key_id) =
+    change_tells view (changes_key view key_id change.RotateNow) (λ row e. one view _ row _ (by_key view key_id row e))
+change_told view (changing.CreateAlias name key_id) =
+    change_tells view (changes_alias view name (alias.Create key_id)) (moved view name (alias.Create key_id))
+change_told view (changing.UpdateAlias name key_id) =
+    change_tells view (changes_alias view name (alias.Update key_id)) (moved view name (alias.Update key_id))
+change_told view (changing.DeleteAlias name) =
+    change_tells view (changes_alias view name alias.Delete) (moved view name alias.Delete)
+change_told view (changing.CreateGrant x) =
+    change_tells view (creates_grant view x) (λ granting e. one view _ granting.row _ (granting_there view x granting e))
+change_told view (changing.RetireGrant grant dry_run) =
+    change_tells view (retires_grant view grant dry_run) (λ row e. All-cons (IsHeld view) (retiring row) [] (retired_there view grant row e) (All-nil (IsHeld view)))
+change_told view (changing.RevokeGrant key_id grant_id dry_run) =
+    change_tells view (revokes_grant view key_id grant_id dry_run) (λ revoking e. one view _ revoking.row _ (revoking_there view key_id grant_id revoking e))
+change_told view (changing.TagResource key_id tags) =
+    change_tells view (tags_key view key_id tags) (λ row e. one view _ row _ (by_key view key_id row e))
+change_told view (changing.UntagResource key_id keys) =
+    change_tells view (untags_key view key_id keys) (λ row e. one view _ row _ (by_key view key_id row e))
 
 read_told : (view : View) (body : Reading) → Tells view (read_asked view body) (read_outcome view body)
-read_told view (reading.DescribeKey key_id tokens) = read_tells view (describes_key view key_id tokens)
-read_told view (reading.ListKeys page) = read_tells view (lists_in view all.Keys page)
-read_told view (reading.ListAliases key_id page) = read_tells view (lists_in view (all.Aliases key_id) page)
-read_told view (reading.ListRetirableGrants who page) = read_tells view (lists_in view (all.RetirableGrants who) page)
-read_told view (reading.ListKeyPolicies key_id page) = read_tells view (lists_on view key_id of.Policies page)
-read_told view (reading.ListKeyRotations key_id page) = read_tells view (lists_on view key_id of.Rotations page)
-read_told view (reading.ListGrants x) = read_tells view (lists_on view x.key_id (of.Grants x.grant_id x.grantee) x.page)
-read_told view (reading.GetKeyPolicy key_id) = read_tells view (gets_policy view key_id)
-read_told view (reading.GetKeyRotationStatus key_id) = read_tells view (gets_rotation_status view key_id)
-read_told view (reading.Encrypt x) = read_tells view (encrypts view x)
-read_told view (reading.Decrypt x) = read_tells view (decrypts view x)
-read_told view (reading.ReEncrypt x) = read_tells view (re_encrypts view x)
-read_told view (reading.GenerateDataKey x recipient) = read_tells view (generates_data_key view x (form.Plaintext recipient))
-read_told view (reading.GenerateDataKeyWithoutPlaintext x) = read_tells view (generates_data_key view x form.Sealed)
-read_told view (reading.GenerateRandom size custom_key_store recipient) = read_tells view (generates_random view size custom_key_store recipient)
-read_told view (reading.GenerateMac x) = read_tells view (generates_mac view x)
-read_told view (reading.VerifyMac x) = read_tells view (verifies_mac view x)
-read_told view (reading.ListResourceTags key_id page) = read_tells view (lists_tags view key_id page)
+read_told view (reading.DescribeKey key_id tokens) =
+    read_tells view (describes_key view key_id tokens) (λ named e. one view _ named.row _ (key_there view key_id named e))
+read_told view (reading.ListKeys page) =
+    read_tells view (lists_in view all.Keys page) (λ listed e. other view _ _ _ [] (All-nil (IsHeld view)))
+read_told view (reading.ListAliases key_id page) =
+    read_tells view (lists_in view (all.Aliases key_id) page) (λ listed e. other view _ _ _ [] (All-nil (IsHeld view)))
+read_told view (reading.ListRetirableGrants retiree page) =
+    read_tells view (lists_in view (all.RetirableGrants retiree) page) (λ listed e. other view _ _ _ [] (All-nil (IsHeld view)))
+read_told view (reading.ListKeyPolicies key_id page) =
+    read_tells view (lists_on view key_id of.Policies page) (λ listed e. one view _ listed.row _ (listed_there view key_id of.Policies listed e))
+read_told view (reading.ListKeyRotations key_id page) =
+    read_tells view (lists_on view key_id of.Rotations page) (λ listed e. one view _ listed.row _ (listed_there view key_id of.Rotations listed e))
+read_told view (reading.ListGrants x) =
+    read_tells view (lists_on view x.key_id (of.Grants x.grant_id x.grantee) x.page) (λ listed e. one view _ listed.row _ (listed_there view x.key_id (of.Grants x.grant_id x.grantee) listed e))
+read_told view (reading.GetKeyPolicy key_id) =
+    read_tells view (gets_policy view key_id) (λ row e. one view _ row _ (by_key view key_id row e))
+read_told view (reading.GetKeyRotationStatus key_id) =
+    read_tells view (gets_rotation_status view key_id) (λ row e. one view _ row _ (by_key view key_id row e))
+read_told view (reading.Encrypt x) =
+    read_tells view (encrypts view x) (λ named e. one view _ named.row _ (key_there view x.key_id named e))
+read_told view (reading.Decrypt x) =
+    read_tells view (decrypts view x) (λ source e. one view _ source.row _ (source_there view action.Decrypt x.key_id x.blob source e))
+read_told view (reading.ReEncrypt x) =
+    read_tells view (re_encrypts view x) (λ turning e.
+      let both = turning_there view x.source_key_id x.blob x.key_id turning e in
+      All-cons (IsHeld view) (on_key action.ReEncryptFrom turning.source.row (of_source view x turning)) (on_key action.ReEncryptTo turning.to.row (of_destination view x turning) ∷ []) both.0
+      (one view action.ReEncryptTo turning.to.row (of_destination view x turning) both.1))
+read_told view (reading.GenerateDataKey x recipient) =
+    read_tells view (generates_data_key view x (form.Plaintext recipient)) (λ named e. one view _ named.row _ (key_there view x.key_id named e))
+read_told view (reading.GenerateDataKeyWithoutPlaintext x) =
+    read_tells view (generates_data_key view x form.Sealed) (λ named e. one view _ named.row _ (key_there view x.key_id named e))
+read_told view (reading.GenerateRandom size custom_key_store recipient) =
+    read_tells view (generates_random view size custom_key_store recipient) (λ found e. other view _ _ _ [] (All-nil (IsHeld view)))
+read_told view (reading.GenerateMac x) =
+    read_tells view (generates_mac view x) (λ named e. one view _ named.row _ (key_there view x.key_id named e))
+read_told view (reading.VerifyMac x) =
+    read_tells view (verifies_mac view x) (λ named e. one view _ named.row _ (key_there view x.key_id named e))
+read_told view (reading.ListResourceTags key_id page) =
+    read_tells view (lists_tags view key_id page) (λ row e. one view _ row _ (by_key view key_id row e))
 
 -- where the pass stands doesn't matter to what is asked
 same_asked : (facts : RealmFacts) (history : List Entry) (x : Ask) (p q : Places) (body : Reading) → read_asked (view_of facts history x p) body ≡ read_asked (view_of facts history x q) body
@@ -184,8 +233,9 @@ module _ (facts : RealmFacts) (history : List Entry) (x : Ask) (places : Places)
       record {
         questions = told.0;
         posed = told.1 ∙ all_posed facts history x places no_places told.0;
+        held = told.2;
         stops = λ why no.
-            let out = told.2 why (all_denied facts history x places no_places told.0 ∙ no) in
+            let out = told.3 why (all_denied facts history x places no_places told.0 ∙ no) in
             sym (read_reply body is None there) ∙ ap (λ (r : Result (Outcome Uses) Refusal). (decided_read r places).reply) out;
       }
 
@@ -200,8 +250,9 @@ module _ (facts : RealmFacts) (history : List Entry) (x : Ask) (places : Places)
       record {
         questions = told.0;
         posed = told.1;
+        held = told.2;
         stops = λ why no.
-            let out = told.2 why no in
+            let out = told.3 why no in
             sym (change_reply body is None there) ∙ ap (λ (r : Result (Outcome (Option What)) Refusal). (decided_change (view_of facts history x no_places).moment r places).reply) out;
       }
 

@@ -1,4 +1,5 @@
 mod Allowing
+mod HeldFacts
 mod AskingFacts
 mod Serving
 mod Retiring

@@ -1,5 +1,5 @@
 -- Laws of what the account answers.
-use Rattle.std.specs.Prelude.{◌≡◌, ◌≢◌, ◌^◌, ℕ, ◌<◌, ◌≤◌, List, [], ◌++◌, length, map, slice_range, Bool, false, Option, Some, None, Ok, All, AllPairs, ◌↔◌, ◌∷◌, IsTrue}
+use Rattle.std.specs.Prelude.{◌≡◌, ◌≢◌, ◌^◌, ℕ, ◌<◌, ◌≤◌, List, [], ◌++◌, length, map, slice_range, Bool, false, Option, Some, None, Ok, All, AllPairs, ◌↔◌, ◌∷◌, IsTrue, ⊤}
 use Rattle.std.specs.List.Sorted.{IsNonDecreasingBy}
 use Rattle.enc_context.specs.declared.pairs.Pair.{Pair}
 use Rattle.crypto_ops.specs.Sealed.{opened, sealed_one}
@@ -295,11 +295,18 @@ GrantsPermit = (view : View) (action : Action) (key : List ℕ) (said : Particul
 
 -- ---- what is asked of authority
 
--- The step of authority asks about a request these questions, as policies and grants are asked them: where the first of them that isn't allowed is denied,
--- that is the reply, whatever the places of the pass
+-- what a question is about is there
+abbrev pub IsHeld : View → Question → Type 0
+IsHeld view (on_key action row said) = key_with view.keys row.key ≡ Some row
+IsHeld view (on_other action resource said) = ⊤
+IsHeld view (retiring grant) = grant_with view.grants grant.grant ≡ Some grant
+
+-- The step of authority asks about a request these questions, as policies and grants are asked them, each about what is there: where the first of them that
+-- isn't allowed is denied, that is the reply, whatever the places of the pass
 pub record IsAskedOf (facts : RealmFacts) (history : List Entry) (x : Ask) (places : Places) (list : List Posed) : Type 0 where
   pub questions : List Question
   pub posed : list ≡ map (posed (view_of facts history x no_places)) questions
+  pub held : All (IsHeld (view_of facts history x no_places)) questions
   pub stops : (why : Refusal) → denied (view_of facts history x no_places) questions ≡ Some why → reply_to facts history x places ≡ Refused why
 
 -- where nothing is asked, the request is refused before

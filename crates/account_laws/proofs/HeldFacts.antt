@@ -1,4 +1,4 @@
--- What the step of authority is asked about is there.
+-- What operations ask of authority is about what is there.
 use Rattle.std.proofs.Common.{◌≡◌, ℕ, Bool, true, false, cond, List, [], ◌∷◌, ◌++◌, length, map, Option, None, Some, Result, Ok, Err, refl, sym, ap, ◌∙◌, subst, append-nil}
 use Rattle.std.specs.Prelude.{All, find, option_and_then, if◌then◌else◌}
 use Rattle.std.specs.Str.{bytes_eq}
@@ -58,7 +58,7 @@ use Rattle.account_tags.specs.Tagging.{tags_key, untags_key, lists_tags}
 use Rattle.account_core.specs.declared.asking.Asked.TheVariants as asked
 use Rattle.account_core.specs.Operations.{change_asked, read_asked}
 use Rattle.account_core.specs.Decide.{lacking, asked_of_body, asked_by, asked_at}
-use Rattle.access_explain.specs.Laws.{IsHeld, AreHeld, WhatIsAskedIsThere}
+use Rattle.account_laws.specs.Laws.{IsHeld}
 
 -- ---- look-ups
 
@@ -101,23 +101,15 @@ module _ (view : View) where
 
   -- ---- questions
 
-  one : (act : Action) (row : KeyRow) (said : Particulars) → IsThere row → All (IsHeld view) (on_key act row said ∷ [])
+  pub one : (act : Action) (row : KeyRow) (said : Particulars) → IsThere row → All (IsHeld view) (on_key act row said ∷ [])
   one act row said is = All-cons (IsHeld view) (on_key act row said) [] is (All-nil (IsHeld view))
 
-  other : (act : Action) (resource : List ℕ) (said : Particulars) (more : List Question) → All (IsHeld view) more → All (IsHeld view) (on_other act resource said ∷ more)
+  pub other : (act : Action) (resource : List ℕ) (said : Particulars) (more : List Question) → All (IsHeld view) more → All (IsHeld view) (on_other act resource said ∷ more)
   other act resource said more are = All-cons (IsHeld view) (on_other act resource said) more tt are
-
-  abbrev Asks : Result (List Posed) Refusal → Type 0
-  Asks wanted = (list : List Posed) → wanted ≡ Ok list → AreHeld view list
-
-  asks : {F R : Type 0} (parts : Parts F R) → ((f : F) → parts.found ≡ Ok f → All (IsHeld view) (parts.questions f)) → Asks (questions_of view parts)
-  asks {F} parts held list e =
-      let found = found_of parts.found (λ (f : F). Ok (map (posed view) (parts.questions f))) list e in
-      record { questions = parts.questions found.value; posed = sym (ok_same (map (posed view) (parts.questions found.value)) list found.came); held = held found.value found.is }
 
   -- ---- what operations find
 
-  source_there : (act : Action) (reference : Option (List ℕ)) (blob : List ℕ) (source : Source) → source_of view act reference blob ≡ Ok source → IsThere source.row
+  pub source_there : (act : Action) (reference : Option (List ℕ)) (blob : List ℕ) (source : Source) → source_of view act reference blob ≡ Ok source → IsThere source.row
   source_there act reference blob source e =
       let named = found_of (key_if_given view reference) (λ n. and_then (blob_name blob) (λ name. unless (other_key n name.key) (source_in view act (alias_of n) blob name))) source e in
       let name = found_of (blob_name blob) (λ name. unless (other_key named.value name.key) (source_in view act (alias_of named.value) blob name)) source named.came in
@@ -161,7 +153,7 @@ module _ (view : View) where
   token_there None grant e = cc
   token_there (Some id) grant e = grant_there id grant e
 
-  retired_there : (request : RetiredGrant) (grant : GrantRow) → retired_of view request ≡ Ok grant → grant_with view.grants grant.grant ≡ Some grant
+  pub retired_there : (request : RetiredGrant) (grant : GrantRow) → retired_of view request ≡ Ok grant → grant_with view.grants grant.grant ≡ Some grant
   retired_there (retired.OfToken token) grant e = token_there (grant_id_of token) grant (ok_of (grant_of_token view token) _ grant e)
   retired_there (retired.OfKey key_id id) grant e =
       let row = found_of (only_key_of view key_id) (λ (r : KeyRow). and_then (grant_id_in id) (λ (g : List ℕ). grant_of view r g)) grant e in
@@ -175,7 +167,7 @@ module _ (view : View) where
       let row = found_of (only_key_of view reference) next a e in
       subst IsThere (sym (same row.value a row.came)) (only_key_there view reference row.value row.is)
 
-  granting_there : (request : CreateGrant) (granting : Granting) → granting_of view request ≡ Ok granting → IsThere granting.row
+  pub granting_there : (request : CreateGrant) (granting : Granting) → granting_of view request ≡ Ok granting → IsThere granting.row
   granting_there request granting e =
       first_there request.key_id _ (λ (g : Granting). g.row)
       (λ row g came.
@@ -183,15 +175,15 @@ module _ (view : View) where
       let retiring = found_of (principal_if_given request.retiring) _ g grantee.came in
       sym (ap (λ (x : Granting). x.row) (ok_same _ g retiring.came))) granting e
 
-  revoking_there : (key_id id : List ℕ) (revoking : Revoking) → revoking_of view key_id id ≡ Ok revoking → IsThere revoking.row
+  pub revoking_there : (key_id id : List ℕ) (revoking : Revoking) → revoking_of view key_id id ≡ Ok revoking → IsThere revoking.row
   revoking_there key_id id revoking e =
       first_there key_id _ (λ (r : Revoking). r.row) (λ row r came. let grant = found_of (grant_id_in id) _ r came in sym (ap (λ (x : Revoking). x.row) (ok_same _ r grant.came))) revoking e
 
-  listed_there : (key_id : List ℕ) (what : KeyList) (listed : ListedOf) → listed_of view key_id what ≡ Ok listed → IsThere listed.row
+  pub listed_there : (key_id : List ℕ) (what : KeyList) (listed : ListedOf) → listed_of view key_id what ≡ Ok listed → IsThere listed.row
   listed_there key_id what listed e =
       first_there key_id _ (λ (l : ListedOf). l.row) (λ row l came. let sought = found_of (sought_of what) _ l came in sym (ap (λ (x : ListedOf). x.row) (ok_same _ l sought.came))) listed e
 
-  turning_there : (reference : Option (List ℕ)) (blob key_id : List ℕ) (turning : Turning)
+  pub turning_there : (reference : Option (List ℕ)) (blob key_id : List ℕ) (turning : Turning)
       → and_then (source_of view action.ReEncryptFrom reference blob) (λ source. and_then (key_of view key_id) (λ to. Ok (record { source = source; to = to }))) ≡ Ok turning
       → IsThere turning.source.row × IsThere turning.to.row
   turning_there reference blob key_id turning e =
@@ -199,13 +191,11 @@ module _ (view : View) where
       let to = found_of (key_of view key_id) (λ (to : Named). Ok (record { source = source.value; to = to })) turning source.came in
       subst (λ (t : Turning). IsThere t.source.row × IsThere t.to.row) (ok_same _ turning to.came) (source_there action.ReEncryptFrom reference blob source.value source.is, key_there view key_id to.value to.is)
 
-  tags_other : (tags : List Tag) (said : Particulars) → All (IsHeld view) (questions_of_tags tags said)
+  pub tags_other : (tags : List Tag) (said : Particulars) → All (IsHeld view) (questions_of_tags tags said)
   tags_other [] said = All-nil (IsHeld view)
   tags_other (tag ∷ tags) said = other action.TagResource _ said [] (All-nil (IsHeld view))
 
-  -- ---- all of them
-
-  moved : (name : List ℕ) (change : AliasChange) (moving : Moving) → moving_of view name change ≡ Ok moving
+  pub moved : (name : List ℕ) (change : AliasChange) (moving : Moving) → moving_of view name change ≡ Ok moving
       → All (IsHeld view) ((changes_alias view name change).parts.questions moving)
   moved name change moving e =
       let there = moving_there name change moving e in
@@ -213,68 +203,5 @@ module _ (view : View) where
       (on_there _ moving.old (λ r is. (there r).0 is) (question_on view _ moving.new)
       (subst (All (IsHeld view)) (append-nil (question_on view _ moving.new)) (on_there _ moving.new (λ r is. (there r).1 is) [] (All-nil (IsHeld view)))))
 
-  by_key : (key_id : List ℕ) (row : KeyRow) → only_key_of view key_id ≡ Ok row → IsThere row
+  pub by_key : (key_id : List ℕ) (row : KeyRow) → only_key_of view key_id ≡ Ok row → IsThere row
   by_key key_id row e = only_key_there view key_id row e
-
-  change_held : (body : Changing) → Asks (change_asked view body)
-  change_held (changing.CreateKey x) = asks (creates_key view x).parts (λ found e. other action.CreateKey _ _ _ (tags_other x.tags _))
-  change_held (changing.PutKeyPolicy key_id text bypass) = asks (puts_policy view key_id text bypass).parts (λ row e. one _ row _ (by_key key_id row e))
-  change_held (changing.UpdateKeyDescription key_id text) = asks (changes_key view key_id (change.Describe text)).parts (λ row e. one _ row _ (by_key key_id row e))
-  change_held (changing.EnableKey key_id) = asks (changes_key view key_id change.Enable).parts (λ row e. one _ row _ (by_key key_id row e))
-  change_held (changing.DisableKey key_id) = asks (changes_key view key_id change.Disable).parts (λ row e. one _ row _ (by_key key_id row e))
-  change_held (changing.ScheduleKeyDeletion key_id days) = asks (changes_key view key_id (change.ScheduleDeletion days)).parts (λ row e. one _ row _ (by_key key_id row e))
-  change_held (changing.CancelKeyDeletion key_id) = asks (changes_key view key_id change.CancelDeletion).parts (λ row e. one _ row _ (by_key key_id row e))
-  change_held (changing.EnableKeyRotation key_id period) = asks (changes_key view key_id (change.RotateEvery period)).parts (λ row e. one _ row _ (by_key key_id row e))
-  change_held (changing.DisableKeyRotation key_id) = asks (changes_key view key_id change.RotateNoMore).parts (λ row e. one _ row _ (by_key key_id row e))
-  change_held (changing.RotateKeyOnDemand key_id) = asks (changes_key view key_id change.RotateNow).parts (λ row e. one _ row _ (by_key key_id row e))
-  change_held (changing.CreateAlias name key_id) = asks (changes_alias view name (alias.Create key_id)).parts (moved name (alias.Create key_id))
-  change_held (changing.UpdateAlias name key_id) = asks (changes_alias view name (alias.Update key_id)).parts (moved name (alias.Update key_id))
-  change_held (changing.DeleteAlias name) = asks (changes_alias view name alias.Delete).parts (moved name alias.Delete)
-  change_held (changing.CreateGrant x) = asks (creates_grant view x).parts (λ granting e. one _ granting.row _ (granting_there x granting e))
-  change_held (changing.RetireGrant grant dry_run) =
-      asks (retires_grant view grant dry_run).parts (λ row e. All-cons (IsHeld view) (retiring row) [] (retired_there grant row e) (All-nil (IsHeld view)))
-  change_held (changing.RevokeGrant key_id grant_id dry_run) = asks (revokes_grant view key_id grant_id dry_run).parts (λ revoking e. one _ revoking.row _ (revoking_there key_id grant_id revoking e))
-  change_held (changing.TagResource key_id tags) = asks (tags_key view key_id tags).parts (λ row e. one _ row _ (by_key key_id row e))
-  change_held (changing.UntagResource key_id keys) = asks (untags_key view key_id keys).parts (λ row e. one _ row _ (by_key key_id row e))
-
-  read_held : (body : Reading) → Asks (read_asked view body)
-  read_held (reading.DescribeKey key_id tokens) = asks (describes_key view key_id tokens).parts (λ named e. one _ named.row _ (key_there view key_id named e))
-  read_held (reading.ListKeys page) = asks (lists_in view all.Keys page).parts (λ listed e. other _ _ _ [] (All-nil (IsHeld view)))
-  read_held (reading.ListAliases key_id page) = asks (lists_in view (all.Aliases key_id) page).parts (λ listed e. other _ _ _ [] (All-nil (IsHeld view)))
-  read_held (reading.ListRetirableGrants retiree page) = asks (lists_in view (all.RetirableGrants retiree) page).parts (λ listed e. other _ _ _ [] (All-nil (IsHeld view)))
-  read_held (reading.ListKeyPolicies key_id page) = asks (lists_on view key_id of.Policies page).parts (λ listed e. one _ listed.row _ (listed_there key_id of.Policies listed e))
-  read_held (reading.ListKeyRotations key_id page) = asks (lists_on view key_id of.Rotations page).parts (λ listed e. one _ listed.row _ (listed_there key_id of.Rotations listed e))
-  read_held (reading.ListGrants x) =
-      asks (lists_on view x.key_id (of.Grants x.grant_id x.grantee) x.page).parts (λ listed e. one _ listed.row _ (listed_there x.key_id (of.Grants x.grant_id x.grantee) listed e))
-  read_held (reading.GetKeyPolicy key_id) = asks (gets_policy view key_id).parts (λ row e. one _ row _ (by_key key_id row e))
-  read_held (reading.GetKeyRotationStatus key_id) = asks (gets_rotation_status view key_id).parts (λ row e. one _ row _ (by_key key_id row e))
-  read_held (reading.Encrypt x) = asks (encrypts view x).parts (λ named e. one _ named.row _ (key_there view x.key_id named e))
-  read_held (reading.Decrypt x) = asks (decrypts view x).parts (λ source e. one _ source.row _ (source_there action.Decrypt x.key_id x.blob source e))
-  read_held (reading.ReEncrypt x) =
-      asks (re_encrypts view x).parts
-      (λ turning e.
-      let both = turning_there x.source_key_id x.blob x.key_id turning e in
-      All-cons (IsHeld view) (on_key action.ReEncryptFrom turning.source.row (of_source view x turning)) (on_key action.ReEncryptTo turning.to.row (of_destination view x turning) ∷ []) both.0
-      (one action.ReEncryptTo turning.to.row (of_destination view x turning) both.1))
-  read_held (reading.GenerateDataKey x recipient) = asks (generates_data_key view x (form.Plaintext recipient)).parts (λ named e. one _ named.row _ (key_there view x.key_id named e))
-  read_held (reading.GenerateDataKeyWithoutPlaintext x) = asks (generates_data_key view x form.Sealed).parts (λ named e. one _ named.row _ (key_there view x.key_id named e))
-  read_held (reading.GenerateRandom size custom_key_store recipient) = asks (generates_random view size custom_key_store recipient).parts (λ found e. other _ _ _ [] (All-nil (IsHeld view)))
-  read_held (reading.GenerateMac x) = asks (generates_mac view x).parts (λ named e. one _ named.row _ (key_there view x.key_id named e))
-  read_held (reading.VerifyMac x) = asks (verifies_mac view x).parts (λ named e. one _ named.row _ (key_there view x.key_id named e))
-  read_held (reading.ListResourceTags key_id page) = asks (lists_tags view key_id page).parts (λ row e. one _ row _ (by_key key_id row e))
-
-  body_held : (body : AskBody) → Asks (asked_of_body view body)
-  body_held (ask.Change body) = change_held body
-  body_held (ask.Read body) = read_held body
-
-asked_held : (view : View) (wanted : Result (List Posed) Refusal) → ((list : List Posed) → wanted ≡ Ok list → AreHeld view list) → (list : List Posed) → asked_by wanted ≡ asked.Questions list → AreHeld view list
-asked_held view (Ok found) held list e = held list (let same : found ≡ list = cc in ap (λ (l : List Posed). Ok l) same)
-asked_held view (Err why) held list e = cc
-
--- what is asked about a request is there
-pub all_held : WhatIsAskedIsThere
-unfolding asked_at
-all_held facts history x list e =
-    let view : View = view_of facts history x no_places in
-    asked_held view (unless (lacking (length history) x.after) (asked_of_body view x.body))
-    (λ l is. body_held view x.body l (next_of (lacking (length history) x.after) (asked_of_body view x.body) l is)) list e
