@@ -21,22 +21,22 @@ status_of false = refl
 module _ (status : ℕ) (old new : Around) where
   -- a session that is served
   comes_served : (IsRight : Settings → Type 0) (settings : Settings) → IsRight settings → Serves settings status old new → RunCompletes IsRight status old new
-  comes_served IsRight settings right s input closes items calm gives asked =
+  comes_served IsRight settings fit s input closes items calm gives asked =
       let before = outside old.wire old.clock (fresh_pass settings.facts 1 1) in
       let after = outside new.wire new.clock s.serving.pass in
       elim (each_is_answered (turns settings.trust) (after ≡ before) s.end before after s.serving.ends input closes items (record { gives = gives; reads = calm.reads; writes = calm.writes }) asked)
       as (λ _. ComesTo IsRight (λ settings. ServesEach items settings status old new) (new.wire ≡ old.wire) status) [
         | inl none ↦ is_starved (s.status_is ∙ ap status_of_end none.0) (ap (λ (o : Outside Pass). o.wire) none.1)
-        | inr each ↦ comes_to_each settings right (record { pass = s.serving.pass; each = each.1; status_is = s.status_is ∙ ap status_of_end each.0 ∙ status_of closes })
+        | inr each ↦ comes_to_each settings fit (record { pass = s.serving.pass; each = each.1; status_is = s.status_is ∙ ap status_of_end each.0 ∙ status_of closes })
       ]
 
   -- one that is explained
   comes_explained : (IsRight : Settings → Type 0) (settings : Settings) → IsRight settings → Explains settings status old new → ExplainCompletes IsRight status old new
-  comes_explained IsRight settings right s input closes items calm gives asked =
+  comes_explained IsRight settings fit s input closes items calm gives asked =
       elim (s.explained.complete input closes items (record { gives = gives; reads = calm.reads; writes = calm.writes }) asked)
       as (λ _. ComesTo IsRight (λ settings. ExplainsEach items settings status old new) (Unit {0}) status) [
         | inl none ↦ is_starved (s.status_is ∙ ap status_of_end none.0) tt
-        | inr each ↦ comes_to_each settings right (record { last = s.explained.last; each = each.1; status_is = s.status_is ∙ ap status_of_end each.0 ∙ status_of closes })
+        | inr each ↦ comes_to_each settings fit (record { last = s.explained.last; each = each.1; status_is = s.status_is ∙ ap status_of_end each.0 ∙ status_of closes })
       ]
 
   -- ---- whatever is done with settings
@@ -66,7 +66,7 @@ module _ (status : ℕ) (old new : Around) where
     of_the_file : (file : List ℕ) (caller : Option (List ℕ)) → ((settings : Settings) → IsOfFile old file caller settings → IsRight settings)
         → WithFile file status old new (λ config. WithConfig config caller status old new Does) → Comes
     of_the_file file caller so (configured config is policies asks runs) =
-        of_the_config config caller (λ settings right. so settings (record { config = config; is = is; configured = right })) runs
+        of_the_config config caller (λ settings fit. so settings (record { config = config; is = is; configured = fit })) runs
     of_the_file file caller so (not_configured (refuses path is says) asks) = refused_anyhow says.status_is
     of_the_file file caller so (not_configured (too_long is says) asks) = refused_anyhow says.status_is
     of_the_file file caller so (not_configured (fails rose rests) asks) = λ input closes items calm gives asked. absurd (calm.files rose)

@@ -71,11 +71,11 @@ where
     match asked {
         Asked::Run(words) => {
             let clock = &mut clocks[0];
-            hold_session(rt, alloc, Task::Serve, &words, files, clock, link, gate)
+            hold_session(rt, alloc, Task::Serve, words, files, clock, link, gate)
         }
         Asked::Explain(words) => {
             let clock = &mut clocks[0];
-            hold_session(rt, alloc, Task::Explain, &words, files, clock, link, gate)
+            hold_session(rt, alloc, Task::Explain, words, files, clock, link, gate)
         }
         Asked::Check(file) => check_file(alloc, file, files, link),
         Asked::Serve(words) => serve_file(rt, alloc, &words, files, clocks, link, door, gate),

@@ -185,19 +185,19 @@ pub fn hold_session<W: Wait, F: Files, L: Link, C: Clock, G: Gate>(
     rt: &W,
     alloc: Global,
     task: Task,
-    words: &SessionWords<'_>,
+    words: SessionWords<'_>,
     files: &mut F,
     clock: &mut C,
     link: &mut L,
     gate: &G,
 ) -> u8
-    ensures { FromSource (source_in words.now) result (around (L.shows link.old) (C.told clock.old) (F.shows files.old)) (around (L.shows link.new) (C.told clock.new) (F.shows files.new))
+    ensures { FromSource (source_in words.entry) result (around (L.shows link.old) (C.told clock.old) (F.shows files.old)) (around (L.shows link.new) (C.told clock.new) (F.shows files.new))
         (λ settings. Conducts task settings result (around (L.shows link.old) (C.told clock.old) (F.shows files.old)) (around (L.shows link.new) (C.told clock.new) (F.shows files.new))) }
 {
     match words {
-        SessionWords::Values(words) => with_values(rt, alloc, task, words, clock, link, gate),
+        SessionWords::Values(words) => with_values(rt, alloc, task, &words, clock, link, gate),
         SessionWords::File(file, caller) => {
-            with_file(rt, alloc, task, file, *caller, files, clock, link, gate)
+            with_file(rt, alloc, task, file, caller, files, clock, link, gate)
         }
     }
 }

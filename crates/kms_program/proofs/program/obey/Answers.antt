@@ -18,9 +18,9 @@ returns-in-Run g c =
     let source = source_in c.in-Run.words in
     let status = held.result in
     subst (λ (asked : Asked). Does (Some (shown asked)) status (everything before old_shelf door (map told clocks)) (everything after new_shelf door (map told (slice_set clocks 0 held.new.clock)))) (sym c.in-Run.is) (
-      in_first_place told clocks c.index_mut.result.now held.new.clock
+      in_first_place told clocks c.index_mut-clock.result.now held.new.clock
           (λ old new. FromSource source status (around before old old_shelf) (around after new new_shelf) (λ settings. Serves settings status (around before old old_shelf) (around after new new_shelf)))
-          (omega arith) c.index_mut.ensures.value held.ensures,
+          (omega arith) c.index_mut-clock.ensures.value held.ensures,
       record { door = refl; clocks = others_rest told clocks held.new.clock },
     )
 
@@ -37,9 +37,9 @@ returns-in-Explain g c =
     let source = source_in c.in-Explain.words in
     let status = held.result in
     subst (λ (asked : Asked). Does (Some (shown asked)) status (everything before old_shelf door (map told clocks)) (everything after new_shelf door (map told (slice_set clocks 0 held.new.clock)))) (sym c.in-Explain.is) (
-      in_first_place told clocks c.index_mut-in-Explain.result.now held.new.clock
+      in_first_place told clocks c.index_mut-clock-in-Explain.result.now held.new.clock
           (λ old new. FromSource source status (around before old old_shelf) (around after new new_shelf) (λ settings. Explains settings status (around before old old_shelf) (around after new new_shelf)))
-          (omega arith) c.index_mut-in-Explain.ensures.value held.ensures,
+          (omega arith) c.index_mut-clock-in-Explain.ensures.value held.ensures,
       record { door = refl; clocks = others_rest told clocks held.new.clock },
     )
 
