@@ -103,6 +103,11 @@ def grounds():
     session.by(BOB).ask("RetireGrant", {"GrantToken": token})
     session.by(ANN).ask("RetireGrant", {"GrantToken": token})
     encrypt(session)
+    session.by(ROOT).ask("CreateGrant", {"KeyId": ID1, "GranteePrincipal": ANN, "RetiringPrincipal": BOB, "Operations": ["Encrypt"]})
+    of_key = {"KeyId": f"arn:aws:kms:{REGION}:{ACCOUNT}:key/{ID1}", "GrantId": told_grant(session)}
+    session.by(ANN).ask("RetireGrant", of_key)
+    session.by(BOB).ask("RetireGrant", of_key)
+    session.ask("RetireGrant", of_key)
     return session
 
 

@@ -49,6 +49,19 @@ const RUN: &[&str] = &[
     "arn:aws:iam::111122223333:root",
 ];
 
+// The same session, explained.
+const EXPLAIN: &[&str] = &[
+    "explain",
+    "--account",
+    "111122223333",
+    "--region",
+    "us-east-1",
+    "--root",
+    "0000000000000000000000000000000000000000000000000000000000000000",
+    "--as",
+    "arn:aws:iam::111122223333:root",
+];
+
 // The same with an account of eleven digits.
 const SHORT_ACCOUNT: &[&str] = &[
     "run",
@@ -62,13 +75,15 @@ const SHORT_ACCOUNT: &[&str] = &[
     "arn:aws:iam::111122223333:root",
 ];
 
-// A run with these words, in which the read and the write of these numbers, counted from 0, fail.
+// A run with these words, in which the read and the write of these numbers, counted from 0, fail, and whose second
+// message may be cut off.
 #[derive(Clone, Copy)]
 struct Scene<'a> {
     what: &'a str,
     words: &'a [&'a str],
     failing_read: Option<u64>,
     failing_write: Option<u64>,
+    is_cut: bool,
 }
 
 const BOTH: Scene<'static> = Scene {
@@ -76,6 +91,13 @@ const BOTH: Scene<'static> = Scene {
     words: RUN,
     failing_read: None,
     failing_write: None,
+    is_cut: false,
+};
+
+const EXPLAINED: Scene<'static> = Scene {
+    what: "the same, explained",
+    words: EXPLAIN,
+    ..BOTH
 };
 
 const SCENES: &[Scene<'static>] = &[
@@ -99,6 +121,32 @@ const SCENES: &[Scene<'static>] = &[
         what: "the second write fails",
         failing_write: Some(1),
         ..BOTH
+    },
+    Scene {
+        what: "the second message is cut off",
+        is_cut: true,
+        ..BOTH
+    },
+    EXPLAINED,
+    Scene {
+        what: "explained, and the second read fails",
+        failing_read: Some(1),
+        ..EXPLAINED
+    },
+    Scene {
+        what: "explained, and the first write fails",
+        failing_write: Some(0),
+        ..EXPLAINED
+    },
+    Scene {
+        what: "explained, and the second write fails",
+        failing_write: Some(1),
+        ..EXPLAINED
+    },
+    Scene {
+        what: "explained, and the second message is cut off",
+        is_cut: true,
+        ..EXPLAINED
     },
     Scene {
         what: "an account number of eleven digits",
@@ -144,12 +192,18 @@ pub(crate) fn words_of(alloc: Global, words: &[&str]) -> Result<Vec<String>, NoM
     Ok(all)
 }
 
-// The link on which the messages come one by one.
+// The link on which the messages come one by one; of one that is cut off come its first twenty bytes.
 fn link_of(alloc: Global, exchange: &Exchange, scene: &Scene<'_>) -> Result<MemoryLink, NoMemory> {
+    let look = exchange.look.as_bytes();
+    let second = if scene.is_cut {
+        look.get(..20).unwrap_or(look)
+    } else {
+        look
+    };
     let mut input = Vec::new(alloc);
     input.extend_from_slice(exchange.make.as_bytes())?;
-    input.extend_from_slice(exchange.look.as_bytes())?;
-    let pieces = vec![in alloc; exchange.make.len(), exchange.look.len()]?;
+    input.extend_from_slice(second)?;
+    let pieces = vec![in alloc; exchange.make.len(), second.len()]?;
     let reads = scene.failing_read.into_iter().collect(alloc)?;
     let writes = scene.failing_write.into_iter().collect(alloc)?;
     Ok(MemoryLink::new(alloc, input, pieces, reads, writes))
