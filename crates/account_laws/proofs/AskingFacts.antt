@@ -145,9 +145,9 @@ read_told view (reading.Decrypt x) =
     read_tells view (decrypts view x) (λ source e. one view _ source.row _ (source_there view action.Decrypt x.key_id x.blob source e))
 read_told view (reading.ReEncrypt x) =
     read_tells view (re_encrypts view x) (λ turning e.
-      let both = turning_there view x.source_key_id x.blob x.key_id turning e in
-      All-cons (IsHeld view) (on_key action.ReEncryptFrom turning.source.row (of_source view x turning)) (on_key action.ReEncryptTo turning.to.row (of_destination view x turning) ∷ []) both.0
-      (one view action.ReEncryptTo turning.to.row (of_destination view x turning) both.1))
+    let both = turning_there view x.source_key_id x.blob x.key_id turning e in
+    All-cons (IsHeld view) (on_key action.ReEncryptFrom turning.source.row (of_source view x turning)) (on_key action.ReEncryptTo turning.to.row (of_destination view x turning) ∷ []) both.0
+    (one view action.ReEncryptTo turning.to.row (of_destination view x turning) both.1))
 read_told view (reading.GenerateDataKey x recipient) =
     read_tells view (generates_data_key view x (form.Plaintext recipient)) (λ named e. one view _ named.row _ (key_there view x.key_id named e))
 read_told view (reading.GenerateDataKeyWithoutPlaintext x) =
