@@ -1,5 +1,6 @@
 """Makes the configurations and messages of program_cases that `explain` reads, and prints the lines that it is to write. Run:
-python3 -B tools/make_explained.py, and put what it prints at the end of stdout of program_cases.
+python3 -B tools/make_explained.py, and put what it prints at the end of stdout of program_cases. Of one session it also makes the
+script of account_cases and its stdout: how many marks each certificate has.
 
 The lines are those of explained_account.py; the messages are signed by Python's `hmac`.
 """
@@ -15,7 +16,8 @@ from explained_account import Explained
 from whole_account import CHANGES
 from whole_cases import ACCOUNT, ANN, BOB, DAY, HELLO, ID1, ID2, ID3, ROOT, document, key_policy, own, statement, told, told_grant
 
-PLACE = pathlib.Path(__file__).parent.parent / "crates" / "program_cases" / "data"
+CRATES = pathlib.Path(__file__).parent.parent / "crates"
+PLACE = CRATES / "program_cases" / "data"
 BEGIN = 1_700_000_000
 REGION = "us-east-1"
 KEEPERS = {ROOT: ("AKIDKEEPER", "root/Secret+0123456789"), ANN: ("AKIDANN", "ann/Secret+0123456789"), BOB: ("AKIDBOB", "bob/Secret+0123456789")}
@@ -26,7 +28,7 @@ class Session(Explained):
 
     def __init__(self, name, what, policies=None, ceiling=()):
         super().__init__(what, policies, ceiling=ceiling)
-        self.name, self.what, self.messages, self.later = name, what, [], 0
+        self.name, self.what, self.messages, self.script, self.later = name, what, [], [], 0
 
     def by(self, caller):
         self.caller = caller
@@ -40,7 +42,9 @@ class Session(Explained):
     def ask(self, operation, body, after=None):
         stamp = self.begin()
         more = [("x-kms-after", str(after))] if after is not None else []
-        self.messages.append(signing.message(*KEEPERS[self.caller], REGION, operation, json.dumps(body, separators=(",", ":")), stamp, more))
+        text = json.dumps(body, separators=(",", ":"))
+        self.messages.append(signing.message(*KEEPERS[self.caller], REGION, operation, text, stamp, more))
+        self.script.append(f"{self.caller} {operation} {text}")
         if operation in CHANGES:
             self.house()
         if after is not None and after > self.front:
@@ -68,6 +72,16 @@ class Session(Explained):
         PLACE.joinpath(f"{self.name}.json").write_text(json.dumps(self.config(), separators=(",", ":")) + "\n")
         PLACE.joinpath(f"{self.name}.txt").write_text("".join(self.messages), newline="")
         print("\n".join([f"{self.what}: status 0", *self.told]))
+
+
+def write_script(session):
+    """The script of account_cases, and its lines."""
+    place = CRATES / "account_cases"
+    place.joinpath("data", "config.json").write_text(json.dumps(session.config(), separators=(",", ":")) + "\n")
+    place.joinpath("data", "script.txt").write_text("".join(line + "\n" for line in session.script))
+    counts = [sum(len(one["marks"].replace("/", "")) for one in json.loads(line)["questions"]) for line in session.told]
+    lines = [f"{line.split('{')[0]}checks; {count} marks turned, 0 check\n" for line, count in zip(session.script, counts, strict=True)]
+    place.joinpath("stdout").write_text("".join(lines))
 
 
 def encrypt(session, key=ID1, **more):
@@ -206,8 +220,10 @@ def house():
 
 
 def main():
-    for session in (grounds(), marks(), several(), ceilings(), early(), house()):
+    shown = marks()
+    for session in (grounds(), shown, several(), ceilings(), early(), house()):
         session.write()
+    write_script(shown)
 
 
 if __name__ == "__main__":

@@ -70,7 +70,7 @@ made_here facts place _ fits made = tt
 
 -- ---- room
 
-both_none : (first second : Option Refusal) → or_else first second ≡ None → (first ≡ None) × (second ≡ None)
+pub both_none : (first second : Option Refusal) → or_else first second ≡ None → (first ≡ None) × (second ≡ None)
 both_none None second e = (refl, e)
 both_none (Some why) second e = cc
 
@@ -78,10 +78,10 @@ below : (b : Bool) (why : Refusal) → (if b then Some why else None) ≡ None �
 below true why e = cc
 below false why e = refl
 
-few_of : (n : ℕ) → entries_full n ≡ None → n < most_entries
+pub few_of : (n : ℕ) → entries_full n ≡ None → n < most_entries
 few_of n e = let no = below (nat_le most_entries n) (refusal.LimitExceeded limit.Entries) e in grind (arith, nat_tests, no)
 
-fits_of : (bytes size : ℕ) → bytes_full bytes size ≡ None → bytes + size ≤ most_bytes
+pub fits_of : (bytes size : ℕ) → bytes_full bytes size ≡ None → bytes + size ≤ most_bytes
 fits_of bytes size e = let no = below (nat_lt most_bytes (bytes + size)) (refusal.LimitExceeded limit.Bytes) e in grind (arith, nat_tests, no)
 
 -- ---- an entry of housekeeping

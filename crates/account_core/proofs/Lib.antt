@@ -1,4 +1,4 @@
-mod Histories
+pub mod Histories
 mod OwnPolicies
 mod Decisions
 pub mod GoingOn

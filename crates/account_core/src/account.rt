@@ -5,16 +5,21 @@ ghost use Rattle.kms_names.specs.Moment.{year_10000};
 use crate::Decision;
 use crate::asking::{Asked, asked_about};
 use crate::decide::{asked_by, decision_from, lacking_entries};
+use crate::entering::{FitFault, is_dated, is_formed, is_there, leaves_room, tags_fit_on};
 use crate::held_facts::HeldFacts;
 use crate::operations::{change_body, read_body};
-use account_rows::{Entry, Rows};
+use account_rows::{Entry, Rows, What, is_made_here};
 use account_steps::{Places, RealmFacts, Stop, View};
 use draw_lines::DrawLine;
 use grant_table::GrantRow;
 use kms_json::{Ask, AskBody, Reply};
-use kms_names::{KeyId, NoMemory, Text};
+use kms_names::{KeyId, NoMemory, Principal, Text};
+use resource_tags::TagMap;
 use std::alloc::Global;
 use std::marker::Model;
+
+// The first second of the year 10000.
+const YEAR_10000: u64 = 253_402_300_800;
 
 /// The account of one thread. Contracts see its facts and the list of its entries; the rows that it
 /// keeps beside them are the list's replay.
@@ -32,13 +37,13 @@ impl Drop for Account {
 
 impl Model for Account {
     ghost use Rattle.account_core.specs.Account as account;
-    ghost use Rattle.account_core.specs.Decide.{IsLawful};
+    ghost use Rattle.account_core.specs.Fitting.{IsHeld};
 
     ghost Value = { account.Account };
 
     ghost view = { λ a. record { facts = a.facts; entries = a.rows } };
 
-    ghost invariant = { λ a. IsLawful a.facts a.rows };
+    ghost invariant = { λ a. IsHeld a.facts a.rows };
 }
 
 impl Account {
@@ -51,7 +56,11 @@ impl Account {
     ghost use Rattle.std.specs.Prelude.{slice_get, option_map};
     ghost use Rattle.account_rows.specs.History.{replay, key_with};
     ghost use Rattle.grant_table.specs.Grants.{grant_of_key};
-    ghost use Rattle.account_core.specs.Decide.{decide, decision_of, asked_at, IsProper, IsNext, IsLawful};
+    ghost use Rattle.account_core.specs.Decide.{decide, decision_of, asked_at, IsProper, IsNext};
+    ghost use Rattle.std.specs.Prelude.{IsTrue, ◌↔◌, Err};
+    ghost use Rattle.account_rows.specs.History.{tags_fit};
+    ghost use Rattle.account_core.specs.declared.entering.FitFault.TheVariants.{Unfit};
+    ghost use Rattle.account_core.specs.Fitting.{HasPlace, Fits, IsHeld};
 
     /// The account of these facts with no entries.
     pub fn empty(alloc: Global, facts: RealmFacts) -> Result<Account, NoMemory>
@@ -71,10 +80,10 @@ impl Account {
         self.facts.facts()
     }
 
-    /// The number of entries. Each of them is one that a proper request, or housekeeping, appends to those before it.
+    /// The number of entries. Each of them is one that a proper request, or housekeeping, appends to those before it, or one that fits them.
     pub fn entries(&self) -> u64
         ensures number { result ≡ length self.now.entries }
-        ensures lawful { IsLawful self.now.facts self.now.entries }
+        ensures held { IsHeld self.now.facts self.now.entries }
     {
         self.rows.entries()
     }
@@ -183,6 +192,74 @@ impl Account {
         Ok(Account {
             facts: self.facts.share()?,
             rows: self.rows.share()?,
+        })
+    }
+
+    // Whether the tags that an entry puts leave few enough on its key.
+    fn tags_fit(&self, alloc: Global, what: &What) -> Result<bool, NoMemory>
+        ensures { IfOk result (λ b. b ≡ tags_fit (replay self.now.entries).keys what.now) }
+    {
+        match what {
+            What::CreateKey { tags, .. } => tags_fit_on(&TagMap::new(alloc), tags),
+            What::Tag { key, tags } => match self.rows.key(key) {
+                Some(held) => tags_fit_on(&held.row().tags, tags),
+                None => Ok(true),
+            },
+            _ => Ok(true),
+        }
+    }
+
+    // Whether there is room for an entry, and what it names is there.
+    fn has_place_for(&self, entry: &Entry) -> bool
+        requires { entry.now.time < year_10000 }
+        ensures { IsTrue result ↔ HasPlace self.now.facts self.now.entries entry.now }
+    {
+        let facts = self.facts.facts();
+        let root = Principal::Root(facts.account);
+        let ceiling = self.facts.ceiling();
+        let view = View::new(
+            facts,
+            &self.rows,
+            entry.time,
+            &root,
+            &[],
+            ceiling,
+            Places::NONE,
+        );
+        is_there(&view, self.rows.wants_house(entry.time), &entry.what)
+            && leaves_room(&view, &entry.what)
+    }
+
+    // Whether an entry fits the history.
+    fn fits(&self, alloc: Global, entry: &Entry) -> Result<bool, NoMemory>
+        ensures { IfOk result (λ b. IsTrue b ↔ Fits self.now.facts self.now.entries entry.now) }
+    {
+        let what = &entry.what;
+        if entry.time < self.rows.latest() || entry.time >= YEAR_10000 {
+            return Ok(false);
+        }
+        Ok(
+            is_made_here(self.rows.entries(), what)
+                && is_dated(entry.time, what)
+                && self.has_place_for(entry)
+                && is_formed(alloc, what)?
+                && self.tags_fit(alloc, what)?,
+        )
+    }
+
+    /// The account with one more entry, whoever made it; this one stays as it is. `Unfit` comes exactly where the entry doesn't fit the
+    /// history, unless memory lacks before.
+    pub fn push_fitting(&self, alloc: Global, entry: &Entry) -> Result<Account, FitFault>
+        ensures pushed { IfOk result (λ a. a ≡ record { facts = self.now.facts; entries = self.now.entries ++ entry.now ∷ [] }) }
+        ensures fits { OnOk result (Fits self.now.facts self.now.entries entry.now) }
+        ensures unfit { result ≡ Err Unfit → ¬ (Fits self.now.facts self.now.entries entry.now) }
+    {
+        if !self.fits(alloc, entry)? {
+            return Err(FitFault::Unfit);
+        }
+        Ok(Account {
+            facts: self.facts.share()?,
+            rows: self.rows.apply(entry)?,
         })
     }
 

@@ -7,6 +7,7 @@
 mod account;
 mod asking;
 mod decide;
+mod entering;
 mod held_facts;
 mod operations;
 mod threads;
@@ -18,5 +19,6 @@ pub use asking::Asked;
 pub use authority::{Identity, IdentityList, PolicyList};
 pub use decide::Decision;
 pub use draw_lines::DrawLine;
+pub use entering::FitFault;
 pub use kms_json::{Ask, AskBody, Reply};
 pub use threads::account_crosses_threads;

@@ -15,14 +15,16 @@ use Rattle.account_rows.specs.declared.entries.What.TheVariants as what
 use Rattle.account_rows.specs.Changes.{gone_keys}
 use Rattle.account_rows.specs.AliasChanges.{put_row, aliases_after}
 use Rattle.account_rows.specs.GrantChanges.{new_grant, grants_after}
-use Rattle.account_rows.specs.History.{replay, IsGrantOf}
+use Rattle.account_rows.specs.History.{replay, IsGrantOf, IsMadeHere}
 use Rattle.account_rows.proofs.AliasFacts.{may_put, before_after, aliases-push}
-use Rattle.account_rows.proofs.GrantFacts.{grants-push}
+use Rattle.account_rows.proofs.GrantFacts.{grants_rise, grants-push}
 use Rattle.account_rows.proofs.RowFacts.{length-push}
 use Rattle.account_steps.specs.declared.facts.RealmFacts.{RealmFacts}
 use Rattle.account_core.specs.Decide.{IsLawful, empty, longer}
-use Rattle.account_core.proofs.Fitting.{laws_of}
-use Rattle.account_laws.specs.Laws.{AreInOrder, RowsStandInOrder}
+use Rattle.account_core.specs.Fitting.{IsHeld, no_entry, appended_to, fitted_to}
+use Rattle.account_core.proofs.Fitting.{comes_next, laws_of}
+use Rattle.account_core.proofs.Histories.{latest_held, fitting_of}
+use Rattle.account_laws.specs.Laws.{AreInOrder, RowsStandInOrder, HeldGrantsStandInOrder}
 
 -- ---- one entry more
 
@@ -72,3 +74,28 @@ pub stand_in_order : RowsStandInOrder
 stand_in_order facts history lawful =
     let rows = stand facts history lawful in
     record { keys = (laws_of facts history lawful).rows.rise; aliases = rows.aliases.1; grants = rows.grants }
+
+-- ---- along a history that an account holds
+
+record HeldGrants (history : List Entry) : Type 0 where
+  of : All (IsGrantOf (length history)) (replay history).grants
+  rise : Rise (replay history).grants
+
+with_entry : (front : List Entry) (entry : Entry) → IsMadeHere (length front) entry.what → HeldGrants front → HeldGrants (front ++ entry ∷ [])
+with_entry front entry made held =
+    let keys : List KeyRow = (replay front).keys in
+    let grants : List GrantRow = (replay front).grants in
+    record {
+      of = subst (λ (n : ℕ). All (IsGrantOf n) (replay (front ++ entry ∷ [])).grants) (sym (length-push front entry))
+          (subst (All (IsGrantOf (length front + 1))) (sym (grants-push front entry)) (grants_rise (length front) entry.time entry.what keys grants made held.of));
+      rise = subst Rise (sym (grants-push front entry)) (grants_stand (length front) entry.time entry.what keys grants held.of held.rise);
+    }
+
+held_grants : (facts : RealmFacts) (history : List Entry) → IsHeld facts history → HeldGrants history
+held_grants facts history no_entry = record { of = λ k d lt. absurd (omega (arith, lt)); rise = λ i j d lt within. absurd (omega (arith, within)) }
+held_grants facts history (appended_to {history = front} entry held next) =
+    with_entry front entry (comes_next facts front entry (latest_held facts front held) next).fits.made (held_grants facts front held)
+held_grants facts history (fitted_to {history = front} entry held fits) = with_entry front entry (fitting_of facts front entry fits).made (held_grants facts front held)
+
+pub held_grants_stand : HeldGrantsStandInOrder
+held_grants_stand facts history held = (held_grants facts history held).rise

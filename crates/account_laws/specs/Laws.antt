@@ -56,6 +56,7 @@ use Rattle.account_tags.specs.Pages.{PartsFrom as TagPartsFrom, tags_behind}
 use Rattle.account_lists.specs.Lists.{listed_keys, listed_aliases, retirable_grants, grants_of_key, rotations_of}
 use Rattle.account_core.specs.declared.asking.Asked.{Asked}
 use Rattle.account_core.specs.declared.asking.Asked.TheVariants as asked
+use Rattle.account_core.specs.Fitting as Fitting
 use Rattle.account_core.specs.Decide.{lacking, decide, asked_at, IsProper, IsLawful}
 
 -- a blob, the text that is sealed in it, the context that it is sealed under, and the ARN of the key
@@ -223,6 +224,10 @@ pub record StandInOrder (state : State) : Type 0 where
 -- and so do those of every lawful history
 abbrev pub RowsStandInOrder : Type 0
 RowsStandInOrder = (facts : RealmFacts) (history : List Entry) → IsLawful facts history → StandInOrder (replay history)
+
+-- so do the grants of a history that an account holds, with entries that whoever made
+abbrev pub HeldGrantsStandInOrder : Type 0
+HeldGrantsStandInOrder = (facts : RealmFacts) (history : List Entry) → Fitting.IsHeld facts history → AreInOrder (λ (grant : GrantRow). grant.born) (replay history).grants
 
 -- a list stands in order of making, and its parts that follow one another's markers come to an end and, joined, are exactly its rows behind the place
 -- where they begin

@@ -1,6 +1,6 @@
 //! Laws of what the account answers. Each stands as the contract of a function that does nothing.
 
-ghost use Rattle.account_laws.specs.Laws.{SealedIsDecryptedAgain, EarlierBlobsAreDecrypted, OnePassRepeatsNoIv, PassesShareNoIv, BootsShareNoIv, TimesNeverFall, HouseIsKeptOnce, KeysDiffer, GrantsDiffer, PassesWhereStatementsAllow, PassesWithoutACeiling, NamesTheFirstDenied, AuthorityAsksTheseQuestions, GrantsPermit, DroppedGrantsStayAway, RowsStandInOrder, ListsOfLawfulHistoriesAreWhole, TagsOfKeysAreWhole};
+ghost use Rattle.account_laws.specs.Laws.{SealedIsDecryptedAgain, EarlierBlobsAreDecrypted, OnePassRepeatsNoIv, PassesShareNoIv, BootsShareNoIv, TimesNeverFall, HouseIsKeptOnce, KeysDiffer, GrantsDiffer, PassesWhereStatementsAllow, PassesWithoutACeiling, NamesTheFirstDenied, AuthorityAsksTheseQuestions, GrantsPermit, DroppedGrantsStayAway, RowsStandInOrder, HeldGrantsStandInOrder, ListsOfLawfulHistoriesAreWhole, TagsOfKeysAreWhole};
 ghost use Rattle.account_laws.specs.Macs.{MacsAreVerifiedAgain};
 ghost use Rattle.account_laws.specs.Tokens.{DeadTokensAreRefused};
 ghost use Rattle.account_steps.specs.View.{View};
@@ -123,6 +123,11 @@ pub fn dead_tokens_are_refused()
 /// The keys, the aliases and the grants of a lawful history stand in order of making.
 pub fn rows_stand_in_order()
     ensures { RowsStandInOrder }
+{}
+
+/// The grants of any history that an account holds stand in order of making, whoever made its entries.
+pub fn held_grants_stand_in_order()
+    ensures { HeldGrantsStandInOrder }
 {}
 
 /// Each list of a lawful history stands in order of making. Its parts, each behind the marker of the one

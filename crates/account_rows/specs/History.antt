@@ -1,5 +1,5 @@
 -- The history of an account, and the rows that its replay makes.
-use Rattle.std.specs.Prelude.{◌≡◌, ℕ, ◌+◌, ◌≤◌, ◌<◌, List, [], ◌∷◌, length, drop, max, fold, find, Bool, ◌&&◌, nat_lt, nat_le, Option, Some, None, if◌then◌else◌, All, AllPairs}
+use Rattle.std.specs.Prelude.{◌≡◌, ◌==◌, true, ℕ, ◌+◌, ◌≤◌, ◌<◌, List, [], ◌∷◌, length, drop, max, fold, find, Bool, ◌&&◌, nat_lt, nat_le, Option, Some, None, if◌then◌else◌, All, AllPairs}
 use Rattle.kms_names.specs.Moment.{year_10000}
 use Rattle.std.specs.Int.{from_be_bytes, w64}
 use Rattle.std.specs.Str.{bytes_eq}
@@ -95,6 +95,12 @@ IsMadeHere place (CreateKey key kind description policy tags) = place_in key ≡
 IsMadeHere place (GrantAdd grant key grantee retiring operations constraint name) = place_in_grant grant ≡ place
 IsMadeHere place _ = Unit {0}
 
+-- whether it has
+abbrev pub is_made_here : ℕ → What → Bool
+is_made_here place (CreateKey key kind description policy tags) = place_in key == place
+is_made_here place (GrantAdd grant key grantee retiring operations constraint name) = place_in_grant grant == place
+is_made_here place _ = true
+
 -- the keys and grants that entries make from a place on have ids that end with their places
 abbrev pub AreMadeFrom : ℕ → List Entry → Type 0
 AreMadeFrom place [] = Unit {0}
@@ -114,6 +120,16 @@ abbrev pub TagsFit : List KeyRow → What → Type 0
 TagsFit keys (CreateKey key kind description policy tags) = length (with_tags [] tags) ≤ most_tags
 TagsFit keys (Tag key tags) = TagsFitOn (key_with keys key) tags
 TagsFit keys _ = Unit {0}
+
+-- whether they are so few
+abbrev pub tags_fit_on : Option KeyRow → List TagValue → Bool
+tags_fit_on None tags = true
+tags_fit_on (Some row) tags = nat_le (length (with_tags row.tags tags)) most_tags
+
+abbrev pub tags_fit : List KeyRow → What → Bool
+tags_fit keys (CreateKey key kind description policy tags) = nat_le (length (with_tags [] tags)) most_tags
+tags_fit keys (Tag key tags) = tags_fit_on (key_with keys key) tags
+tags_fit keys _ = true
 
 -- an entry may come behind a history: its time is before the year 10000, there is room for it, and at most 50 tags of its
 -- key stand behind it

@@ -16,6 +16,6 @@ mod threads;
 pub use entries::{Entry, What};
 pub use held::{HeldKey, Lent};
 pub use laws::tags_are_the_last_given;
-pub use replay::{days_after, is_gone, same_key};
+pub use replay::{days_after, is_gone, is_made_here, same_key};
 pub use rows::{BYTES, ENTRIES, Rows};
 pub use threads::rows_cross_threads;

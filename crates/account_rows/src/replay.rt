@@ -4,14 +4,15 @@ ghost use Rattle.std.specs.Prelude.{◌≡◌, ◌<◌, ◌≤◌, ◌++◌, ◌
 ghost use Rattle.kms_names.specs.Moment.{year_10000};
 ghost use Rattle.std.specs.Str.{bytes_eq};
 ghost use Rattle.account_rows.specs.Changes.{days_after, is_gone, new_key, rotated_if_due, with_version};
-ghost use Rattle.account_rows.specs.History.{place_in, most_tags};
+ghost use Rattle.account_rows.specs.History.{place_in, place_in_grant, is_made_here, most_tags};
 ghost use Rattle.account_rows.specs.Replaying.{CanTurn, MayChange, change_by};
 ghost use Rattle.resource_tags.specs.Tags.{with_tags};
 
+use crate::entries::What;
 use crate::held::{DefaultPolicy, HeldKey};
 use hmac_keys::KeyKind;
 use key_states::{KeyRow, State, Stored, Version, VersionList};
-use kms_names::{KeyId, NoMemory, Text, TextList};
+use kms_names::{GrantId, KeyId, NoMemory, Text, TextList};
 use resource_tags::{TagFault, TagList, TagMap};
 use std::alloc::Global;
 
@@ -45,6 +46,26 @@ pub(crate) fn place_in(key: &KeyId) -> u64
     let mut bytes = [0; 8];
     bytes[2..].copy_from_slice(&key.as_bytes()[10..]);
     u64::from_be_bytes(bytes)
+}
+
+// The place that a grant's id ends with.
+fn place_in_grant(grant: &GrantId) -> u64
+    ensures { result ≡ place_in_grant grant.now }
+{
+    let mut bytes = [0; 8];
+    bytes[2..].copy_from_slice(&grant.as_bytes()[26..]);
+    u64::from_be_bytes(bytes)
+}
+
+/// Whether the id of a key or grant that an entry makes ends with this place. It takes no memory.
+pub fn is_made_here(place: u64, what: &What) -> bool
+    ensures { result ≡ is_made_here place what.now }
+{
+    match what {
+        What::CreateKey { key, .. } => place_in(key) == place,
+        What::GrantAdd { grant, .. } => place_in_grant(grant) == place,
+        _ => true,
+    }
 }
 
 /// Some days after a time, both in seconds since 1970. It takes no memory.

@@ -87,6 +87,7 @@ impl Rows {
     ghost use Rattle.std.specs.Option.{option_map};
     ghost use Rattle.account_rows.specs.History.{replay, latest_of, housekeeping_of, most_entries, most_bytes, has_room, key_with, key_behind, IsFitting};
     ghost use Rattle.account_rows.specs.Sizes.{bytes_in};
+    ghost use Rattle.account_rows.specs.Changes.{wants_house};
 
     /// No entries. Keys of this account share its default policy.
     pub fn new(alloc: Global, account: &AccountNumber) -> Result<Rows, NoMemory>
@@ -155,6 +156,14 @@ impl Rows {
         } else {
             None
         }
+    }
+
+    /// Whether housekeeping has something to do at a moment: some key is gone then, or due for rotation. It takes no memory; the first of the
+    /// dates tells.
+    pub fn wants_house(&self, moment: u64) -> bool
+        ensures { result ≡ wants_house moment (replay self.now).keys }
+    {
+        self.keys.wants_house(moment)
     }
 
     // Whether there is room for one more entry that counts so many bytes.

@@ -26,7 +26,8 @@ pub use particulars::{
     KeySaid, of_context, of_key, of_mac, of_named, of_new_key, of_none, of_said,
 };
 pub use parts::{
-    Changes, Made, Reads, Request, change, grant_id_of, grant_of_token, questions_of, read, refuse,
+    Changes, Made, Reads, Request, change, grant_id_of, grant_of_token, overfull, questions_of,
+    read, refuse,
 };
 pub use places::{Places, Uses};
 pub use questions::{Asking, LentAlias, OfGrants, Question, QuestionList, Questions};

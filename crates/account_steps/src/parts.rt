@@ -236,8 +236,9 @@ fn full(view: &View<'_>, what: &What) -> Option<Refusal>
     }
 }
 
-// The limits of an entry: what it would add to, then the number of entries, then their bytes.
-fn overfull(view: &View<'_>, what: &What) -> Option<Refusal>
+/// The refusal of an entry for which the limits leave no room, if any: of what it would add to, then of the number of entries, then of
+/// their bytes. It takes no memory.
+pub fn overfull(view: &View<'_>, what: &What) -> Option<Refusal>
     ensures { result ≡ overfull view.now what.now }
 {
     if let Some(why) = full(view, what) {

@@ -109,7 +109,8 @@ fn has_grant_name_bytes(name: &str) -> bool
     name.bytes().all(is_grant_name_byte)
 }
 
-fn is_grant_name(name: &str) -> bool
+/// Whether a text may name a grant: 1 to 256 letters, digits and `:/_-` (AWS KMS API Reference, CreateGrant). It takes no memory.
+pub fn is_grant_name(name: &str) -> bool
     ensures { result ≡ is_grant_name name.now }
 {
     !name.is_empty() && name.len() <= 256 && has_grant_name_bytes(name)
@@ -159,7 +160,9 @@ fn are_all_tags(tags: &[Tag]) -> bool
     tags.iter().all(is_tag)
 }
 
-fn are_tags(tags: Option<&[Tag]>) -> bool
+/// Whether a request may give these tags: at most 50, each with a key of 1 to 128 characters and a value of at most 256 (AWS KMS API
+/// Reference, Tag). It takes no memory.
+pub fn are_tags(tags: Option<&[Tag]>) -> bool
     ensures { result ≡ are_tags (option_map (λ t. t.now) tags.entry) }
 {
     match tags {
@@ -174,7 +177,9 @@ fn are_all_tag_keys(keys: &[Text]) -> bool
     keys.iter().all(|key| is_tag_key(key.as_str()))
 }
 
-fn are_tag_keys(keys: &[Text]) -> bool
+/// Whether a request may take the tags of these keys: 1 to 50, each of 1 to 128 characters (AWS KMS API Reference, UntagResource). It
+/// takes no memory.
+pub fn are_tag_keys(keys: &[Text]) -> bool
     ensures { result ≡ are_tag_keys keys.now }
 {
     1 <= keys.len() && keys.len() <= MOST_TAGS && are_all_tag_keys(keys)

@@ -26,6 +26,7 @@ pub use asks::{
     GrantConstraint, JsonFault, ListGrants, Page, ReEncrypt, Reading, RetiredGrant, VerifyMac,
 };
 pub use bodies::read_ask;
+pub use fields::{are_tag_keys, are_tags, is_grant_name};
 pub use refusals::{Limit, Missing, PolicyFlaw, Refusal, Unsupported};
 pub use replies::{
     AliasList, AliasPage, AutomaticRotation, GrantList, GrantPage, HMAC_SHA_256, KeyIdList,

@@ -1,0 +1,63 @@
+// Why the script can't be held.
+use account_core::FitFault;
+use kms_json::JsonFault;
+use kms_names::{NameFault, NoMemory};
+use std::alloc::{AllocError, AllocFailed};
+use std::io;
+
+/// Why the script can't be held.
+#[derive(Clone, Copy)]
+pub enum Failure {
+    NoMemory,
+    /// A line or the configuration has not its form.
+    Unfit,
+    /// An entry that a request makes doesn't fit.
+    Unfitting,
+    /// A file couldn't be read, or a line couldn't be written.
+    Workshop(io::ErrorKind),
+}
+
+impl From<NoMemory> for Failure {
+    fn from(_e: NoMemory) -> Failure {
+        Failure::NoMemory
+    }
+}
+
+impl From<AllocError> for Failure {
+    fn from(_e: AllocError) -> Failure {
+        Failure::NoMemory
+    }
+}
+
+impl<T: Drop> From<AllocFailed<T>> for Failure {
+    fn from(_e: AllocFailed<T>) -> Failure {
+        Failure::NoMemory
+    }
+}
+
+impl From<NameFault> for Failure {
+    fn from(_e: NameFault) -> Failure {
+        Failure::Unfit
+    }
+}
+
+impl From<JsonFault> for Failure {
+    fn from(_e: JsonFault) -> Failure {
+        Failure::Unfit
+    }
+}
+
+impl From<FitFault> for Failure {
+    fn from(e: FitFault) -> Failure {
+        match e {
+            FitFault::Unfit => Failure::Unfitting,
+            FitFault::NoMemory => Failure::NoMemory,
+        }
+    }
+}
+
+impl From<io::Error> for Failure {
+    fn from(e: io::Error) -> Failure {
+        Failure::Workshop(e.kind())
+    }
+}
