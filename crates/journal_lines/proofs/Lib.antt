@@ -1,0 +1,16 @@
+pub mod ByteFacts
+pub mod ContextFacts
+pub mod CutFacts
+pub mod EndFacts
+pub mod EntryFacts
+pub mod FeedFacts
+pub mod FormFacts
+pub mod FrameFacts
+pub mod JsonFacts
+pub mod LineFacts
+pub mod LineReadingFacts
+pub mod NameFacts
+pub mod PlainFacts
+pub mod ReadFacts
+pub mod SetFacts
+pub mod TextFacts

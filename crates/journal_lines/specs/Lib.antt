@@ -1,0 +1,11 @@
+pub mod Values
+pub mod Lines
+pub mod Building
+pub mod Forms
+pub mod Contexts
+pub mod Readings
+pub mod Entries
+pub mod LineReading
+pub mod FrameLines
+pub mod Cuts
+pub mod Frames
