@@ -76,7 +76,7 @@ abbrev pub marks_in : List Marked → List Mark
 marks_in run = map (λ (m : Marked). m.mark) run
 
 -- the finding of these runs with this ground
-abbrev pub finding_of : Question → Runs → Ground → Finding
+abbrev pub finding_of : Question → Runs → (ground : Ground) → Finding
 finding_of q runs g = record {
   action = q.facts.action;
   resource = q.facts.resource;
