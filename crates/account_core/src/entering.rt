@@ -42,7 +42,7 @@ const DESCRIPTION: usize = 8_192;
 
 const CONSTRAINT: usize = 4_096;
 
-// Whether what an entry names is there, and housekeeping has something to do.
+/// Whether what an entry names is there, and housekeeping has something to do.
 pub fn is_there(view: &View<'_>, house: bool, what: &What) -> bool
     requires { house ≡ wants_house view.now.moment view.now.keys }
     ensures { result ≡ is_there view.now what.now }
@@ -68,7 +68,7 @@ pub fn is_there(view: &View<'_>, house: bool, what: &What) -> bool
     }
 }
 
-// Whether the limits leave room for an entry.
+/// Whether the limits leave room for an entry.
 pub fn leaves_room(view: &View<'_>, what: &What) -> bool
     ensures { result ≡ is_none (overfull view.now what.now) }
 {
@@ -112,7 +112,7 @@ fn is_short(constraint: &Constraint) -> bool
     }
 }
 
-// Whether the texts and numbers of an entry have their forms.
+/// Whether the texts and numbers of an entry have their forms.
 pub fn is_formed(alloc: Global, what: &What) -> Result<bool, NoMemory>
     ensures { IfOk result (λ b. b ≡ is_formed what.now) }
 {
@@ -143,7 +143,7 @@ pub fn is_formed(alloc: Global, what: &What) -> Result<bool, NoMemory>
     })
 }
 
-// Whether a deletion is scheduled for the date that its waiting period comes to.
+/// Whether a deletion is scheduled for the date that its waiting period comes to.
 pub fn is_dated(time: u64, what: &What) -> bool
     requires { time < year_10000 }
     ensures { result ≡ is_dated time what.now }
@@ -154,7 +154,7 @@ pub fn is_dated(time: u64, what: &What) -> bool
     }
 }
 
-// Whether so few tags stand on a key once these were put.
+/// Whether so few tags stand on a key once these were put.
 pub fn tags_fit_on(tags: &TagMap, more: &TagList) -> Result<bool, NoMemory>
     ensures { IfOk result (λ b. b ≡ nat_le (length (with_tags tags.now more.now)) most_tags) }
 {
