@@ -1,0 +1,10 @@
+mod DefaultPolicy
+mod TextBytes
+mod TextValues
+mod AskedForms
+mod AskedTexts
+mod Doing
+mod ReadForms
+mod Sound
+mod Telling
+mod ReadingBack

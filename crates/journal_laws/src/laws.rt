@@ -1,0 +1,58 @@
+//! Laws of the entries of an account and of their text. Each stands as the contract of a function that does nothing.
+
+ghost use Rattle.journal_laws.specs.Laws.{NextEntriesFit, HeldHistoriesAreSound, LawfulHistoriesAreSound, NextEntriesHaveForms, OpenedEntriesHaveForms, LawfulEntriesHaveForms, ReadEntriesHaveForms, JournalsDiffer, LawfulJournalsDiffer, JournalIsReadBack, OpenedJournalIsReadBack, LawfulJournalIsReadBack};
+
+/// An entry that a proper request appends, or that housekeeping appends at a clock's answer before the
+/// year 10000, fits the history before it, where an account holds that history and the account's number
+/// is one: twelve digits. (A key that is made without a policy has the account's default policy, which
+/// has no fault where this is so.)
+pub fn next_entries_fit()
+    ensures { NextEntriesFit }
+{}
+
+/// Each entry of a history that an account holds fits those before it, whoever made it: one that it was
+/// given as one that fits, and one that a proper request or housekeeping appended. The account's number
+/// is one.
+pub fn held_histories_are_sound()
+    ensures { HeldHistoriesAreSound }
+{}
+
+/// Each entry of a lawful history fits those before it, where the account's number is one.
+pub fn lawful_histories_are_sound()
+    ensures { LawfulHistoriesAreSound }
+{}
+
+/// An entry that a proper request or housekeeping appends to a history that an account holds has the
+/// forms that a text can tell (`IsEntry` of `journal_lines`): ids have their sizes, texts are UTF-8,
+/// alias names and principals have their forms, times and dates have 64 bits, numbers of days 32, a
+/// context stands in the order of its keys and has at most 8,192 encoded bytes, and a set of grant
+/// operations has no bit but theirs. So have the entries of a history that goes on from a sound one
+/// whose entries have their forms, and an account holds that history; so have the entries of a lawful
+/// history, and what is read of a line. The account's number is one, but for what is read.
+pub fn entries_have_forms()
+    ensures next { NextEntriesHaveForms }
+    ensures opened { OpenedEntriesHaveForms }
+    ensures lawful { LawfulEntriesHaveForms }
+    ensures read { ReadEntriesHaveForms }
+{}
+
+/// Where the texts of two histories are equal, each under facts of its own, then so are the accounts, the
+/// regions, the boot numbers and the histories. The accounts' numbers and the regions have their forms,
+/// the boot numbers have 32 bits, and the entries of both histories have their forms, or both histories
+/// are lawful. The root secrets may differ: a text doesn't tell its own.
+pub fn journals_differ()
+    ensures formed { JournalsDiffer }
+    ensures lawful { LawfulJournalsDiffer }
+{}
+
+/// The text of a history is a journal to any facts with the same account, region and root secret and a
+/// higher boot number of 32 bits: of that history, whose entries have their forms and are fewer than
+/// 10^18, and of no other whose entries have their forms. So `read_journal` takes it under these facts,
+/// and has that history, but for want of memory. An account holds the history and its entries have their
+/// forms, or it goes on from a sound history whose entries have their forms, or it is lawful; and the
+/// account's number is one.
+pub fn journal_is_read_back()
+    ensures held { JournalIsReadBack }
+    ensures opened { OpenedJournalIsReadBack }
+    ensures lawful { LawfulJournalIsReadBack }
+{}
