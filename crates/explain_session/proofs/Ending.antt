@@ -2,7 +2,7 @@
 use Rattle.std.proofs.Common.{◌≡◌, ◌<◌, ℕ, List, [], ◌∷◌, ◌++◌, Bool, true, false, Option, inr}
 use Rattle.kms_names.specs.Moment.{year_10000}
 use Rattle.kms_io.specs.Wire.{Wire, TellsMore}
-use Rattle.account_steps.specs.declared.facts.RealmFacts.{RealmFacts}
+use Rattle.account_core.specs.Account.{Account}
 use Rattle.http_front.specs.declared.judge.HttpFault.{HttpFault}
 use Rattle.http_front.specs.Message.{Message, CutsOff, IsRefused}
 use Rattle.http_front.specs.Offsets.{Offsets}
@@ -44,9 +44,9 @@ wants_at_fault why s refused before told same = inr (starves (fault why) true s 
 
 -- ---- a session from its beginning
 
-pub explained : (facts : RealmFacts) (trust : Trust) (end : SessionEnd) (old : Wire) (told : Option (List ℕ)) (new : Wire) (later : Option (List ℕ)) (last : Explainer)
-    → EndsBy trust end (outside old told (fresh facts)) (outside new later last) → Explained facts trust end old told new later
-explained facts trust end old told new later last ends =
-    let before = outside old told (fresh facts) in
+pub explained : (account : Account) (trust : Trust) (end : SessionEnd) (old : Wire) (told : Option (List ℕ)) (new : Wire) (later : Option (List ℕ)) (last : Explainer)
+    → EndsBy trust end (outside old told (fresh account)) (outside new later last) → Explained account trust end old told new later
+explained account trust end old told new later last ends =
+    let before = outside old told (fresh account) in
     let after = outside new later last in
     record { last = last; ends = ends; complete = each_is_answered (tells trust) (Wants trust before after) end before after ends }

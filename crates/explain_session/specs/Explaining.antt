@@ -11,6 +11,7 @@ use Rattle.account_steps.specs.declared.places.Places.{Places}
 use Rattle.account_steps.specs.History.{Entry, housekeeping_of}
 use Rattle.account_steps.specs.Parts.{Decided}
 use Rattle.account_steps.specs.Places.{no_places}
+use Rattle.account_core.specs.Account.{Account}
 use Rattle.account_core.specs.Decide.{decide}
 use Rattle.access_explain.specs.declared.certificates.Certificate.{Certificate}
 use Rattle.access_explain.specs.Certificates.{IsCertificate, early_one}
@@ -26,9 +27,9 @@ pub record Explainer : Type 0 where
   pub entries : List Entry
   pub places : Places
 
--- one that was asked nothing, with what the first pass has to use
-abbrev pub fresh : RealmFacts → Explainer
-fresh facts = record { facts = facts; entries = []; places = no_places }
+-- an account that was asked nothing yet, with what the first pass has to use
+abbrev pub fresh : Account → Explainer
+fresh account = record { facts = account.facts; entries = account.entries; places = no_places }
 
 abbrev pub with_entry : Explainer → Option Entry → Explainer
 with_entry s None = s

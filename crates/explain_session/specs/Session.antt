@@ -2,7 +2,7 @@
 use Rattle.std.specs.Prelude.{◌≡◌, ◌<◌, ◌⊎◌, ◌∷◌, ◌++◌, ℕ, List, [], Bool, false, Option}
 use Rattle.kms_names.specs.Moment.{year_10000}
 use Rattle.kms_io.specs.Wire.{Wire, TellsMore}
-use Rattle.account_steps.specs.declared.facts.RealmFacts.{RealmFacts}
+use Rattle.account_core.specs.Account.{Account}
 use Rattle.session_front.specs.declared.ends.SessionEnd.{SessionEnd}
 use Rattle.session_front.specs.declared.trust.Trust.{Trust}
 use Rattle.session_front.specs.Complete as front
@@ -59,8 +59,8 @@ GoesOn trust end old new count rest = session.GoesOn (tells trust) (Wants trust 
 abbrev pub IsComplete : Trust → SessionEnd → Outside → Outside → Type 0
 IsComplete trust end old new = front.IsComplete (tells trust) (Wants trust old new) end old new
 
--- a session from an empty history: the account at its end, each end by its cause, and where nothing disturbs it
-pub record Explained (facts : RealmFacts) (trust : Trust) (end : SessionEnd) (old : Wire) (told : Option (List ℕ)) (new : Wire) (later : Option (List ℕ)) : Type 0 where
+-- a session of this account: the account at its end, each end by its cause, and where nothing disturbs it
+pub record Explained (account : Account) (trust : Trust) (end : SessionEnd) (old : Wire) (told : Option (List ℕ)) (new : Wire) (later : Option (List ℕ)) : Type 0 where
   pub last : Explainer
-  pub ends : EndsBy trust end (outside old told (fresh facts)) (outside new later last)
-  pub complete : IsComplete trust end (outside old told (fresh facts)) (outside new later last)
+  pub ends : EndsBy trust end (outside old told (fresh account)) (outside new later last)
+  pub complete : IsComplete trust end (outside old told (fresh account)) (outside new later last)

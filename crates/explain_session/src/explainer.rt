@@ -7,7 +7,7 @@ ghost use Rattle.explain_session.specs.Explaining.{fresh, keeping_house, met_by,
 
 use crate::lines::exception_in;
 use access_explain::{certificate_line, explain};
-use account_core::{Account, Decision, DrawLine, RealmFacts};
+use account_core::{Account, Decision, DrawLine};
 use account_steps::draw_line;
 use kms_json::{Ask, Reply};
 use kms_names::{Bytes, NoMemory};
@@ -34,13 +34,12 @@ impl Model for Explainer {
 }
 
 impl Explainer {
-    /// The account of these facts with no entries, of which nothing was used.
-    pub fn new(alloc: Global, facts: RealmFacts) -> Result<Explainer, NoMemory>
-        ensures { IfOk result (λ e. e ≡ fresh facts) }
+    /// An account of which nothing was used.
+    pub fn new(account: Account) -> Explainer
+        ensures { result ≡ fresh account }
     {
-        let draws = draw_line(&facts, 1);
-        let account = Account::empty(alloc, facts)?;
-        Ok(Explainer { account, draws })
+        let draws = draw_line(account.facts(), 1);
+        Explainer { account, draws }
     }
 
     /// The region of the account.

@@ -10,7 +10,7 @@ ghost use Rattle.explain_session.specs.Session.{Outside, IsTold, Explains, EndsB
 
 use crate::explainer::Explainer;
 use crate::lines::early_line;
-use account_steps::RealmFacts;
+use account_core::Account;
 use http_front::Cut;
 use kms_io::{Clock, Link};
 use kms_names::{Bytes, NoMemory};
@@ -178,8 +178,7 @@ fn explain_messages<L: Link, C: Clock>(
     SessionEnd::Closed
 }
 
-/// Reads the messages of a connection to its end, as a session of an account of these facts does that
-/// begins with no entries, and writes one line for each in place of its reply: the certificate of its
+/// Reads the messages of a connection to its end, as a session of this account does, and writes one line for each in place of its reply: the certificate of its
 /// request, and the exception of its reply or `Ok` (`Explained`).
 ///
 /// A message that changes the account comes after housekeeping, and its entry is appended. One that is
@@ -189,16 +188,14 @@ fn explain_messages<L: Link, C: Clock>(
 /// The condition is that whoever may be the caller is of the account.
 pub fn explain_session<L: Link, C: Clock>(
     alloc: Global,
-    facts: RealmFacts,
+    account: Account,
     trust: &Trust,
     clock: &mut C,
     link: &mut L,
 ) -> SessionEnd
-    requires { IsOfAccount facts.account trust.now }
-    ensures { Explained facts trust.now result (L.shows link.old) (C.told clock.old) (L.shows link.new) (C.told clock.new) }
+    requires { IsOfAccount account.facts.account trust.now }
+    ensures { Explained account trust.now result (L.shows link.old) (C.told clock.old) (L.shows link.new) (C.told clock.new) }
 {
-    let Ok(mut explainer) = Explainer::new(alloc, facts) else {
-        return SessionEnd::NoMemory;
-    };
+    let mut explainer = Explainer::new(account);
     explain_messages(alloc, trust, &mut explainer, clock, link)
 }

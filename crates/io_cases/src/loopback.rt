@@ -5,7 +5,7 @@ ghost use Rattle.kms_io.specs.TcpEar.{counts_of};
 use crate::lines::Lines;
 use kms_io::{Door, Ear, Link, Next, Opened, Put, TcpDoor, TcpEar, TcpLink, Took};
 use std::alloc::Global;
-use std::io::{Read, Write};
+use std::io::{Input, Read, Write};
 use std::net::{Net, Shutdown, SocketAddr, TcpListener, TcpStream};
 use std::sync::Wait;
 use std::{io, rt};
@@ -48,7 +48,7 @@ fn client<R: Net<Stream = TcpStream>>(
 }
 
 // Reads and answers until a read gives no bytes, and tells what it gives. The client asks before each read.
-fn say_steady<R: rt::Clock + Eprint>(
+fn say_steady<R: rt::Clock + Eprint + Input>(
     client: &mut TcpStream,
     conn: &mut TcpLink<'_, R>,
     lines: &mut Lines,
@@ -67,7 +67,7 @@ fn say_steady<R: rt::Clock + Eprint>(
 }
 
 // Writes until a write fails, and tells whether one does.
-fn say_writes<R: rt::Clock + Eprint>(conn: &mut TcpLink<'_, R>, lines: &mut Lines) {
+fn say_writes<R: rt::Clock + Eprint + Input>(conn: &mut TcpLink<'_, R>, lines: &mut Lines) {
     for _ in 0..ROUNDS {
         let put = conn.write_some(&[7; PIECE]);
         if matches!(put, Put::Failed) {
@@ -79,7 +79,7 @@ fn say_writes<R: rt::Clock + Eprint>(conn: &mut TcpLink<'_, R>, lines: &mut Line
 }
 
 // Serves a connection of the client.
-fn say_talk<R: rt::Clock + Eprint>(
+fn say_talk<R: rt::Clock + Eprint + Input>(
     talk: Talk,
     client: &mut TcpStream,
     conn: &mut TcpLink<'_, R>,
@@ -106,7 +106,7 @@ fn say_talk<R: rt::Clock + Eprint>(
 }
 
 // Serves the next connection, which is the client's, and gives it back.
-fn say_next<R: Wait + rt::Clock + Eprint>(
+fn say_next<R: Wait + rt::Clock + Eprint + Input>(
     talk: Talk,
     client: &mut TcpStream,
     ear: &mut TcpEar<'_, R>,
@@ -134,7 +134,7 @@ fn say_told(alloc: Global, client: &mut TcpStream, lines: &mut Lines) -> io::Res
 }
 
 // A connection of a client that is served while another waits, and then that one.
-fn show_beside<R: Net<Stream = TcpStream> + Wait + rt::Clock + Eprint>(
+fn show_beside<R: Net<Stream = TcpStream> + Wait + rt::Clock + Eprint + Input>(
     rt: &R,
     at: SocketAddr,
     what: &str,
@@ -157,7 +157,7 @@ fn show_beside<R: Net<Stream = TcpStream> + Wait + rt::Clock + Eprint>(
 }
 
 // A client that asks on and on while many others wait, and then the first of them.
-fn show_crowd<R: Net<Stream = TcpStream> + Wait + rt::Clock + Eprint + AllocGlobal>(
+fn show_crowd<R: Net<Stream = TcpStream> + Wait + rt::Clock + Eprint + Input + AllocGlobal>(
     rt: &R,
     at: SocketAddr,
     ear: &mut TcpEar<'_, R>,
@@ -185,7 +185,7 @@ fn show_crowd<R: Net<Stream = TcpStream> + Wait + rt::Clock + Eprint + AllocGlob
 }
 
 // A client that closes its half after it has asked.
-fn show_half_closed<R: Net<Stream = TcpStream> + Wait + rt::Clock + Eprint + AllocGlobal>(
+fn show_half_closed<R: Net<Stream = TcpStream> + Wait + rt::Clock + Eprint + Input + AllocGlobal>(
     rt: &R,
     at: SocketAddr,
     ear: &mut TcpEar<'_, R>,
@@ -204,7 +204,7 @@ fn show_half_closed<R: Net<Stream = TcpStream> + Wait + rt::Clock + Eprint + All
 }
 
 // A client that has sent nothing, and one behind it that has.
-fn show_silent<R: Net<Stream = TcpStream> + Wait + rt::Clock + Eprint>(
+fn show_silent<R: Net<Stream = TcpStream> + Wait + rt::Clock + Eprint + Input>(
     rt: &R,
     at: SocketAddr,
     ear: &mut TcpEar<'_, R>,
@@ -225,7 +225,7 @@ fn show_silent<R: Net<Stream = TcpStream> + Wait + rt::Clock + Eprint>(
 }
 
 // What an ear does with clients of every kind.
-fn show_clients<R: Net<Stream = TcpStream> + Wait + rt::Clock + Eprint + AllocGlobal>(
+fn show_clients<R: Net<Stream = TcpStream> + Wait + rt::Clock + Eprint + Input + AllocGlobal>(
     rt: &R,
     at: SocketAddr,
     ear: &mut TcpEar<'_, R>,
@@ -272,7 +272,7 @@ fn show_clients<R: Net<Stream = TcpStream> + Wait + rt::Clock + Eprint + AllocGl
 }
 
 // What one of these ears does with them.
-fn show_ear<R: Net<Stream = TcpStream> + Wait + rt::Clock + Eprint + AllocGlobal>(
+fn show_ear<R: Net<Stream = TcpStream> + Wait + rt::Clock + Eprint + Input + AllocGlobal>(
     rt: &R,
     at: SocketAddr,
     ears: &mut Vec<TcpEar<'_, R>>,
@@ -288,7 +288,7 @@ fn show_ear<R: Net<Stream = TcpStream> + Wait + rt::Clock + Eprint + AllocGlobal
 }
 
 // An opening that fails.
-fn show_shut<R: Net + Wait + rt::Clock + Eprint + AllocGlobal + Sync>(
+fn show_shut<R: Net + Wait + rt::Clock + Eprint + Input + AllocGlobal + Sync>(
     rt: &R,
     what: &str,
     address: &str,
@@ -305,6 +305,7 @@ pub fn show_loopback<
         + Wait
         + rt::Clock
         + Eprint
+        + Input
         + AllocGlobal
         + Sync,
 >(rt: &R, lines: &mut Lines) -> io::Result<()> {

@@ -42,6 +42,24 @@ fn show_file<R: rt::Files + Eprint>(
     removed
 }
 
+// Reads a file of this size as a long one.
+fn show_long<R: rt::Files + Eprint>(
+    rt: &R,
+    name: &str,
+    size: usize,
+    room: &mut Vec<u8>,
+    lines: &mut Lines,
+) -> io::Result<()> {
+    let content = vec![in *room.allocator(); 7; size]?;
+    fs::write(rt, name, content)?;
+    lines.say("a long file of the machine, ");
+    lines.say_number(size as u64);
+    lines.say(" bytes: ");
+    lines.say_answer(RealFiles::new(rt).read_long(name, room), room.len());
+    lines.say("\n");
+    fs::remove_file(rt, name)
+}
+
 /// The machine's files.
 pub fn show_files<R: rt::Env + rt::Files + Eprint + AllocGlobal>(
     rt: &R,
@@ -53,5 +71,5 @@ pub fn show_files<R: rt::Env + rt::Files + Eprint + AllocGlobal>(
     for size in [3, 0, 4_194_304, 4_194_305] {
         show_file(rt, &name, size, &mut room, lines)?;
     }
-    Ok(())
+    show_long(rt, &name, 4_194_305, &mut room, lines)
 }

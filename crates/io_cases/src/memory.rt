@@ -5,10 +5,11 @@ ghost use Rattle.kms_io.specs.MemoryLink.{wire_of};
 
 use crate::lines::Lines;
 use kms_io::{
-    Clock, Door, Ear, Files, Gate, Link, MemoryClock, MemoryDoor, MemoryEar, MemoryFiles,
-    MemoryLink, Next, NoGate, Point, StdLink, StepClock,
+    Beneath, Clock, Door, Ear, Files, Gate, Link, MemoryClock, MemoryDoor, MemoryEar, MemoryFiles,
+    MemoryLink, Next, NoGate, Point, QuietLink, StdLink, StepClock,
 };
 use std::alloc::{AllocError, Global};
+use std::marker::Brand;
 
 // Reads of a connection.
 #[derive(Clone, Copy)]
@@ -121,6 +122,43 @@ fn show_writes(alloc: Global, lines: &mut Lines) -> Result<(), AllocError> {
     Ok(())
 }
 
+// What a quiet connection over this one does, which is given back.
+fn say_quiet<'a, B: Beneath>(
+    alloc: Global,
+    link: &'a mut MemoryLink,
+    lines: &mut Lines,
+) -> &'a mut MemoryLink
+    requires name { link.ghost_name ≡ B.name }
+    requires first { wire_of link.old ≡ B.first }
+{
+    let mut quiet = QuietLink::<'a, B, MemoryLink>::new(alloc, link);
+    let mut room = [0; 4];
+    lines.say_took(quiet.read_some(&mut room));
+    lines.say(", the room has ");
+    lines.say_text(&room);
+    lines.say(", ");
+    lines.say_put(quiet.write_some(b"kept"));
+    lines.say(", ");
+    lines.say_took(quiet.read_some(&mut room));
+    quiet.into_link()
+}
+
+// A quiet connection, and then writes on the one beneath it.
+fn show_quiet(alloc: Global, lines: &mut Lines) -> Result<(), AllocError> {
+    let mut link = link_of(alloc, b"abc", &[], &[], &[0])?;
+    lines.say("a quiet connection: ");
+    let beneath = say_quiet::<Brand>(alloc, &mut link, lines);
+    lines.say("; the one beneath it, whose write 0 fails: ");
+    for _ in 0..2 {
+        lines.say_put(beneath.write_some(b"own"));
+        lines.say(", ");
+    }
+    lines.say("and written is ");
+    lines.say_text(link.written());
+    lines.say("\n");
+    Ok(())
+}
+
 // A connection over a reader and a writer.
 fn show_standard(alloc: Global, lines: &mut Lines) {
     let mut link = StdLink::new(b"hello".as_slice(), Vec::new(alloc));
@@ -184,6 +222,13 @@ fn show_files(alloc: Global, lines: &mut Lines) -> Result<(), AllocError> {
         lines.say(name);
         lines.say(": ");
         lines.say_answer(files.read_whole(name, &mut room), room.len());
+        lines.say("\n");
+    }
+    for name in ["none", "long"] {
+        lines.say("a long file in memory, ");
+        lines.say(name);
+        lines.say(": ");
+        lines.say_answer(files.read_long(name, &mut room), room.len());
         lines.say("\n");
     }
     Ok(())
@@ -283,6 +328,7 @@ pub fn show_memory(alloc: Global, lines: &mut Lines) -> Result<(), AllocError> {
         show_reads(alloc, reads, lines)?;
     }
     show_writes(alloc, lines)?;
+    show_quiet(alloc, lines)?;
     show_standard(alloc, lines);
     show_clocks(alloc, lines)?;
     show_files(alloc, lines)?;

@@ -3,7 +3,7 @@ use crate::lobby::{Heard, Lobby};
 use crate::moment::{Millis, moment, since};
 use crate::pace::{Cause, turn};
 use std::alloc::Global;
-use std::io::Read;
+use std::io::{Input, Read};
 use std::net::TcpStream;
 use std::rt;
 use std::sync::atomic::{AtomicU64, Ordering};
@@ -107,7 +107,7 @@ impl Hall {
     }
 
     /// Waits for a connection. The ear that waits first holds the lobby, and others wait behind it.
-    pub fn next<R: Wait + rt::Clock + Eprint>(&self, rt: &R) -> Heard {
+    pub fn next<R: Wait + rt::Clock + Eprint + Input>(&self, rt: &R) -> Heard {
         let mut lobby = self.lobby.lock(rt);
         let heard = lobby.next(rt);
         let is_short = lobby.is_short();
@@ -123,13 +123,14 @@ impl Hall {
     }
 
     /// Sees who waits, where no ear does.
-    pub fn look<R: rt::Clock + Eprint>(&self, rt: &R) {
+    pub fn look<R: rt::Clock + Eprint + Input>(&self, rt: &R) {
         if let Some(mut lobby) = self.lobby.try_lock() {
             lobby.look(rt);
         }
     }
 
-    /// Whether a connection waits for which no worker makes room, where no ear is asked for one.
+    /// Whether a connection waits for which no worker makes room, where no ear is asked for one; or standard input, which
+    /// is watched, has ended.
     pub fn is_awaited(&self, now: Millis) -> bool {
         match self.lobby.try_lock() {
             Some(mut lobby) => lobby.is_awaited(now),

@@ -1,9 +1,10 @@
 // Who waits for a worker.
+use crate::input_watch::InputWatch;
 use crate::moment::{Millis, moment, since};
 use mio::net::{TcpListener, TcpStream};
 use mio::{Events, Interest, Poll, Token};
 use std::alloc::Global;
-use std::io::ErrorKind;
+use std::io::{ErrorKind, Input};
 use std::net::Net;
 use std::time::Duration;
 use std::{io, rt};
@@ -31,8 +32,10 @@ const CALL: Millis = 50;
 // How many events are taken at once.
 const EVENTS: usize = 64;
 
-// The token of the listener. Those of connections are greater.
+// The tokens of the listener and of standard input. Those of connections are greater.
 const LISTENER: usize = 0;
+
+const INPUT: usize = 1;
 
 /// A connection that waits for a worker.
 #[derive(Drop)]
@@ -62,7 +65,7 @@ pub enum Heard {
     Guest(Guest, usize),
     /// No connection within a second.
     Nobody,
-    /// No connection could be taken for a minute.
+    /// No connection could be taken for a minute, or standard input ended.
     Failed,
 }
 
@@ -75,10 +78,11 @@ struct Shortage {
 }
 
 /// The listener and the connections that wait for a worker: those that have sent nothing, the oldest first,
-/// and those with bytes, in the order in which these came.
+/// and those with bytes, in the order in which these came. Where standard input is watched and has ended, none wait.
 #[derive(Drop)]
 pub struct Lobby {
     listener: TcpListener,
+    input: InputWatch,
     poll: Poll,
     events: Events,
     silent: Vec<Guest>,
@@ -119,11 +123,12 @@ impl Lobby {
             .register(&mut listener, Token(LISTENER), Interest::READABLE)?;
         Ok(Lobby {
             listener,
+            input: InputWatch::Off,
             poll,
             events: Events::with_capacity(alloc, EVENTS)?,
             silent: Vec::with_capacity(alloc, ROOM)?,
             ready: Vec::with_capacity(alloc, ROOM)?,
-            last_token: LISTENER,
+            last_token: INPUT,
             has_more: false,
             called: 0,
             called_at: 0,
@@ -131,6 +136,11 @@ impl Lobby {
             told_at: None,
             closed: 0,
         })
+    }
+
+    /// From now on it ends with standard input, where that can be watched.
+    pub fn watch_input(&mut self) {
+        self.input = InputWatch::begin(self.poll.registry(), Token(INPUT));
     }
 
     /// How many connections were closed that had sent nothing.
@@ -144,7 +154,10 @@ impl Lobby {
     }
 
     /// Waits for a second at most for a connection that has bytes or is at its end.
-    pub fn next<R: rt::Clock + Eprint>(&mut self, rt: &R) -> Heard {
+    pub fn next<R: rt::Clock + Eprint + Input>(&mut self, rt: &R) -> Heard {
+        if self.input.has_ended() {
+            return Heard::Failed;
+        }
         let now = moment(rt);
         self.called = self.called.saturating_sub(1);
         if self.ready.is_empty() {
@@ -153,7 +166,7 @@ impl Lobby {
                 self.tell(rt, now, &fault);
                 return Heard::Failed;
             }
-            if self.gives_up(moment(rt)) {
+            if self.input.has_ended() || self.gives_up(moment(rt)) {
                 return Heard::Failed;
             }
         }
@@ -165,12 +178,17 @@ impl Lobby {
     }
 
     /// Sees who waits, without waiting.
-    pub fn look<R: rt::Clock + Eprint>(&mut self, rt: &R) {
-        let _ = self.gather(rt, 0);
+    pub fn look<R: rt::Clock + Eprint + Input>(&mut self, rt: &R) {
+        if !self.input.has_ended() {
+            let _ = self.gather(rt, 0);
+        }
     }
 
-    /// Whether a connection waits for which no worker makes room yet.
+    /// Whether a connection waits for which no worker makes room yet. Once standard input has ended all make room.
     pub fn is_awaited(&mut self, now: Millis) -> bool {
+        if self.input.has_ended() {
+            return true;
+        }
         if since(self.called_at, now) >= CALL {
             self.called = 0;
         }
@@ -208,19 +226,41 @@ impl Lobby {
     }
 
     // Sees which connections have bytes, and takes the new ones.
-    fn gather<R: rt::Clock + Eprint>(&mut self, rt: &R, patience: Millis) -> io::Result<()> {
+    fn gather<R: rt::Clock + Eprint + Input>(
+        &mut self,
+        rt: &R,
+        patience: Millis,
+    ) -> io::Result<()> {
         self.poll
             .poll(&mut self.events, Some(Duration::from_millis(patience)))?;
         let now = moment(rt);
+        let mut has_input = false;
         for event in &self.events {
             match event.token() {
                 Token(LISTENER) => self.has_more = true,
+                Token(INPUT) => has_input = true,
                 Token(token) => wake(&self.poll, &mut self.silent, &mut self.ready, token, now),
             }
         }
-        self.close_silent(now);
-        self.take_new(rt, now);
+        if has_input {
+            self.look_at_input(rt);
+        }
+        if !self.input.has_ended() {
+            self.close_silent(now);
+            self.take_new(rt, now);
+        }
         Ok(())
+    }
+
+    // Standard input has bytes, or has ended. Then those that wait are closed.
+    fn look_at_input<R: Eprint + Input>(&mut self, rt: &R) {
+        self.input.look(rt, self.poll.registry(), Token(INPUT));
+        if self.input.has_ended() {
+            self.closed = self.closed.saturating_add(self.silent.len() as u64);
+            self.silent.clear();
+            self.ready.clear();
+            let _ = eprintln!(rt; "standard input ended, and no more connections are taken");
+        }
     }
 
     // Takes the connections that wait at the listener, as long as there is room.
@@ -289,7 +329,7 @@ impl Lobby {
             if self.silent.len() + self.ready.len() >= ROOM {
                 self.close_oldest();
             }
-            self.last_token = self.last_token.wrapping_add(1).max(LISTENER + 1);
+            self.last_token = self.last_token.wrapping_add(1).max(INPUT + 1);
         }
         let token = self.last_token;
         if !is_silent {

@@ -2,11 +2,9 @@
 ghost use Rattle.std.specs.Prelude.{◌≡◌, ◌++◌, ◌∷◌, [], map, string_bytes, option_map, OnOk, OnErr};
 ghost use Rattle.kms_io.specs.FileList.{content_among};
 
+use crate::files::{LONG_LIMIT, WHOLE_LIMIT};
 use crate::{FileAnswer, Files};
 use std::alloc::{AllocError, Global};
-
-// The most bytes that a file read whole has.
-const LONGEST: usize = 4_194_304;
 
 /// Files in memory. A read fails at a name that isn't there, and where the number of the call,
 /// counted from 0, stands in a list. It keeps the names asked for, but at `NoMemory`.
@@ -48,13 +46,13 @@ impl MemoryFiles {
 
 impl MemoryFiles {
     ghost use Rattle.std.specs.Prelude.{List, ℕ, ◌⊎◌, true};
-    ghost use Rattle.kms_io.specs.Calls.{Calls, is_failing};
+    ghost use Rattle.kms_io.specs.Calls.{Calls, is_failing, one_more};
     ghost use Rattle.kms_io.specs.Files.{ReadsFile};
     ghost use Rattle.kms_io.specs.MemoryFiles.{shelf_of, calls_of, FailsAsTold};
 
     // A call for the name that fails.
     fn fail(&mut self, name: &str) -> FileAnswer
-        ensures reads { (room : List ℕ) → ReadsFile (shelf_of self.old) name.now room result (shelf_of self.new) room }
+        ensures reads { (most : ℕ) (room : List ℕ) → ReadsFile most (shelf_of self.old) name.now room result (shelf_of self.new) room }
         ensures fails { (calls : Calls) → (is_failing calls ≡ true) ⊎ ((shelf_of self.old).content name.now ≡ None) → FailsAsTold calls (shelf_of self.old) name.now result (shelf_of self.new) }
         ensures calls { calls_of self.new ≡ calls_of self.old }
     {
@@ -64,17 +62,10 @@ impl MemoryFiles {
         self.faults = self.faults.saturating_add(1);
         FileAnswer::Failed
     }
-}
 
-impl Files for MemoryFiles {
-    ghost use Rattle.kms_io.specs.Calls.{one_more};
-    ghost use Rattle.kms_io.specs.Files.{ReadsFile};
-    ghost use Rattle.kms_io.specs.MemoryFiles.{shelf_of, calls_of, FailsAsTold};
-
-    ghost shows = { shelf_of };
-
-    fn read_whole(&mut self, name: &str, room: &mut Vec<u8>) -> FileAnswer
-        ensures reads { ReadsFile (shelf_of self.old) name.now room.old.items result (shelf_of self.new) room.new.items }
+    // Reads a file of at most so many bytes.
+    fn read(&mut self, most: usize, name: &str, room: &mut Vec<u8>) -> FileAnswer
+        ensures reads { ReadsFile most (shelf_of self.old) name.now room.old.items result (shelf_of self.new) room.new.items }
         ensures fails { FailsAsTold (calls_of self.old) (shelf_of self.old) name.now result (shelf_of self.new) }
         ensures calls { calls_of self.new ≡ one_more (calls_of self.old) }
     {
@@ -86,7 +77,7 @@ impl Files for MemoryFiles {
         let Some(content) = content_of(&self.files, name) else {
             return self.fail(name);
         };
-        if content.len() > LONGEST {
+        if content.len() > most {
             return match note(self.alloc, &mut self.asked, name) {
                 Ok(()) => FileAnswer::TooLong,
                 Err(_) => FileAnswer::NoMemory,
@@ -102,6 +93,30 @@ impl Files for MemoryFiles {
             }
             Err(_) => FileAnswer::NoMemory,
         }
+    }
+}
+
+impl Files for MemoryFiles {
+    ghost use Rattle.kms_io.specs.Calls.{one_more};
+    ghost use Rattle.kms_io.specs.Files.{ReadsFile, whole_limit, long_limit};
+    ghost use Rattle.kms_io.specs.MemoryFiles.{shelf_of, calls_of, FailsAsTold};
+
+    ghost shows = { shelf_of };
+
+    fn read_whole(&mut self, name: &str, room: &mut Vec<u8>) -> FileAnswer
+        ensures reads { ReadsFile whole_limit (shelf_of self.old) name.now room.old.items result (shelf_of self.new) room.new.items }
+        ensures fails { FailsAsTold (calls_of self.old) (shelf_of self.old) name.now result (shelf_of self.new) }
+        ensures calls { calls_of self.new ≡ one_more (calls_of self.old) }
+    {
+        self.read(WHOLE_LIMIT, name, room)
+    }
+
+    fn read_long(&mut self, name: &str, room: &mut Vec<u8>) -> FileAnswer
+        ensures reads { ReadsFile long_limit (shelf_of self.old) name.now room.old.items result (shelf_of self.new) room.new.items }
+        ensures fails { FailsAsTold (calls_of self.old) (shelf_of self.old) name.now result (shelf_of self.new) }
+        ensures calls { calls_of self.new ≡ one_more (calls_of self.old) }
+    {
+        self.read(LONG_LIMIT, name, room)
     }
 }
 

@@ -1,11 +1,9 @@
 // The machine's files. They tell nothing of their content.
+use crate::files::{LONG_LIMIT, WHOLE_LIMIT};
 use crate::{FileAnswer, Files};
 use std::alloc::Global;
 use std::io::{ErrorKind, Read};
 use std::{fs, io};
-
-// The most bytes that a file read whole has.
-const LONGEST: usize = 4_194_304;
 
 /// The machine's files, by their paths. It counts the reads that fail, a file that can't be opened
 /// among them, says on standard error why one did, and tells nothing of their content.
@@ -31,14 +29,16 @@ impl<'a, R> RealFiles<'a, R> {
     }
 }
 
-impl<R: fs::Files + Eprint> Files for RealFiles<'_, R> {
+impl<R: fs::Files + Eprint> RealFiles<'_, R> {
+    ghost use Rattle.kms_io.specs.Files.{ReadsFile};
     ghost use Rattle.kms_io.specs.RealFiles.{counts_of};
 
-    ghost shows = { counts_of };
-
-    fn read_whole(&mut self, name: &str, room: &mut Vec<u8>) -> FileAnswer {
-        match read_front(self.rt, *room.allocator(), name) {
-            Ok(all) if all.len() > LONGEST => FileAnswer::TooLong,
+    // Reads a file of at most so many bytes.
+    fn read(&mut self, most: usize, name: &str, room: &mut Vec<u8>) -> FileAnswer
+        ensures { ReadsFile most (counts_of self.old) name.now room.old.items result (counts_of self.new) room.new.items }
+    {
+        match read_front(self.rt, *room.allocator(), most, name) {
+            Ok(all) if all.len() > most => FileAnswer::TooLong,
             Ok(all) => {
                 *room = all;
                 FileAnswer::Read
@@ -53,10 +53,25 @@ impl<R: fs::Files + Eprint> Files for RealFiles<'_, R> {
     }
 }
 
+impl<R: fs::Files + Eprint> Files for RealFiles<'_, R> {
+    ghost use Rattle.kms_io.specs.RealFiles.{counts_of};
+
+    ghost shows = { counts_of };
+
+    fn read_whole(&mut self, name: &str, room: &mut Vec<u8>) -> FileAnswer {
+        self.read(WHOLE_LIMIT, name, room)
+    }
+
+    fn read_long(&mut self, name: &str, room: &mut Vec<u8>) -> FileAnswer {
+        self.read(LONG_LIMIT, name, room)
+    }
+}
+
 // The first bytes of the file: one more than the most, where it has more.
-fn read_front<R: fs::Files>(rt: &R, alloc: Global, name: &str) -> io::Result<Vec<u8>> {
+fn read_front<R: fs::Files>(rt: &R, alloc: Global, most: usize, name: &str) -> io::Result<Vec<u8>> {
     let file = fs::File::open(rt, name)?;
     let mut all = Vec::new(alloc);
-    file.take(LONGEST as u64 + 1).read_to_end(&mut all)?;
+    let front = (most as u64).saturating_add(1);
+    file.take(front).read_to_end(&mut all)?;
     Ok(all)
 }

@@ -8,7 +8,7 @@ use crate::lobby::Lobby;
 use crate::{Door, Opened, TcpEar};
 use mio::net::TcpListener;
 use std::alloc::{AllocError, Global};
-use std::io::ErrorKind;
+use std::io::{ErrorKind, Input};
 use std::net::{Net, ToSocketAddrs};
 use std::sync::{Arc, Wait};
 use std::{io, rt};
@@ -21,6 +21,7 @@ use std::{io, rt};
 #[derive(Drop)]
 pub struct TcpDoor<'a, R> {
     rt: &'a R,
+    ends_with_input: bool,
     faults: u64,
 }
 
@@ -37,11 +38,33 @@ impl<'a, R> TcpDoor<'a, R> {
           given_back = None;
         } }
     {
-        TcpDoor { rt, faults: 0 }
+        TcpDoor {
+            rt,
+            ends_with_input: false,
+            faults: 0,
+        }
+    }
+
+    /// The same, whose ears give no more connections once standard input has ended, and fail. Whatever else comes there
+    /// is thrown away, and nothing else may read it. Where it can't be watched, as a regular file and the null device,
+    /// it is left alone.
+    pub fn until_input_ends(rt: &'a R) -> TcpDoor<'a, R>
+        ensures { counts_of result ≡ record {
+          faults = 0;
+          asked = None;
+          is_open = None;
+          given_back = None;
+        } }
+    {
+        TcpDoor {
+            rt,
+            ends_with_input: true,
+            faults: 0,
+        }
     }
 }
 
-impl<'a, R: Net + Wait + rt::Clock + Eprint + Sync> Door for TcpDoor<'a, R> {
+impl<'a, R: Net + Wait + rt::Clock + Eprint + Input + Sync> Door for TcpDoor<'a, R> {
     ghost use Rattle.std.specs.Prelude.{map};
     ghost use Rattle.kms_io.specs.Door.{Opens, Closes};
     ghost use Rattle.kms_io.specs.TcpDoor.{counts_of};
@@ -53,7 +76,7 @@ impl<'a, R: Net + Wait + rt::Clock + Eprint + Sync> Door for TcpDoor<'a, R> {
     fn open(&mut self, address: &str, n: u16, ears: &mut Vec<TcpEar<'a, R>>) -> Opened
         ensures { Opens ear_counts (counts_of self.old) address.now n ears.old.items result (counts_of self.new) ears.new.items }
     {
-        match new_ears(self.rt, *ears.allocator(), address, n) {
+        match new_ears(self.rt, *ears.allocator(), self.ends_with_input, address, n) {
             Ok(mut fresh) => match ears.append(&mut fresh) {
                 Ok(()) => Opened::Open,
                 Err(_) => Opened::NoMemory,
@@ -115,6 +138,7 @@ fn ears_of<'a, R>(
 fn new_ears<'a, R: Net + rt::Clock + Eprint>(
     rt: &'a R,
     alloc: Global,
+    ends_with_input: bool,
     address: &str,
     n: u16,
 ) -> io::Result<Vec<TcpEar<'a, R>>>
@@ -123,7 +147,10 @@ fn new_ears<'a, R: Net + rt::Clock + Eprint>(
 {
     let listener = listener_at(rt, address)?;
     let at = listener.local_addr()?;
-    let lobby = Lobby::new(rt, alloc, listener)?;
+    let mut lobby = Lobby::new(rt, alloc, listener)?;
+    if ends_with_input {
+        lobby.watch_input();
+    }
     let hall = Arc::new(alloc, Hall::new(rt, alloc, lobby, n))?;
     let ears = ears_of(rt, alloc, &hall, n)?;
     let _ = eprintln!(rt; "listening on {at}");

@@ -6,11 +6,13 @@ use crate::lobby::Heard;
 use crate::timed::TimedStream;
 use crate::{Ear, Next, TcpLink};
 use std::alloc::{AllocError, Global};
+use std::io::Input;
 use std::rt;
 use std::sync::{Arc, Wait};
 
 /// An ear at a TCP address. It gives a connection once that has bytes or is at its end. It counts a failure where it
-/// couldn't take one for a minute, and tells nothing of those given back, which it ends.
+/// couldn't take one for a minute, and at each call once standard input has ended, where its door watches that. It tells
+/// nothing of those given back, which it ends.
 #[derive(Drop)]
 pub struct TcpEar<'a, R> {
     rt: &'a R,
@@ -59,7 +61,7 @@ impl<'a, R> TcpEar<'a, R> {
 }
 
 // The next connection of a hall, or none where none could be taken for a minute.
-fn next_stream<'a, R: Wait + rt::Clock + Eprint>(
+fn next_stream<'a, R: Wait + rt::Clock + Eprint + Input>(
     rt: &'a R,
     hall: &Arc<Hall, Global>,
 ) -> Option<TimedStream<'a, R>> {
@@ -76,7 +78,7 @@ fn next_stream<'a, R: Wait + rt::Clock + Eprint>(
     unreachable!()
 }
 
-impl<'a, R: Wait + rt::Clock + Eprint> Ear for TcpEar<'a, R> {
+impl<'a, R: Wait + rt::Clock + Eprint + Input> Ear for TcpEar<'a, R> {
     ghost use Rattle.kms_io.specs.TcpEar.{counts_of};
 
     type Conn = TcpLink<'a, R>;

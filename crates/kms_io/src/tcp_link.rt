@@ -1,6 +1,7 @@
 // A connection over TCP. It tells nothing of its bytes.
 use crate::timed::TimedStream;
 use crate::{Link, Put, Took};
+use std::io::Input;
 use std::rt;
 
 /// A connection over TCP. It counts as ended where it is idle for 75 seconds, or for 50 milliseconds where another
@@ -43,7 +44,7 @@ impl<'a, R> TcpLink<'a, R> {
     }
 }
 
-impl<R: rt::Clock + Eprint> Link for TcpLink<'_, R> {
+impl<R: rt::Clock + Eprint + Input> Link for TcpLink<'_, R> {
     ghost use Rattle.kms_io.specs.TcpLink.{counts_of};
 
     ghost shows = { counts_of };

@@ -7,7 +7,7 @@ use crate::lobby::Guest;
 use crate::moment::{Millis, moment};
 use crate::pace::{Cause, LOOKS, Pace, STILL};
 use std::alloc::Global;
-use std::io::ErrorKind;
+use std::io::{ErrorKind, Input};
 use std::net::{Shutdown, TcpStream};
 use std::sync::Arc;
 use std::time::Duration;
@@ -64,7 +64,7 @@ impl<'a, R: rt::Clock> TimedStream<'a, R> {
     }
 }
 
-impl<R: rt::Clock + Eprint> TimedStream<'_, R> {
+impl<R: rt::Clock + Eprint + Input> TimedStream<'_, R> {
     /// Reads some bytes. It answers 0 at the end, and where the connection has lasted too long.
     pub fn read(&mut self, room: &mut [u8]) -> io::Result<usize>
         ensures { IfOk result (λ n. n ≤ length room.new) }

@@ -3,3 +3,5 @@ mod Configured
 mod Programs
 mod Clocks
 mod Completing
+mod Keeping
+mod Sending

@@ -1,5 +1,6 @@
 -- What commands with a file do.
-use Rattle.std.proofs.Common.{inl, inr, ℕ, List}
+use Rattle.std.proofs.Common.{inl, inr, ℕ, List, Result, Ok, Err}
+use Rattle.std.specs.Prelude.{IfErr}
 use Rattle.kms_io.specs.Shelf.{Shelf}
 use Rattle.kms_io.specs.Files.{Asks, MayAsk}
 use Rattle.kms_config.specs.declared.config.Config.{Config}
@@ -20,3 +21,8 @@ pub widened : (file : List ℕ) (status : ℕ) (old new : Around) (Does : Config
 widened file status old new Does (configured config is policies asks none) = absurd none
 widened file status old new Does (not_configured none asks) = not_configured none asks
 widened file status old new Does (lacks rests asks) = lacks rests asks
+
+-- a status by another
+pub on_status : {A : Type 0} {P Q : ℕ → Type 0} (r : Result A ℕ) → ((status : ℕ) → P status → Q status) → IfErr r P → IfErr r Q
+on_status (Ok value) so is = tt
+on_status (Err status) so is = so status is

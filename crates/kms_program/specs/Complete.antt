@@ -8,15 +8,18 @@ use Rattle.session_front.specs.Session.{outside}
 use Rattle.session_front.specs.Complete.{IsAsked}
 use Rattle.session_front.specs.Complete.{AnswersEach}
 use Rattle.kms_session.specs.Run.{turns}
-use Rattle.kms_words.specs.Words.{Command, Source, of_values, of_file, run, explain, check, serve, load}
+use Rattle.kms_words.specs.Words.{Command, Source, run, explain, export, check, serve, load}
 use Rattle.explain_session.specs.Explaining.{Explainer, fresh, tells}
 use Rattle.publish_pass.specs.Pass.{Pass, fresh_pass}
 use Rattle.kms_workload.specs.Summary.{Summarizes}
 use Rattle.kms_program.specs.declared.settings.Settings.{Settings}
-use Rattle.kms_program.specs.Settings.{IsSettings, IsConfigured}
+use Rattle.account_core.specs.Account.{Account}
+use Rattle.session_front.specs.declared.trust.Trust.{Trust}
+use Rattle.kms_io.specs.Shelf.{Shelf}
+use Rattle.kms_program.specs.Journals.{IsBegun}
 use Rattle.kms_program.specs.Files.{IsFileOf}
 use Rattle.kms_program.specs.Statuses.{well, refused, no_memory}
-use Rattle.kms_program.specs.Program.{Around, checked_line}
+use Rattle.kms_program.specs.Program.{Around, IsFrom, checked_line}
 
 -- neither count of the link's faults rises, nor that of the files'
 pub record IsCalm (old new : Around) : Type 0 where
@@ -24,48 +27,42 @@ pub record IsCalm (old new : Around) : Type 0 where
   pub writes : ¬ (RoseBy 1 old.wire.write_faults new.wire.write_faults)
   pub files : ¬ (RoseBy 1 old.shelf.faults new.shelf.faults)
 
--- A session was served with these settings from an empty history, each of these messages was answered, once and in order, and nothing
--- else was written. The status is 0.
-pub record ServesEach (items : List Item) (settings : Settings) (status : ℕ) (old new : Around) : Type 0 where
+-- A session of this account was served, each of these messages was answered, once and in order, and nothing else was written. The status is 0.
+pub record ServesEach (items : List Item) (account : Account) (trust : Trust) (status : ℕ) (old new : Around) : Type 0 where
   pub pass : Pass
-  pub each : AnswersEach (turns settings.trust) items (outside old.wire old.clock (fresh_pass settings.facts 1 1)) (outside new.wire new.clock pass)
+  pub each : AnswersEach (turns trust) items (outside old.wire old.clock (fresh_pass account.facts 1 account.entries 1)) (outside new.wire new.clock pass)
   pub status_is : status ≡ well
 
--- A session was explained with these settings from an empty history, each of these messages had its line, once and in order, and
--- nothing else was written. The status is 0.
-pub record ExplainsEach (items : List Item) (settings : Settings) (status : ℕ) (old new : Around) : Type 0 where
+-- A session of this account was explained, each of these messages had its line, once and in order, and nothing else was written. The status is 0.
+pub record ExplainsEach (items : List Item) (account : Account) (trust : Trust) (status : ℕ) (old new : Around) : Type 0 where
   pub last : Explainer
-  pub each : AnswersEach (tells settings.trust) items (outside old.wire old.clock (fresh settings.facts)) (outside new.wire new.clock last)
+  pub each : AnswersEach (tells trust) items (outside old.wire old.clock (fresh account)) (outside new.wire new.clock last)
   pub status_is : status ≡ well
 
--- so it is with the right settings; or the configuration, or a value, was refused; or memory was wanting, and this holds
-pub data ComesTo (IsRight Each : Settings → Type 0) (Starved : Type 0) (status : ℕ) : Type 0 where
-  comes_to_each : (settings : Settings) → IsRight settings → Each settings → ComesTo IsRight Each Starved status
-  is_refused : status ≡ refused → ComesTo IsRight Each Starved status
-  is_starved : status ≡ no_memory → Starved → ComesTo IsRight Each Starved status
+-- the right settings of a session, and the account that it begins with
+pub record IsRight (shelf : Shelf) (source : Source) (journal : Option (List ℕ)) (settings : Settings) (account : Account) : Type 0 where
+  pub settings_are : IsFrom shelf source settings
+  pub begun : IsBegun shelf journal settings.facts account
+
+-- so it is with the right settings and account; or the configuration, a value, or the journal was refused; or memory was wanting, and this holds
+pub data ComesTo (Right Each : Settings → Account → Type 0) (Starved : Type 0) (status : ℕ) : Type 0 where
+  comes_to_each : (settings : Settings) (account : Account) → Right settings account → Each settings account → ComesTo Right Each Starved status
+  is_refused : status ≡ refused → ComesTo Right Each Starved status
+  is_starved : status ≡ no_memory → Starved → ComesTo Right Each Starved status
 
 -- whatever whole messages the link has to give, or some up to one that closes
 abbrev pub OnMessages : Around → Around → (List Item → Type 0) → Type 0
 OnMessages old new Holds = (input : List ℕ) (closes : Bool) (items : List Item) → IsCalm old new → old.wire.left ≡ Some input → IsAsked input closes items → Holds items
 
 -- each is answered; where memory was wanting nothing was taken from the link or written
-abbrev pub RunCompletes : (Settings → Type 0) → ℕ → Around → Around → Type 0
-RunCompletes IsRight status old new = OnMessages old new (λ items. ComesTo IsRight (λ settings. ServesEach items settings status old new) (new.wire ≡ old.wire) status)
+abbrev pub RunCompletes : (Settings → Account → Type 0) → ℕ → Around → Around → Type 0
+RunCompletes Right status old new =
+    OnMessages old new (λ items. ComesTo Right (λ settings account. ServesEach items account settings.trust status old new) (new.wire ≡ old.wire) status)
 
 -- each has its line, or memory was wanting for one
-abbrev pub ExplainCompletes : (Settings → Type 0) → ℕ → Around → Around → Type 0
-ExplainCompletes IsRight status old new = OnMessages old new (λ items. ComesTo IsRight (λ settings. ExplainsEach items settings status old new) (Unit {0}) status)
-
--- the settings of a file, with the caller who is told
-pub record IsOfFile (old : Around) (file : List ℕ) (caller : Option (List ℕ)) (settings : Settings) : Type 0 where
-  pub config : Config
-  pub is : IsFileOf old.shelf file config
-  pub configured : IsConfigured config caller settings
-
--- the right settings, by where they come from
-abbrev pub IsFrom : Around → Source → Settings → Type 0
-IsFrom old (of_values values) settings = IsSettings values settings
-IsFrom old (of_file file caller) settings = IsOfFile old file caller settings
+abbrev pub ExplainCompletes : (Settings → Account → Type 0) → ℕ → Around → Around → Type 0
+ExplainCompletes Right status old new =
+    OnMessages old new (λ items. ComesTo Right (λ settings account. ExplainsEach items account settings.trust status old new) (Unit {0}) status)
 
 -- `check` writes the line of the file's numbers whole
 pub record TellsNumbers (old : Around) (file : List ℕ) (before after : Wire) : Type 0 where
@@ -83,11 +80,12 @@ pub data LoadComesTo (seed requests status : ℕ) (old new : Wire) : Type 0 wher
   sums_up : (lines : List ℕ) → Summarizes seed requests lines → SendsWhole old new lines → status ≡ well → LoadComesTo seed requests status old new
   lacks_memory : status ≡ no_memory → LoadComesTo seed requests status old new
 
--- what a command comes to; of a server each connection says it
+-- what a command comes to; of a server each connection says it, and of an export the session whose replies it keeps back
 abbrev pub Completes : Option Command → ℕ → Around → Around → Type 0
 Completes None status old new = Unit {0}
-Completes (Some (run source)) status old new = RunCompletes (IsFrom old source) status old new
-Completes (Some (explain source)) status old new = ExplainCompletes (IsFrom old source) status old new
+Completes (Some (run source journal)) status old new = RunCompletes (IsRight old.shelf source journal) status old new
+Completes (Some (explain source journal)) status old new = ExplainCompletes (IsRight old.shelf source journal) status old new
+Completes (Some (export source journal)) status old new = Unit {0}
 Completes (Some (check file)) status old new = IsCalm old new → CheckComesTo file status old new
 Completes (Some (serve values)) status old new = Unit {0}
 Completes (Some (load seed requests)) status old new = IsCalm old new → LoadComesTo seed requests status old.wire new.wire

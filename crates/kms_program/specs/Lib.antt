@@ -1,5 +1,6 @@
 pub mod Settings
 pub mod Files
+pub mod Journals
 pub mod Statuses
 pub mod Program
 pub mod Complete

@@ -1,8 +1,9 @@
 -- What the program does.
-use Rattle.std.specs.Prelude.{◌≡◌, ◌⊎◌, ◌++◌, ◌∷◌, ℕ, List, [], length, decimal, codes, drop, Bool, true, false, Option, None, Some}
+use Rattle.std.specs.Prelude.{◌≡◌, ⊤, ◌⊎◌, ◌++◌, ◌∷◌, ℕ, List, [], length, decimal, codes, drop, Bool, true, false, Option, None, Some}
 use Rattle.kms_io.specs.Wire.{Wire, RoseBy}
 use Rattle.kms_io.specs.Shelf.{Shelf}
 use Rattle.kms_io.specs.Doorway.{Doorway}
+use Rattle.kms_io.specs.QuietLink.{LiesBeneath}
 use Rattle.kms_io.specs.Files.{Asks, MayAsk}
 use Rattle.account_steps.specs.declared.facts.RealmFacts.{RealmFacts}
 use Rattle.kms_config.specs.declared.config.Config.{Config}
@@ -11,20 +12,26 @@ use Rattle.session_front.specs.declared.trust.Trust.TheVariants.{Signed}
 use Rattle.kms_program.specs.Statuses.{well, misused, refused, cut_off, unread, unwritten, no_memory}
 use Rattle.explain_session.specs.Session.{Explained}
 use Rattle.kms_program.specs.declared.sessions.Task.{Task}
-use Rattle.kms_program.specs.declared.sessions.Task.TheVariants.{Serve, Explain}
+use Rattle.kms_program.specs.declared.sessions.Task.TheVariants.{Serve, Explain, Export}
 use Rattle.kms_program.specs.declared.settings.Settings.{Settings}
 use Rattle.kms_program.specs.declared.settings.RunOption.{RunOption}
-use Rattle.kms_program.specs.declared.settings.RunOption.TheVariants.{Account, Region, Root, Boot, As}
+use Rattle.kms_program.specs.declared.settings.RunOption.TheVariants as option
 use Rattle.session_front.specs.declared.ends.SessionEnd.{SessionEnd}
 use Rattle.session_front.specs.declared.ends.SessionEnd.TheVariants.{Ended, Closed, CutOff, ReadFault, WriteFault, NoMemory}
+use Rattle.published_account.specs.Pairs.{entries_of}
 use Rattle.publish_pass.specs.Pass.{Pass, fresh_pass, first_places}
 use Rattle.session_front.specs.Sending.{SendsWhole, SendsShort}
 use Rattle.session_front.specs.Session.{outside}
 use Rattle.kms_session.specs.Session.{EndsBy}
+use Rattle.account_core.specs.Account.{Account}
+use Rattle.journal_file.specs.Journal.{journal_text}
+use Rattle.kms_program.specs.Journals.{IsBegun, AsksJournal, MayAskJournal, IsJournalRefused}
+use Rattle.kms_server.specs.declared.crew.Kept.{Kept}
+use Rattle.kms_server.specs.declared.crew.Kept.TheVariants as kept
 use Rattle.kms_server.specs.declared.server.Served.{Served}
 use Rattle.kms_server.specs.Server.{Wanted, Surroundings, surroundings, ServesDoor, FindsShut, OpensNothing}
 use Rattle.kms_workload.specs.Summary.{Summarizes}
-use Rattle.kms_words.specs.Words.{Command, Source, RunValues, ServeValues, of_values, of_file, run, explain, check, serve, load, command_of}
+use Rattle.kms_words.specs.Words.{Command, Source, RunValues, ServeValues, of_values, of_file, run, explain, export, check, serve, load, command_of}
 use Rattle.kms_program.specs.Settings.{IsSettings, IsRefusedAt, IsConfigured, IsNobody}
 use Rattle.kms_program.specs.Files.{IsFileOf, HasIdentityPolicies, IsFileRefused, IsFileTooLong}
 
@@ -40,14 +47,14 @@ around wire clock shelf = record { wire = wire; clock = clock; shelf = shelf }
 -- ---- lines
 
 abbrev pub usage_line : List ℕ
-usage_line = codes "usage: kms_local run|serve|load|check|explain\n"
+usage_line = codes "usage: kms_local run|serve|load|check|explain|export\n"
 
 abbrev pub path_of : RunOption → List ℕ
-path_of Account = codes "/account"
-path_of Region = codes "/region"
-path_of Root = codes "/root"
-path_of Boot = codes "/boot"
-path_of As = codes "/as"
+path_of option.Account = codes "/account"
+path_of option.Region = codes "/region"
+path_of option.Root = codes "/root"
+path_of option.Boot = codes "/boot"
+path_of option.As = codes "/as"
 
 -- the line of a path at which the configuration is refused
 abbrev pub refused_line : List ℕ → List ℕ
@@ -75,29 +82,37 @@ status_of_end ReadFault = unread
 status_of_end WriteFault = unwritten
 status_of_end NoMemory = no_memory
 
--- One session is served from an empty history by the one pass of a service, and ends so. The history is at last exactly the session's
--- own entries, and each answer stands on a beginning of it.
-pub record Serving (facts : RealmFacts) (trust : Trust) (end : SessionEnd) (old : Wire) (told : Option (List ℕ)) (new : Wire) (later : Option (List ℕ)) : Type 0 where
+-- One session is served by the one pass of a service that begins with the entries of this account, and ends so. The history is at last exactly these, and then
+-- the session's own entries, and each answer stands on a beginning of it.
+pub record Serving (account : Account) (trust : Trust) (end : SessionEnd) (old : Wire) (told : Option (List ℕ)) (new : Wire) (later : Option (List ℕ)) : Type 0 where
   pub pass : Pass
-  pub ends : EndsBy trust end (outside old told (fresh_pass facts 1 1)) (outside new later pass)
-  pub made_all : pass.own ≡ first_places (length pass.history)
+  pub ends : EndsBy trust end (outside old told (fresh_pass account.facts 1 account.entries 1)) (outside new later pass)
+  pub made_all : first_places (length pass.history) ≡ first_places (length account.entries) ++ pass.own
 
--- one session is served with these settings, and the status is that of its end
-pub record Serves (settings : Settings) (status : ℕ) (old new : Around) : Type 0 where
+-- one session of this account is served, and the status is that of its end
+pub record Serves (account : Account) (trust : Trust) (status : ℕ) (old new : Around) : Type 0 where
   pub end : SessionEnd
-  pub serving : Serving settings.facts settings.trust end old.wire old.clock new.wire new.clock
+  pub serving : Serving account trust end old.wire old.clock new.wire new.clock
   pub status_is : status ≡ status_of_end end
+  pub shelf : new.shelf ≡ old.shelf
 
--- one session is explained with these settings, from an empty history, and the status is that of its end
-pub record Explains (settings : Settings) (status : ℕ) (old new : Around) : Type 0 where
+-- the account that a session leaves, where it is kept
+abbrev pub IsKeptOf : Pass → Kept → Type 0
+IsKeptOf s kept.Nothing = ⊤
+IsKeptOf s (kept.Whole account) = (account.facts ≡ s.facts) × (account.entries ≡ entries_of s.history)
+IsKeptOf s kept.NoMemory = ⊤
+
+-- one session is served so, and this is kept of the account that it leaves
+pub record Holding (account : Account) (trust : Trust) (end : SessionEnd) (left : Kept) (old : Wire) (told : Option (List ℕ)) (new : Wire) (later : Option (List ℕ)) : Type 0 where
+  pub serving : Serving account trust end old told new later
+  pub keeps : IsKeptOf serving.pass left
+
+-- one session of this account is explained, and the status is that of its end
+pub record Explains (account : Account) (trust : Trust) (status : ℕ) (old new : Around) : Type 0 where
   pub end : SessionEnd
-  pub explained : Explained settings.facts settings.trust end old.wire old.clock new.wire new.clock
+  pub explained : Explained account trust end old.wire old.clock new.wire new.clock
   pub status_is : status ≡ status_of_end end
-
--- what is done with the settings of a session
-abbrev pub Conducts : Task → Settings → ℕ → Around → Around → Type 0
-Conducts Serve settings status old new = Serves settings status old new
-Conducts Explain settings status old new = Explains settings status old new
+  pub shelf : new.shelf ≡ old.shelf
 
 -- the line is written, as far as it can be, and the status is this one whether it can or not; the clock isn't asked
 pub record Says (line : List ℕ) (owed status : ℕ) (old new : Around) : Type 0 where
@@ -139,7 +154,7 @@ pub data RunsNoFile (file : List ℕ) (status : ℕ) (old new : Around) : Type 0
 -- of a caller who is nobody of the account
 pub data WithConfig (config : Config) (caller : Option (List ℕ)) (status : ℕ) (old new : Around) (Does : Settings → Type 0) : Type 0 where
   right : (settings : Settings) → IsConfigured config caller settings → Does settings → WithConfig config caller status old new Does
-  refuses : IsNobody config caller → Says (refused_line (path_of As)) refused status old new → WithConfig config caller status old new Does
+  refuses : IsNobody config caller → Says (refused_line (path_of option.As)) refused status old new → WithConfig config caller status old new Does
   lacks : Rests no_memory status old new → WithConfig config caller status old new Does
 
 -- what `check` does, once the file is a configuration: the line of its numbers
@@ -157,6 +172,45 @@ pub data WithFile (file : List ℕ) (status : ℕ) (old new : Around) (Does : Co
 abbrev pub FromSource : Source → ℕ → Around → Around → (Settings → Type 0) → Type 0
 FromSource (of_values values) status old new Does = WithValues values status old new Does × (new.shelf ≡ old.shelf)
 FromSource (of_file file caller) status old new Does = WithFile file status old new (λ config. WithConfig config caller status old new Does)
+
+-- ---- where a session begins
+
+-- the file of a session's settings was asked for once, if they come from one
+abbrev pub AsksSource : Source → Shelf → Shelf → Type 0
+AsksSource (of_values values) old new = new ≡ old
+AsksSource (of_file file caller) old new = Asks old file new
+
+-- the settings of a file, with the caller who is told
+pub record IsOfFile (shelf : Shelf) (file : List ℕ) (caller : Option (List ℕ)) (settings : Settings) : Type 0 where
+  pub config : Config
+  pub is : IsFileOf shelf file config
+  pub configured : IsConfigured config caller settings
+
+-- the settings of a session, by where they come from
+abbrev pub IsFrom : Shelf → Source → Settings → Type 0
+IsFrom shelf (of_values values) settings = IsSettings values settings
+IsFrom shelf (of_file file caller) settings = IsOfFile shelf file caller settings
+
+-- there is no account to begin with: the journal's file was asked for, and is refused at a path, or can't be read; or memory was wanting
+pub data NoAccount (facts : RealmFacts) (journal : Option (List ℕ)) (status : ℕ) (old new : Around) : Type 0 where
+  no_journal : (file path : List ℕ) → journal ≡ Some file → IsJournalRefused old.shelf file facts path → Asks old.shelf file new.shelf → Refuses path status old new
+      → NoAccount facts journal status old new
+  unread_journal : (file : List ℕ) → journal ≡ Some file → RoseBy 1 old.shelf.faults new.shelf.faults → Asks old.shelf file new.shelf → Rests unread status old new
+      → NoAccount facts journal status old new
+  no_room : MayAskJournal journal old.shelf new.shelf → Rests no_memory status old new → NoAccount facts journal status old new
+
+-- What a command does with settings: with the account that it begins with it does this, once the journal's file was asked for, if one is named; or there is no
+-- account.
+pub data Begins (facts : RealmFacts) (journal : Option (List ℕ)) (status : ℕ) (old new : Around) (Does : Account → Around → Type 0) : Type 0 where
+  begun : (account : Account) (met : Shelf) → IsBegun old.shelf journal facts account → AsksJournal journal old.shelf met → Does account (around old.wire old.clock met)
+      → Begins facts journal status old new Does
+  not_begun : NoAccount facts journal status old new → Begins facts journal status old new Does
+
+-- what a command about a session does, where this is what it does with its settings and the account that it begins with; or there are no settings
+pub data WithSession (source : Source) (journal : Option (List ℕ)) (status : ℕ) (old new : Around) (Does : Settings → Account → Around → Type 0) : Type 0 where
+  with_settings : (settings : Settings) (met : Shelf) → IsFrom old.shelf source settings → HasIdentityPolicies settings.facts → AsksSource source old.shelf met
+      → Begins settings.facts journal status (around old.wire old.clock met) new (Does settings) → WithSession source journal status old new Does
+  no_settings : FromSource source status old new (λ settings. ⊥) → WithSession source journal status old new Does
 
 -- ---- all that the program uses
 
@@ -198,7 +252,7 @@ pub record AsksNothing (old new : Everything) : Type 0 where
 
 -- what `serve` wants
 abbrev pub wanted_of : ServeValues → Wanted
-wanted_of values = record { address = values.address; workers = values.workers; connections = values.connections }
+wanted_of values = record { address = values.address; workers = values.workers; connections = values.connections; keeps = values.exports }
 
 -- Lines are written. If all is well the status is 0, or 6 where they can't be written whole; else it is 5 whether they can or not.
 abbrev pub Reports : Bool → List ℕ → ℕ → Wire → Wire → Type 0
@@ -208,21 +262,78 @@ Reports false lines status old new = SaysLine lines old new × (status ≡ unrea
 abbrev pub around_door : Everything → Surroundings
 around_door all = surroundings all.door all.clocks
 
--- what `serve` does, once the file is a configuration: its connections are served, and then comes the line of what was served, unless
--- there is no memory for it; or the door can't be opened; or there is no memory to serve
-pub data ServesConfig (config : Config) (values : ServeValues) (status : ℕ) (old new : Everything) : Type 0 where
-  serves : (served : Served) → ServesDoor config.facts (Signed config.credentials) (wanted_of values) served (around_door old) (around_door new)
-      → Reports served.is_whole (served_line served.connections served.front) status old.wire new.wire → ServesConfig config values status old new
-  serves_unsaid : (served : Served) → ServesDoor config.facts (Signed config.credentials) (wanted_of values) served (around_door old) (around_door new)
-      → new.wire ≡ old.wire → status ≡ no_memory → ServesConfig config values status old new
-  finds_shut : FindsShut (wanted_of values) (around_door old) (around_door new) → new.wire ≡ old.wire → status ≡ unread → ServesConfig config values status old new
-  lacks : OpensNothing (wanted_of values) (around_door old) (around_door new) → new.wire ≡ old.wire → status ≡ no_memory → ServesConfig config values status old new
+-- the journal of what is kept of an account; nothing where it isn't kept
+abbrev pub IsJournalKept : Kept → List ℕ → Type 0
+IsJournalKept kept.Nothing journal = journal ≡ []
+IsJournalKept (kept.Whole account) journal = journal ≡ journal_text account.facts account.entries
+IsJournalKept kept.NoMemory journal = ⊥
 
--- what `serve` does: the file was asked for, and then the door
+-- what `serve` does with the account that it begins with: its connections are served, and then comes the line of what was served, and the journal where that is
+-- wanted, unless there is no memory for these; or the door can't be opened; or there is no memory to serve
+pub data ServesAccount (account : Account) (trust : Trust) (values : ServeValues) (status : ℕ) (old new : Everything) : Type 0 where
+  serves : (served : Served) (kept : Kept) (journal : List ℕ) → ServesDoor account trust (wanted_of values) served kept (around_door old) (around_door new) → IsJournalKept kept journal
+      → Reports served.is_whole (served_line served.connections served.front ++ journal) status old.wire new.wire → ServesAccount account trust values status old new
+  serves_unsaid : (served : Served) (kept : Kept) → ServesDoor account trust (wanted_of values) served kept (around_door old) (around_door new)
+      → new.wire ≡ old.wire → status ≡ no_memory → ServesAccount account trust values status old new
+  finds_shut : FindsShut (wanted_of values) (around_door old) (around_door new) → new.wire ≡ old.wire → status ≡ unread → ServesAccount account trust values status old new
+  lacks : OpensNothing (wanted_of values) (around_door old) (around_door new) → new.wire ≡ old.wire → status ≡ no_memory → ServesAccount account trust values status old new
+
+-- what `serve` does, once the file is a configuration: the file of the journal is asked for, if one is named, and then the door; or there is no account
+pub data ServesConfig (config : Config) (values : ServeValues) (status : ℕ) (old new : Everything) : Type 0 where
+  serves_begun : (account : Account) → IsBegun old.shelf values.load config.facts account → AsksJournal values.load old.shelf new.shelf
+      → ServesAccount account (Signed config.credentials) values status old new → ServesConfig config values status old new
+  serves_none : NoAccount config.facts values.load status (one_of old) (one_of new) → AsksNone old new → ServesConfig config values status old new
+
+-- all but the files is as it was, and these are the files
+abbrev pub with_shelf : Everything → Shelf → Everything
+with_shelf all shelf = everything all.wire shelf all.door all.clocks
+
+-- what `serve` does: the file was asked for first
 pub data ServesFile (values : ServeValues) (status : ℕ) (old new : Everything) : Type 0 where
-  configured : (config : Config) → IsFileOf old.shelf values.file config → HasIdentityPolicies config.facts → Asks old.shelf values.file new.shelf → ServesConfig config values status old new
-      → ServesFile values status old new
+  configured : (config : Config) (met : Shelf) → IsFileOf old.shelf values.file config → HasIdentityPolicies config.facts → Asks old.shelf values.file met
+      → ServesConfig config values status (with_shelf old met) new → ServesFile values status old new
   otherwise : WithFile values.file status (one_of old) (one_of new) (λ config. ⊥) → AsksNone old new → ServesFile values status old new
+
+-- ---- an export
+
+-- what a connection that keeps what is written to it shows at first, over one that shows this
+abbrev pub quiet_over : Wire → Wire
+quiet_over wire = record wire { write_faults = 0 }
+
+-- the journal of the account that was kept is written, or memory was wanting for it
+pub data WritesKept (left : Kept) (status : ℕ) (old new : Wire) : Type 0 where
+  keeps_journal : (account : Account) → left ≡ kept.Whole account → Reports true (journal_text account.facts account.entries) status old new → WritesKept left status old new
+  lacks_journal : new ≡ old → status ≡ no_memory → WritesKept left status old new
+
+-- what comes of each end of the session: the journal, or nothing. A write that fails there is want of memory
+abbrev pub EndsExport : SessionEnd → Kept → ℕ → Wire → Wire → Type 0
+EndsExport Ended left status old new = WritesKept left status old new
+EndsExport Closed left status old new = WritesKept left status old new
+EndsExport CutOff left status old new = (new ≡ old) × (status ≡ cut_off)
+EndsExport ReadFault left status old new = (new ≡ old) × (status ≡ unread)
+EndsExport WriteFault left status old new = (new ≡ old) × (status ≡ no_memory)
+EndsExport NoMemory left status old new = (new ≡ old) × (status ≡ no_memory)
+
+-- One session of this account is served over a connection that reads from the link and keeps what is written to it; nothing of that comes to the link. Then comes
+-- what its end asks for.
+pub record ExportsOver (account : Account) (trust : Trust) (status : ℕ) (old : Wire) (told : Option (List ℕ)) (new : Wire) (later : Option (List ℕ)) : Type 0 where
+  pub end : SessionEnd
+  pub left : Kept
+  pub quiet : Wire
+  pub beneath : Wire
+  pub held : Holding account trust end left (quiet_over old) told quiet later
+  pub lies : LiesBeneath old quiet beneath
+  pub ends : EndsExport end left status beneath new
+
+-- and no file is asked for
+abbrev pub Exports : Account → Trust → ℕ → Around → Around → Type 0
+Exports account trust status old new = ExportsOver account trust status old.wire old.clock new.wire new.clock × (new.shelf ≡ old.shelf)
+
+-- what is done with a session
+abbrev pub Conducts : Task → Account → Trust → ℕ → Around → Around → Type 0
+Conducts Serve account trust status old new = Serves account trust status old new
+Conducts Explain account trust status old new = Explains account trust status old new
+Conducts Export account trust status old new = Exports account trust status old new
 
 -- ---- a workload
 
@@ -236,8 +347,12 @@ pub data Sums (seed requests status : ℕ) (old new : Wire) : Type 0 where
 -- what it does for a command, or for words that are none
 abbrev pub Does : Option Command → ℕ → Everything → Everything → Type 0
 Does None status old new = Says usage_line misused status (one_of old) (one_of new) × AsksNothing old new
-Does (Some (run source)) status old new = FromSource source status (one_of old) (one_of new) (λ settings. Serves settings status (one_of old) (one_of new)) × LeavesOthers old new
-Does (Some (explain source)) status old new = FromSource source status (one_of old) (one_of new) (λ settings. Explains settings status (one_of old) (one_of new)) × LeavesOthers old new
+Does (Some (run source journal)) status old new =
+    WithSession source journal status (one_of old) (one_of new) (λ settings account met. Serves account settings.trust status met (one_of new)) × LeavesOthers old new
+Does (Some (explain source journal)) status old new =
+    WithSession source journal status (one_of old) (one_of new) (λ settings account met. Explains account settings.trust status met (one_of new)) × LeavesOthers old new
+Does (Some (export source journal)) status old new =
+    WithSession source journal status (one_of old) (one_of new) (λ settings account met. Exports account settings.trust status met (one_of new)) × LeavesOthers old new
 Does (Some (check file)) status old new = WithFile file status (one_of old) (one_of new) (λ config. Checks config status (one_of old) (one_of new)) × AsksNone old new
 Does (Some (serve values)) status old new = ServesFile values status old new
 Does (Some (load seed requests)) status old new = Sums seed requests status old.wire new.wire × AsksNothing old new

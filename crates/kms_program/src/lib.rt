@@ -1,8 +1,11 @@
 //! All that the program `kms_local` does, over traits for its connections, clocks, files and door.
 #![tactic(auto)]
 
+mod accounts;
 mod configs;
+mod exporting;
 mod files;
+mod holding;
 mod lines;
 mod loading;
 mod program;

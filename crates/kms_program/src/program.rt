@@ -69,13 +69,17 @@ where
         (everything (L.shows link.new) (F.shows files.new) (D.shows door.new) (map C.told clocks.new.items)) }
 {
     match asked {
-        Asked::Run(words) => {
+        Asked::Run(session) => {
             let clock = &mut clocks[0];
-            hold_session(rt, alloc, Task::Serve, words, files, clock, link, gate)
+            hold_session(rt, alloc, Task::Serve, session, files, clock, link, gate)
         }
-        Asked::Explain(words) => {
+        Asked::Explain(session) => {
             let clock = &mut clocks[0];
-            hold_session(rt, alloc, Task::Explain, words, files, clock, link, gate)
+            hold_session(rt, alloc, Task::Explain, session, files, clock, link, gate)
+        }
+        Asked::Export(session) => {
+            let clock = &mut clocks[0];
+            hold_session(rt, alloc, Task::Export, session, files, clock, link, gate)
         }
         Asked::Check(file) => check_file(alloc, file, files, link),
         Asked::Serve(words) => serve_file(rt, alloc, &words, files, clocks, link, door, gate),

@@ -1,4 +1,8 @@
 // The statuses with which the program ends.
+ghost use Rattle.std.specs.Prelude.{◌≡◌};
+ghost use Rattle.kms_program.specs.Program.{status_of_end};
+
+use kms_session::SessionEnd;
 
 /// Words that are no command.
 pub const MISUSED: u8 = 2;
@@ -17,3 +21,16 @@ pub const UNWRITTEN: u8 = 6;
 
 /// The status of want of memory.
 pub const NO_MEMORY: u8 = 7;
+
+/// The status of a session's end.
+pub fn status_of(end: SessionEnd) -> u8
+    ensures { result ≡ status_of_end end }
+{
+    match end {
+        SessionEnd::Ended | SessionEnd::Closed => 0,
+        SessionEnd::CutOff => CUT_OFF,
+        SessionEnd::ReadFault => UNREAD,
+        SessionEnd::WriteFault => UNWRITTEN,
+        SessionEnd::NoMemory => NO_MEMORY,
+    }
+}

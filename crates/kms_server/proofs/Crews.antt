@@ -7,11 +7,17 @@ use Rattle.std.specs.Prelude.{All, IsTrue, Result, Ok, Err, OnOk, OnErr}
 use Rattle.std.specs.List.{slice_set}
 use Rattle.std.proofs.lemmas.List.{get_or-set_same, get_or-set_other, get_or_default}
 use Rattle.account_steps.specs.declared.facts.RealmFacts.{RealmFacts}
-use Rattle.publish_pass.specs.Pass.{Pass, fresh_pass, fresh_passes, KeepsHouse, WantsHouse}
+use mathlib.Core.List.{IsPrefix}
+use Rattle.account_steps.specs.History.{Entry}
+use Rattle.published_account.specs.Growing.{Pairs}
+use Rattle.published_account.specs.Pairs.{entries_of, LeadsTo}
+use Rattle.published_account.proofs.Lists.{prefix_self}
+use Rattle.publish_pass.specs.Pass.{Pass, Learns, Meets, fresh_pass, fresh_passes, KeepsHouse, WantsHouse}
 use Rattle.publish_pass.proofs.Meeting.{learns_self, learns_trans}
 use Rattle.session_front.specs.declared.trust.Trust.{Trust}
 use Rattle.kms_server.specs.Work.{WorkerState, Works, takes_all, gives_up}
-use Rattle.kms_server.specs.Crew.{Pairwise, none, both, Settles, taken_by}
+use Rattle.kms_server.specs.declared.crew.Kept.{Kept}
+use Rattle.kms_server.specs.Crew.{Pairwise, none, both, Settles, KeepsOf, keeps_nothing, keeps_whole, lacks_memory, Keeps, taken_by}
 
 -- what is so place by place is so in order
 pub pairwise_each : {A X : Type 0} (P : X → X → Type 0) (f : A → X) (xs ys : List A) → length ys ≡ length xs
@@ -72,11 +78,12 @@ taken_few n (s ∷ ss) (t ∷ ts) few (both p h) =
     let all : taken_by (t ∷ ts) ≡ t.taken + taken_by ts = taken_cons t ts in
     omega arith
 
-pub length_fresh : (facts : RealmFacts) (passes n : ℕ) → length (fresh_passes facts passes n) ≡ n
-length_fresh facts passes zero = refl
-length_fresh facts passes (suc n) =
-    let size : length (fresh_passes facts passes n ++ fresh_pass facts passes (suc n) ∷ []) ≡ length (fresh_passes facts passes n) + 1 = length-append (fresh_passes facts passes n) (fresh_pass facts passes (suc n) ∷ []) in
-    let before : length (fresh_passes facts passes n) ≡ n = length_fresh facts passes n in
+pub length_fresh : (facts : RealmFacts) (passes : ℕ) (loaded : List Entry) (n : ℕ) → length (fresh_passes facts passes loaded n) ≡ n
+length_fresh facts passes loaded zero = refl
+length_fresh facts passes loaded (suc n) =
+    let size : length (fresh_passes facts passes loaded n ++ fresh_pass facts passes loaded (suc n) ∷ []) ≡ length (fresh_passes facts passes loaded n) + 1 =
+    length-append (fresh_passes facts passes loaded n) (fresh_pass facts passes loaded (suc n) ∷ []) in
+    let before : length (fresh_passes facts passes loaded n) ≡ n = length_fresh facts passes loaded n in
     omega arith
 
 -- one more place is related, and those below it stay so
@@ -98,6 +105,35 @@ kept_more xs ys i y above k d le = let apart : k ≢ i = omega arith in get_or-s
 pub house_left : {A E : Type 0} (r : Result A E) (s t : Pass) (moment : ℕ) → OnOk r (KeepsHouse s moment t) → OnErr r (WantsHouse s moment t) → WantsHouse s moment t
 house_left (Ok done) s t moment kept wants = record { met = kept.met; seen = kept.seen; left = inr kept.kept; knew = kept.knew; made_all = kept.made_all }
 house_left (Err lacks) s t moment kept wants = wants
+
+-- a pass that missed the published account, and then learnt more of the history
+pub meets_after : (s l t : Pass) → l ≡ (let p : Pass = record s { missed = l.missed } in p) → s.missed ≤ l.missed → Learns l t → Meets s t
+meets_after s l t same missed learns =
+    let often : t.missed ≡ l.missed = ap (λ (p : Pass). p.missed) learns.others in
+    record {
+      history = subst (λ (h : Pairs). IsPrefix h t.history) (ap (λ (p : Pass). p.history) same) learns.history;
+      others = learns.others ∙ ap (λ (p : Pass). let q : Pass = record p { history = t.history } in q) same
+          ∙ ap (λ (n : ℕ). let q : Pass = record s { history = t.history; missed = n } in q) (sym often);
+      missed = omega (arith, missed, often);
+      leads = subst (λ (p : Pass). LeadsTo p.facts (entries_of p.history) (entries_of t.history)) same learns.leads;
+    }
+
+-- what a pass held begins what it holds once the account is kept
+pub kept_on : (facts : RealmFacts) (wanted : Bool) (account : Kept) (old new : Pass) → KeepsOf facts wanted account old new → IsPrefix old.history new.history
+kept_on facts wanted account old new keeps_nothing = prefix_self old.history
+kept_on facts wanted account old new (keeps_whole kept met of are) = met.history
+kept_on facts wanted account old new (lacks_memory met) = met.history
+
+-- what each took stays once the account is kept
+pub taken_kept : (facts : RealmFacts) (wanted : Bool) (account : Kept) (settled last : List WorkerState) → Keeps facts wanted account settled last → taken_by last ≡ taken_by settled
+taken_kept facts wanted account [] last keeps = absurd keeps
+taken_kept facts wanted account (s ∷ ss) [] keeps = absurd keeps
+taken_kept facts wanted account (s ∷ ss) (t ∷ ts) keeps =
+    let here : t.taken ≡ s.taken = ap (λ (w : WorkerState). w.taken) keeps.1 in
+    let rest : taken_by ts ≡ taken_by ss = ap taken_by keeps.2 in
+    let all : taken_by (t ∷ ts) ≡ t.taken + taken_by ts = taken_cons t ts in
+    let before : taken_by (s ∷ ss) ≡ s.taken + taken_by ss = taken_cons s ss in
+    omega arith
 
 -- the first of a list, and what is left of it
 pub first_and_rest : {A : Type 0} (xs rest : List A) (x : A) → 0 < length xs → x ≡ get_or xs 0 x → rest ≡ take 0 xs ++ drop (0 + 1) xs → x ∷ rest ≡ xs

@@ -1,12 +1,13 @@
 -- What a server does.
-use Rattle.std.specs.Prelude.{◌≡◌, ◌⊎◌, ℕ, List, ◌++◌, take, drop, Option}
+use Rattle.std.specs.Prelude.{◌≡◌, ◌⊎◌, ℕ, List, ◌++◌, length, take, drop, Bool, Option}
 use Rattle.kms_io.specs.Wire.{RoseBy}
 use Rattle.kms_io.specs.Listening.{Listening}
 use Rattle.kms_io.specs.Doorway.{Doorway}
 use Rattle.kms_io.specs.Door.{OpensFor, AsksFor, MayAskFor, Closes}
-use Rattle.account_steps.specs.declared.facts.RealmFacts.{RealmFacts}
+use Rattle.account_core.specs.Account.{Account}
 use Rattle.publish_pass.specs.Pass.{fresh_passes}
 use Rattle.session_front.specs.declared.trust.Trust.{Trust}
+use Rattle.kms_server.specs.declared.crew.Kept.{Kept}
 use Rattle.kms_server.specs.declared.server.Order.{Order}
 use Rattle.kms_server.specs.declared.server.Outcome.{Outcome}
 use Rattle.kms_server.specs.declared.server.Outcome.TheVariants as outcome
@@ -14,14 +15,15 @@ use Rattle.kms_server.specs.declared.server.Served.{Served}
 use Rattle.kms_server.specs.Work.{WorkerState, Works}
 use Rattle.kms_server.specs.Crew.{Pairwise, IsCrew, Finishes}
 
--- the address of a door, how many workers there are, and how many connections each takes
+-- the address of a door, how many workers there are, how many connections each takes, and whether the account is kept
 pub record Wanted : Type 0 where
   pub address : List ℕ
   pub workers : ℕ
   pub connections : ℕ
+  pub keeps : Bool
 
 abbrev pub wanted_by : Order → Wanted
-wanted_by order = record { address = order.address.now; workers = order.workers; connections = order.connections }
+wanted_by order = record { address = order.address.now; workers = order.workers; connections = order.connections; keeps = order.keeps }
 
 -- what a door shows, and what the clocks tell, in order
 pub record Surroundings : Type 0 where
@@ -31,18 +33,18 @@ pub record Surroundings : Type 0 where
 abbrev pub surroundings : Doorway → List (Option (List ℕ)) → Surroundings
 surroundings door clocks = record { door = door; clocks = clocks }
 
--- The door was opened once, and each worker took its connections with a pass of one service, which had no entries at first, and with
--- a clock of its own. In the end the ears went back to the door and the clocks to their places.
-pub record ServesDoor (facts : RealmFacts) (trust : Trust) (wanted : Wanted) (served : Served) (old new : Surroundings) : Type 0 where
+-- The door was opened once, and each worker took its connections with a pass of one service, which began with the entries of this account, and with a clock of its
+-- own. In the end the ears went back to the door and the clocks to their places.
+pub record ServesDoor (first : Account) (trust : Trust) (wanted : Wanted) (served : Served) (account : Kept) (old new : Surroundings) : Type 0 where
   pub opened : Doorway
   pub asked : OpensFor old.door wanted.address wanted.workers opened
   pub crew : List WorkerState
-  pub is_crew : IsCrew (fresh_passes facts wanted.workers wanted.workers) (take wanted.workers old.clocks) crew
+  pub is_crew : IsCrew (fresh_passes first.facts wanted.workers first.entries wanted.workers) (take wanted.workers old.clocks) crew
   pub ends : List WorkerState
   pub work : Pairwise (Works trust wanted.connections) crew ends
   pub ears : List Listening
   pub told : List (Option (List ℕ))
-  pub finishes : Finishes facts wanted.workers wanted.connections ends served ears told
+  pub finishes : Finishes first.facts wanted.workers (length first.entries) wanted.connections wanted.keeps ends served account ears told
   pub closed : Closes opened ears new.door
   pub clocks : new.clocks ≡ told ++ drop wanted.workers old.clocks
 
@@ -58,7 +60,7 @@ pub record OpensNothing (wanted : Wanted) (old new : Surroundings) : Type 0 wher
   pub clocks : new.clocks ≡ old.clocks
 
 -- what comes of what is wanted
-abbrev pub Fulfils : RealmFacts → Trust → Wanted → Outcome → Surroundings → Surroundings → Type 0
-Fulfils facts trust wanted (outcome.Served served) old new = ServesDoor facts trust wanted served old new
-Fulfils facts trust wanted outcome.Shut old new = FindsShut wanted old new
-Fulfils facts trust wanted outcome.NoMemory old new = OpensNothing wanted old new
+abbrev pub Fulfils : Account → Trust → Wanted → Outcome → Surroundings → Surroundings → Type 0
+Fulfils first trust wanted (outcome.Served served account) old new = ServesDoor first trust wanted served account old new
+Fulfils first trust wanted outcome.Shut old new = FindsShut wanted old new
+Fulfils first trust wanted outcome.NoMemory old new = OpensNothing wanted old new

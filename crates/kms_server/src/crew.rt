@@ -5,15 +5,27 @@ ghost use Rattle.kms_io.specs.Door.{IsNewEar};
 ghost use Rattle.session_front.specs.Callers.{IsOfAccount};
 ghost use Rattle.kms_server.specs.Work.{Works};
 ghost use Rattle.publish_pass.specs.Pass.{Learns};
-ghost use Rattle.kms_server.specs.Crew.{Pairwise, Settles, FirstIsLongest, taken_by};
+ghost use Rattle.kms_server.specs.Crew.{Pairwise, Settles, HoldsAll, FirstIsLongest, KeepsOf, Keeps, taken_by};
 ghost use Rattle.kms_server.specs.States.{state_of, states_of};
 
 use crate::worker::{Worker, Workshop, work};
+use account_core::Account;
 use kms_io::{Clock, Ear, Gate};
-use publish_pass::{Pass, Realm, Service};
+use publish_pass::{Pass, Realm, Service, Unread};
 use std::sync::Wait;
 use std::thread;
 use std::thread::Threads;
+
+/// What is kept of the account.
+#[derive(Drop)]
+pub enum Kept {
+    /// Nothing, since it isn't wanted.
+    Nothing,
+    /// All of it.
+    Whole(Account),
+    /// Nothing, for want of memory.
+    NoMemory,
+}
 
 /// A worker for each pass, with the ears and the first clocks in order.
 pub fn gather<R: Realm, E: Ear, C: Clock + Drop>(
@@ -120,18 +132,53 @@ fn learn_from<R: Realm, E: Ear, C: Clock + Drop>(pass: &mut Pass<R>, crew: &[Wor
     }
 }
 
-/// Lets the first worker's pass learn what each other one tells, and gives how many entries it then holds.
-pub fn learn_all<R: Realm, E: Ear, C: Clock + Drop>(crew: &mut Vec<Worker<R, E, C>>) -> u64
+/// The account of the history that a pass then holds, where it is wanted. It waits until the pass has entered the published account.
+pub fn keep<W: Wait, R: Realm>(rt: &W, pass: &mut Pass<R>, is_wanted: bool) -> Kept
+    ensures { KeepsOf R.facts is_wanted result pass.old pass.new }
+{
+    if !is_wanted {
+        return Kept::Nothing;
+    }
+    let _seen = pass.seen();
+    for _ in rt.forever() {
+        match pass.account() {
+            Ok(account) => return Kept::Whole(account),
+            Err(Unread::NotEntered) => {}
+            Err(Unread::NoMemory) => return Kept::NoMemory,
+        }
+    }
+    unreachable!()
+}
+
+/// Lets the first worker's pass learn what each other one tells.
+pub fn learn_all<R: Realm, E: Ear, C: Clock + Drop>(crew: &mut Vec<Worker<R, E, C>>)
     requires { 0 < vec_len crew.old }
     ensures settles { Pairwise Settles (states_of C.told E.shows crew.old.items) (states_of C.told E.shows crew.new.items) }
-    ensures longest { FirstIsLongest R.facts R.passes result (states_of C.told E.shows crew.new.items) }
+    ensures longest { HoldsAll (states_of C.told E.shows crew.new.items) }
     ensures size { vec_len crew.new ≡ vec_len crew.old }
 {
     let mut first = crew.remove(0);
     learn_from(&mut first.pass, crew);
+    put_first(crew, first);
+}
+
+/// Keeps the account of the first worker's history, where it is wanted, and gives how many entries that history has.
+pub fn keep_first<W: Wait, R: Realm, E: Ear, C: Clock + Drop>(
+    rt: &W,
+    crew: &mut Vec<Worker<R, E, C>>,
+    is_wanted: bool,
+) -> (u64, Kept)
+    requires some { 0 < vec_len crew.old }
+    requires longest { HoldsAll (states_of C.told E.shows crew.old.items) }
+    ensures keeps { Keeps R.facts is_wanted result.1 (states_of C.told E.shows crew.old.items) (states_of C.told E.shows crew.new.items) }
+    ensures longest { FirstIsLongest R.facts R.passes R.loaded result.0 (states_of C.told E.shows crew.new.items) }
+    ensures size { vec_len crew.new ≡ vec_len crew.old }
+{
+    let mut first = crew.remove(0);
+    let kept = keep(rt, &mut first.pass, is_wanted);
     let front = first.pass.seen();
     put_first(crew, first);
-    front
+    (front, kept)
 }
 
 /// How many connections the workers took, of so many that each could take.

@@ -5,4 +5,5 @@ mod crew;
 mod server;
 mod worker;
 
+pub use crew::{Kept, keep};
 pub use server::{Order, Outcome, Served, serve};

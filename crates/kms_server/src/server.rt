@@ -1,5 +1,7 @@
 // A server, from the opening of its door to its closing.
-ghost use Rattle.std.specs.Prelude.{◌≡◌, ◌≤◌, ◌<◌, ◌+◌, ◌++◌, ◌^◌, ℕ, List, [], Option, map, vec_len, vec_capacity};
+ghost use Rattle.std.specs.Prelude.{◌≡◌, ◌≤◌, ◌<◌, ◌+◌, ◌++◌, ◌^◌, ℕ, List, [], Option, length, map, vec_len, vec_capacity};
+ghost use Rattle.account_steps.specs.History.{Entry};
+ghost use Rattle.published_account.specs.Pairs.{account_in};
 ghost use Rattle.published_account.specs.Rules.{Names};
 ghost use Rattle.publish_pass.specs.Pass.{fresh_passes};
 ghost use Rattle.session_front.specs.Callers.{IsOfAccount};
@@ -7,12 +9,14 @@ ghost use Rattle.kms_server.specs.Crew.{Finishes, taken_by};
 ghost use Rattle.kms_server.specs.States.{states_of};
 ghost use Rattle.kms_server.specs.Server.{wanted_by, surroundings, Fulfils};
 
-use crate::crew::{disband, gather, learn_all, settle_all, taken_by, took_all, work_all};
+use crate::crew::{
+    Kept, disband, gather, keep_first, learn_all, settle_all, taken_by, took_all, work_all,
+};
 use crate::worker::{Worker, Workshop};
-use account_steps::RealmFacts;
+use account_core::Account;
 use kms_io::{Clock, Door, Ear, Gate, Opened};
 use kms_session::Trust;
-use publish_pass::{Opening, Pass, Realm, Service, open_service};
+use publish_pass::{Opening, Pass, Realm, Service, open_loaded, open_service};
 use std::alloc::Global;
 use std::marker::Brand;
 use std::sync::Wait;
@@ -27,6 +31,8 @@ pub struct Order<'a> {
     pub workers: u16,
     /// How many connections each worker takes, from 1 to 1,000,000,000.
     pub connections: u64,
+    /// Whether the account is kept at the end.
+    pub keeps: bool,
 }
 
 /// What was served.
@@ -41,42 +47,43 @@ pub struct Served {
 }
 
 /// What came of an order.
-#[derive(Clone, Copy)]
+#[derive(Drop)]
 pub enum Outcome {
-    /// The workers worked, and the ears are back at the door.
-    Served(Served),
+    /// The workers worked, and the ears are back at the door. The account is that of the longest history.
+    Served(Served, Kept),
     /// The door couldn't be opened.
     Shut,
     /// A growth of memory was refused before anybody worked.
     NoMemory,
 }
 
-// Ends the work of a crew: its passes learn what the desk holds, the first what the others hold, and its ears and clocks are put before those that
-// there are.
+// Ends the work of a crew: its passes learn what the desk holds, the first what the others hold; the account is kept where that is wanted; and its
+// ears and clocks are put before those that there are.
 fn finish<W: Wait, R: Realm, E: Ear, C: Clock + Drop>(
     rt: &W,
     service: &Service<R>,
-    connections: u64,
+    order: &Order<'_>,
     mut crew: Vec<Worker<R, E, C>>,
     ears: &mut Vec<E>,
     clocks: &mut Vec<C>,
-) -> Served
+) -> (Served, Kept)
     requires some { 0 < vec_len crew }
     requires few { taken_by (states_of C.told E.shows crew.items) < 2 ^ 64 }
     requires nobody { ears.old.items ≡ [] }
     requires ears { vec_len crew ≤ vec_capacity ears.old }
     requires clocks { vec_len clocks.old + vec_len crew ≤ vec_capacity clocks.old }
-    ensures { (told : List (Option (List ℕ))) × (map C.told clocks.new.items ≡ told ++ map C.told clocks.old.items) × Finishes R.facts R.passes connections (states_of C.told E.shows crew.items) result (map E.shows ears.new.items) told }
+    ensures { (told : List (Option (List ℕ))) × (map C.told clocks.new.items ≡ told ++ map C.told clocks.old.items) × Finishes R.facts R.passes R.loaded order.now.connections order.now.keeps (states_of C.told E.shows crew.items) result.0 result.1 (map E.shows ears.new.items) told }
 {
     settle_all(rt, service, crew.as_mut_slice());
-    let front = learn_all(&mut crew);
+    learn_all(&mut crew);
+    let (front, kept) = keep_first(rt, &mut crew, order.keeps);
     let served = Served {
         connections: taken_by(&crew),
         front,
-        is_whole: took_all(&crew, connections),
+        is_whole: took_all(&crew, order.connections),
     };
     disband(crew, ears, clocks);
-    served
+    (served, kept)
 }
 
 // Serves at a door with the passes of a service.
@@ -95,12 +102,13 @@ fn serve_with<
 ) -> Outcome
 where
     <D::Listener as Ear>::Conn: Send,
-    requires passes { passes.items ≡ fresh_passes R.facts R.passes R.passes }
+    requires passes { vec_len passes ≡ R.passes }
     requires trust { IsOfAccount R.facts.account host.now.trust.now }
     requires workers { (R.passes ≡ order.now.workers) × (0 < order.now.workers) × (order.now.workers ≤ 64) }
     requires connections { (host.now.connections ≡ order.now.connections) × (order.now.connections ≤ 1000000000) }
     requires clocks { vec_len clocks.old ≡ 64 }
-    ensures { Fulfils R.facts host.now.trust.now (wanted_by order.now) result (surroundings (D.shows door.old) (map C.told clocks.old.items)) (surroundings (D.shows door.new) (map C.told clocks.new.items)) }
+    ensures { (entries : List Entry) → passes.items ≡ fresh_passes R.facts R.passes entries R.passes → length entries ≡ R.loaded
+        → Fulfils (record { facts = R.facts; entries = entries }) host.now.trust.now (wanted_by order.now) result (surroundings (D.shows door.old) (map C.told clocks.old.items)) (surroundings (D.shows door.new) (map C.told clocks.new.items)) }
 {
     let Ok(mut crew) = Vec::with_capacity(host.alloc, passes.len()) else {
         return Outcome::NoMemory;
@@ -113,16 +121,9 @@ where
     }
     gather(passes, &mut ears, clocks, &mut crew);
     work_all(host, crew.as_mut_slice());
-    let served = finish(
-        host.rt,
-        host.service,
-        order.connections,
-        crew,
-        &mut ears,
-        clocks,
-    );
+    let (served, kept) = finish(host.rt, host.service, order, crew, &mut ears, clocks);
     door.close(ears);
-    Outcome::Served(served)
+    Outcome::Served(served, kept)
 }
 
 // Opens the service and serves.
@@ -145,12 +146,12 @@ fn serve_realm<
 where
     <D::Listener as Ear>::Conn: Send,
     requires ledger { (opening.name ≡ R.name) × (opening.parts ≡ R.parts) }
-    requires names { Names R.book R.facts R.passes opening.shown }
+    requires names { Names R.book R.facts R.passes R.loaded opening.shown }
     requires workers { (opening.shown.whole.passes ≡ order.now.workers) × (0 < order.now.workers) × (order.now.workers ≤ 64) }
     requires connections { order.now.connections ≤ 1000000000 }
     requires trust { IsOfAccount opening.shown.whole.facts.account trust.now }
     requires clocks { vec_len clocks.old ≡ 64 }
-    ensures { Fulfils opening.shown.whole.facts trust.now (wanted_by order.now) result (surroundings (D.shows door.old) (map C.told clocks.old.items)) (surroundings (D.shows door.new) (map C.told clocks.new.items)) }
+    ensures { Fulfils (account_in opening.shown.whole) trust.now (wanted_by order.now) result (surroundings (D.shows door.old) (map C.told clocks.old.items)) (surroundings (D.shows door.new) (map C.told clocks.new.items)) }
 {
     let Ok((service, passes)) = open_service::<W, R>(rt, alloc, opening) else {
         return Outcome::NoMemory;
@@ -168,18 +169,18 @@ where
     outcome
 }
 
-/// Serves an account that has no entries yet, at a door. Each worker has a pass of one service, an ear of the
+/// Serves an account at a door; what it has as entries was loaded. Each worker has a pass of one service, an ear of the
 /// door and one of the clocks, and takes its connections one after another, each in a thread of its own where
 /// one can be had. The conditions are 1 to 64 workers, at most 1,000,000,000 connections each, 64 clocks, and
 /// that whoever may be the caller is of the account.
 ///
 /// A worker whose ear fails 16 times in a row takes no more. After the last worker is done every pass learns
-/// the whole history, the ears go back to the door and the clocks to their places. `Shut` comes only where the
-/// door failed, and `NoMemory` only before anybody worked.
+/// the whole history, the account is kept where that is wanted, the ears go back to the door and the clocks to
+/// their places. `Shut` comes only where the door failed, and `NoMemory` only before anybody worked.
 pub fn serve<W: Threads + Wait + Sync, C: Clock + Send + Drop, D: Door, G: Gate + Sync>(
     rt: &W,
     alloc: Global,
-    facts: RealmFacts,
+    account: Account,
     trust: &Trust,
     order: &Order<'_>,
     clocks: &mut Vec<C>,
@@ -190,11 +191,11 @@ where
     <D::Listener as Ear>::Conn: Send,
     requires workers { (0 < order.now.workers) × (order.now.workers ≤ 64) }
     requires connections { order.now.connections ≤ 1000000000 }
-    requires trust { IsOfAccount facts.account trust.now }
+    requires trust { IsOfAccount account.facts.account trust.now }
     requires clocks { vec_len clocks.old ≡ 64 }
-    ensures { Fulfils facts trust.now (wanted_by order.now) result (surroundings (D.shows door.old) (map C.told clocks.old.items)) (surroundings (D.shows door.new) (map C.told clocks.new.items)) }
+    ensures { Fulfils account trust.now (wanted_by order.now) result (surroundings (D.shows door.old) (map C.told clocks.old.items)) (surroundings (D.shows door.new) (map C.told clocks.new.items)) }
 {
-    let Ok(opening) = Opening::new(rt, alloc, facts, order.workers) else {
+    let Ok(opening) = open_loaded(rt, alloc, account, order.workers) else {
         return Outcome::NoMemory;
     };
     serve_realm::<W, Brand, C, D, G>(rt, alloc, opening, trust, order, clocks, door, gate)

@@ -7,9 +7,10 @@ use Rattle.http_front.specs.Head.{IsHead}
 use Rattle.kms_json.specs.declared.asks.Ask.{Ask}
 use Rattle.kms_json.specs.declared.replies.Reply.TheVariants.{Refused}
 use Rattle.kms_json.specs.Asks.{changes_account}
+use Rattle.account_steps.specs.declared.facts.RealmFacts.{RealmFacts}
 use Rattle.account_steps.specs.History.{Entry}
 use Rattle.account_steps.specs.History.{housekeeping_of}
-use Rattle.account_core.specs.Decide.{decide, IsLawful}
+use Rattle.account_core.specs.Decide.{decide}
 use mathlib.Core.List.{IsPrefix}
 use Rattle.session_front.specs.declared.trust.Trust.{Trust}
 use Rattle.http_front.specs.Message.{Message}
@@ -18,7 +19,7 @@ use Rattle.session_front.specs.Early.{ask_of}
 use Rattle.kms_json.specs.declared.refusals.Refusal.{Refusal}
 use Rattle.published_account.specs.Answers.{Answer, answer_in, answer_of}
 use Rattle.kms_session.specs.Answers.{IsReplyText, five_hundred}
-use Rattle.published_account.specs.Pairs.{entries_of}
+use Rattle.published_account.specs.Pairs.{entries_of, LeadsTo}
 use Rattle.publish_pass.specs.Pass.{Pass, Meets, WantsChange, AnswersRead, AnswersChange, LacksRead, Misses, keeping_house, making_any}
 use Rattle.published_account.specs.declared.answered.Unread.TheVariants.{NoMemory as Unfed}
 use Rattle.session_front.specs.Items.{whole}
@@ -93,7 +94,8 @@ meets_later s t u is met = record {
   history = subst (λ (h : List (Entry × ℕ)). IsPrefix h u.history) (ap (λ (p : Pass). p.history) is.others) met.history;
   others = met.others ∙ ap (λ (p : Pass). let q : Pass = record p { history = u.history; missed = u.missed } in q) is.others;
   missed = omega (arith, is.missed, met.missed);
-  lawful = λ lawful. met.lawful (subst (λ (p : Pass). IsLawful p.facts (entries_of p.history)) (sym is.others) lawful);
+  leads = subst (λ (f : RealmFacts). LeadsTo f (entries_of s.history) (entries_of u.history)) (ap (λ (p : Pass). p.facts) is.others)
+      (subst (λ (h : List (Entry × ℕ)). LeadsTo t.facts (entries_of h) (entries_of u.history)) (ap (λ (p : Pass). p.history) is.others) met.leads);
 }
 
 pub wants_reading : (s t u : Pass) (x : Ask) → changes_account x.body ≡ false → MissesOnly s t → LacksRead t x Unfed u → Wanting s (asks x) u

@@ -1,12 +1,14 @@
 -- The words of the command line.
-use Rattle.std.specs.Prelude.{◌-◌, ◌&&◌, ◌||◌, not, Bool, true, ℕ, nat_eq, List, [], ◌∷◌, length, take, slice_index, codes, Option, None, Some, option_map, option_and_then, if◌then◌else◌}
+use Rattle.std.specs.Prelude.{◌-◌, ◌&&◌, ◌||◌, not, Bool, true, false, ℕ, nat_eq, List, [], ◌∷◌, length, take, slice_index, codes, Option, None, Some, option_map, option_and_then, if◌then◌else◌}
 use Rattle.std.specs.List.{list_any}
-use Rattle.std.specs.Option.{is_some}
+use Rattle.std.specs.Option.{is_some, option_map_or}
 use Rattle.std.specs.Str.{bytes_eq}
 use Rattle.clap.specs.Words.{App, Rule, Row, Text, Kinds, new_app, new_rule, with_rule, with_subcommand, first_of, fault_of, subcommand_of}
+use Rattle.clap.specs.declared.builder.action.ArgAction.TheVariants.{SetTrue}
 use Rattle.kms_names.specs.Reading.{after_front}
 use Rattle.kms_words.specs.declared.asked.RunWords.{RunWords}
 use Rattle.kms_words.specs.declared.asked.ServeWords.{ServeWords}
+use Rattle.kms_words.specs.declared.asked.SessionAsked.{SessionAsked}
 use Rattle.kms_words.specs.declared.asked.SessionWords.{SessionWords}
 use Rattle.kms_words.specs.declared.asked.SessionWords.TheVariants as session
 use Rattle.kms_words.specs.declared.asked.Asked.{Asked}
@@ -19,17 +21,24 @@ use Rattle.kms_words.specs.Numbers.{number_within, number_or}
 abbrev pub value_option : Text → Rule
 value_option name = record (new_rule name) { long = Some name }
 
+-- `--NAME`, without a value
+abbrev pub flag_option : Text → Rule
+flag_option name = record (new_rule name) { long = Some name; action = Some SetTrue }
+
 abbrev pub with_value : App → Text → App
 with_value app name = with_rule app (value_option name)
+
+abbrev pub with_flag : App → Text → App
+with_flag app name = with_rule app (flag_option name)
 
 -- with each of some options
 abbrev pub with_values : App → List Text → App
 with_values app [] = app
 with_values app (name ∷ names) = with_values (with_value app name) names
 
--- a command that is about one session, with the options of its settings
+-- a command that is about one session, with the options of its settings and of its journal
 abbrev pub session_line : Text → App
-session_line name = with_values (new_app name) (codes "account" ∷ codes "region" ∷ codes "root" ∷ codes "boot" ∷ codes "as" ∷ codes "config" ∷ [])
+session_line name = with_values (new_app name) (codes "account" ∷ codes "region" ∷ codes "root" ∷ codes "boot" ∷ codes "as" ∷ codes "config" ∷ codes "load" ∷ [])
 
 abbrev pub run_line : App
 run_line = session_line (codes "run")
@@ -37,13 +46,16 @@ run_line = session_line (codes "run")
 abbrev pub explain_line : App
 explain_line = session_line (codes "explain")
 
+abbrev pub export_line : App
+export_line = session_line (codes "export")
+
 -- `check` with its option
 abbrev pub check_line : App
 check_line = with_values (new_app (codes "check")) (codes "config" ∷ [])
 
 -- `serve` with its options
 abbrev pub serve_line : App
-serve_line = with_values (new_app (codes "serve")) (codes "config" ∷ codes "listen" ∷ codes "workers" ∷ codes "connections" ∷ [])
+serve_line = with_flag (with_values (new_app (codes "serve")) (codes "config" ∷ codes "listen" ∷ codes "workers" ∷ codes "connections" ∷ codes "load" ∷ [])) (codes "export")
 
 -- `load` with its options
 abbrev pub load_line : App
@@ -54,7 +66,8 @@ abbrev pub bare_line : App
 bare_line = let app = new_app (codes "kms_local") in record app { top = record app.top { no_binary_name = true; subcommand_required = true } }
 
 abbrev pub whole_line : App
-whole_line = with_subcommand (with_subcommand (with_subcommand (with_subcommand (with_subcommand bare_line run_line.top) check_line.top) serve_line.top) load_line.top) explain_line.top
+whole_line =
+    with_subcommand (with_subcommand (with_subcommand (with_subcommand (with_subcommand (with_subcommand bare_line run_line.top) check_line.top) serve_line.top) load_line.top) explain_line.top) export_line.top
 
 -- ---- words that no command has
 
@@ -80,23 +93,27 @@ pub record RunValues : Type 0 where
   pub boot : Option (List ℕ)
   pub caller : List ℕ
 
--- the values of `serve`: the file, the address, how many workers there are, and how many connections each takes
+-- the values of `serve`: the file, the address, how many workers there are, how many connections each takes, the file of the journal
+-- that it begins with, if it is given, and whether `--export` is given
 pub record ServeValues : Type 0 where
   pub file : List ℕ
   pub address : List ℕ
   pub workers : ℕ
   pub connections : ℕ
+  pub load : Option (List ℕ)
+  pub exports : Bool
 
 -- where the settings of a session come from: values, or a file and perhaps a caller
 pub data Source : Type 0 where
   of_values : RunValues → Source
   of_file : List ℕ → Option (List ℕ) → Source
 
--- `run` or `explain` with the settings of a session, `check` with a file, `serve` with its values, or `load` with a seed and a number of
--- requests
+-- `run`, `explain` or `export` with the settings of a session and perhaps the file of the journal that it begins with, `check` with a
+-- file, `serve` with its values, or `load` with a seed and a number of requests
 pub data Command : Type 0 where
-  run : Source → Command
-  explain : Source → Command
+  run : Source → Option (List ℕ) → Command
+  explain : Source → Option (List ℕ) → Command
+  export : Source → Option (List ℕ) → Command
   check : List ℕ → Command
   serve : ServeValues → Command
   load : ℕ → ℕ → Command
@@ -120,28 +137,39 @@ abbrev pub source_of : List Row → Option Source
 source_of rows =
     form_of (first_of (codes "config") rows) (first_of (codes "account") rows) (first_of (codes "region") rows) (first_of (codes "root") rows) (first_of (codes "boot") rows) (first_of (codes "as") rows)
 
+-- an option that takes no value is given: `clap` holds the value `true` for it, and else `false`
+abbrev pub is_given : Text → List Row → Bool
+is_given name rows = option_map_or (λ value. bytes_eq value (codes "true")) (first_of name rows) false
+
+-- a command that is about one session
+abbrev pub of_session : (Source → Option (List ℕ) → Command) → List Row → Option Command
+of_session command rows = option_map (λ source. command source (first_of (codes "load") rows)) (source_of rows)
+
 abbrev pub run_of : List Row → Option Command
-run_of rows = option_map run (source_of rows)
+run_of rows = of_session run rows
 
 abbrev pub explain_of : List Row → Option Command
-explain_of rows = option_map explain (source_of rows)
+explain_of rows = of_session explain rows
+
+abbrev pub export_of : List Row → Option Command
+export_of rows = of_session export rows
 
 abbrev pub check_of : List Row → Option Command
 check_of rows = option_map check (first_of (codes "config") rows)
 
 -- the file and the address are given, and the numbers are within their bounds
-abbrev pub served_by : Option Text → Option Text → Option ℕ → Option ℕ → Option Command
-served_by None address workers connections = None
-served_by (Some file) None workers connections = None
-served_by (Some file) (Some address) None connections = None
-served_by (Some file) (Some address) (Some workers) None = None
-served_by (Some file) (Some address) (Some workers) (Some connections) =
-    Some (serve (record { file = file; address = address; workers = workers; connections = connections }))
+abbrev pub served_by : Option Text → Option Text → Option ℕ → Option ℕ → Option Text → Bool → Option Command
+served_by None address workers connections journal exports = None
+served_by (Some file) None workers connections journal exports = None
+served_by (Some file) (Some address) None connections journal exports = None
+served_by (Some file) (Some address) (Some workers) None journal exports = None
+served_by (Some file) (Some address) (Some workers) (Some connections) journal exports =
+    Some (serve (record { file = file; address = address; workers = workers; connections = connections; load = journal; exports = exports }))
 
 -- 1 to 64 workers (4), each with 1 to 1,000,000,000 connections (as many)
 abbrev pub serve_of : List Row → Option Command
 serve_of rows =
-    served_by (first_of (codes "config") rows) (first_of (codes "listen") rows) (number_or 4 1 64 (first_of (codes "workers") rows)) (number_or 1000000000 1 1000000000 (first_of (codes "connections") rows))
+    served_by (first_of (codes "config") rows) (first_of (codes "listen") rows) (number_or 4 1 64 (first_of (codes "workers") rows)) (number_or 1000000000 1 1000000000 (first_of (codes "connections") rows)) (first_of (codes "load") rows) (is_given (codes "export") rows)
 
 -- both numbers are given, and within their bounds
 abbrev pub loaded_by : Option ℕ → Option ℕ → Option Command
@@ -159,9 +187,10 @@ named_command None = None
 named_command (Some (name, rows)) =
     if bytes_eq name (codes "run") then run_of rows
     else (if bytes_eq name (codes "explain") then explain_of rows
+    else (if bytes_eq name (codes "export") then export_of rows
     else (if bytes_eq name (codes "check") then check_of rows
     else (if bytes_eq name (codes "serve") then serve_of rows
-    else load_of rows)))
+    else load_of rows))))
 
 abbrev pub unless_refused : Kinds → Option (Text × List Row) → Option Command
 unless_refused [] named = named_command named
@@ -183,15 +212,27 @@ values_in words = record {
 }
 
 abbrev pub serve_values_in : ServeWords → ServeValues
-serve_values_in words = record { file = words.file.now; address = words.address.now; workers = words.workers; connections = words.connections }
+serve_values_in words = record {
+  file = words.file.now;
+  address = words.address.now;
+  workers = words.workers;
+  connections = words.connections;
+  load = option_map (λ file. file.now) words.load;
+  exports = words.exports;
+}
 
 abbrev pub source_in : SessionWords → Source
 source_in (session.Values words) = of_values (values_in words)
 source_in (session.File file caller) = of_file file.now (option_map (λ caller. caller.now) caller)
 
+-- the file of the journal that the session begins with
+abbrev pub journal_in : SessionAsked → Option (List ℕ)
+journal_in session = option_map (λ file. file.now) session.load
+
 abbrev pub shown : Asked → Command
-shown (asked.Run words) = run (source_in words)
-shown (asked.Explain words) = explain (source_in words)
+shown (asked.Run session) = run (source_in session.words) (journal_in session)
+shown (asked.Explain session) = explain (source_in session.words) (journal_in session)
+shown (asked.Export session) = export (source_in session.words) (journal_in session)
 shown (asked.Check file) = check file.now
 shown (asked.Serve words) = serve (serve_values_in words)
 shown (asked.Load words) = load words.seed words.requests

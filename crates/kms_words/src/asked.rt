@@ -25,6 +25,15 @@ pub enum SessionWords<'a> {
     File(&'a str, Option<&'a str>),
 }
 
+/// What the words of a command about one session name.
+#[derive(Clone, Copy)]
+pub struct SessionAsked<'a> {
+    /// Where its settings come from.
+    pub words: SessionWords<'a>,
+    /// The value of `--load`, where it is given: the file of the journal that it begins with.
+    pub load: Option<&'a str>,
+}
+
 /// What the words of `serve` name.
 #[derive(Clone, Copy)]
 pub struct ServeWords<'a> {
@@ -36,6 +45,10 @@ pub struct ServeWords<'a> {
     pub workers: u16,
     /// The number of `--connections`, from 1 to 1,000,000,000 (as many).
     pub connections: u64,
+    /// The value of `--load`, where it is given: the file of the journal that it begins with.
+    pub load: Option<&'a str>,
+    /// Whether `--export` is given.
+    pub exports: bool,
 
     ghost some: { 0 < workers },
     ghost few: { workers ≤ 64 },
@@ -57,10 +70,12 @@ pub struct LoadWords {
 /// What the words ask.
 #[derive(Clone, Copy)]
 pub enum Asked<'a> {
-    /// `run` with its settings.
-    Run(SessionWords<'a>),
-    /// `explain` with the settings of the session that it explains.
-    Explain(SessionWords<'a>),
+    /// `run` with the session that it serves.
+    Run(SessionAsked<'a>),
+    /// `explain` with the session that it explains.
+    Explain(SessionAsked<'a>),
+    /// `export` with the session whose journal it writes.
+    Export(SessionAsked<'a>),
     /// `check` with the value of `--config`.
     Check(&'a str),
     /// `serve` with the values of its options.

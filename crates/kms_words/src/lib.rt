@@ -6,6 +6,6 @@ mod line;
 mod numbers;
 mod words;
 
-pub use asked::{Asked, LoadWords, RunWords, ServeWords, SessionWords};
+pub use asked::{Asked, LoadWords, RunWords, ServeWords, SessionAsked, SessionWords};
 pub use numbers::{number_or, number_within};
 pub use words::read_words;

@@ -2,11 +2,11 @@
 ghost use Rattle.std.specs.Prelude.{◌≡◌, ◌≢◌, [], Err, IfOk, false, map, string_bytes};
 ghost use Rattle.clap.specs.Words.{app_of, rule_of, fault_of, with_subcommand, subcommand_rows_of, subcommand_of};
 ghost use Rattle.clap.specs.declared.builder.command.Command.TheViews.{out-Command};
-ghost use Rattle.kms_words.specs.Words.{value_option, with_value, with_values, session_line, run_line, explain_line, check_line, serve_line, load_line, bare_line, whole_line};
+ghost use Rattle.kms_words.specs.Words.{value_option, flag_option, with_value, with_flag, with_values, session_line, run_line, explain_line, export_line, check_line, serve_line, load_line, bare_line, whole_line};
 ghost use Rattle.kms_words.specs.declared.line.LineFault.TheVariants.{Refused, NoMemory};
 
 use clap::error::ErrorKind;
-use clap::{Arg, ArgMatches, Command};
+use clap::{Arg, ArgAction, ArgMatches, Command};
 use std::alloc::{AllocError, Global};
 
 /// Why there are no matches.
@@ -33,6 +33,13 @@ fn option_of<'a>(alloc: Global, name: &'a str) -> Arg<'a>
     Arg::new(alloc, name).long(name)
 }
 
+fn flag_of<'a>(alloc: Global, name: &'a str) -> Arg<'a>
+    ensures rule { rule_of result ≡ flag_option name.entry.now }
+    ensures local { result.global ≡ false }
+{
+    Arg::new(alloc, name).long(name).action(ArgAction::SetTrue)
+}
+
 // The command with one more option, which takes a value.
 fn with_value<'a>(
     alloc: Global,
@@ -44,6 +51,19 @@ fn with_value<'a>(
     ensures local { IfOk result (λ c. (out-Command c).has_globals ≡ false) }
 {
     command.arg(option_of(alloc, name))
+}
+
+// The command with one more option, which takes no value.
+fn with_flag<'a>(
+    alloc: Global,
+    command: Command<'a>,
+    name: &'a str,
+) -> Result<Command<'a>, AllocError>
+    requires { (out-Command command).has_globals ≡ false }
+    ensures app { IfOk result (λ c. app_of c ≡ with_flag (app_of command.entry) name.entry.now) }
+    ensures local { IfOk result (λ c. (out-Command c).has_globals ≡ false) }
+{
+    command.arg(flag_of(alloc, name))
 }
 
 // The command with more options, each of which takes a value.
@@ -62,12 +82,12 @@ fn with_values<'a>(
     Ok(command)
 }
 
-// A command that is about one session, with the options of its settings.
+// A command that is about one session, with the options of its settings and of its journal.
 fn session_command<'a>(alloc: Global, name: &'a str) -> Result<Command<'a>, AllocError>
     ensures app { IfOk result (λ c. app_of c ≡ session_line name.entry.now) }
     ensures local { IfOk result (λ c. (out-Command c).has_globals ≡ false) }
 {
-    let names = ["account", "region", "root", "boot", "as", "config"];
+    let names = ["account", "region", "root", "boot", "as", "config", "load"];
     with_values(alloc, Command::new(alloc, name), &names)
 }
 
@@ -82,8 +102,9 @@ fn serve_command<'a>(alloc: Global) -> Result<Command<'a>, AllocError>
     ensures app { IfOk result (λ c. app_of c ≡ serve_line) }
     ensures local { IfOk result (λ c. (out-Command c).has_globals ≡ false) }
 {
-    let names = ["config", "listen", "workers", "connections"];
-    with_values(alloc, Command::new(alloc, "serve"), &names)
+    let names = ["config", "listen", "workers", "connections", "load"];
+    let command = with_values(alloc, Command::new(alloc, "serve"), &names)?;
+    with_flag(alloc, command, "export")
 }
 
 fn load_command<'a>(alloc: Global) -> Result<Command<'a>, AllocError>
@@ -122,6 +143,12 @@ fn with_explain<'a>(alloc: Global, program: Command<'a>) -> Result<Command<'a>, 
     with_command(program, session_command(alloc, "explain")?)
 }
 
+fn with_export<'a>(alloc: Global, program: Command<'a>) -> Result<Command<'a>, AllocError>
+    ensures { IfOk result (λ c. app_of c ≡ with_subcommand (app_of program.entry) export_line.top) }
+{
+    with_command(program, session_command(alloc, "export")?)
+}
+
 fn with_check<'a>(alloc: Global, program: Command<'a>) -> Result<Command<'a>, AllocError>
     ensures { IfOk result (λ c. app_of c ≡ with_subcommand (app_of program.entry) check_line.top) }
 {
@@ -147,7 +174,8 @@ fn whole_command<'a>(alloc: Global) -> Result<Command<'a>, AllocError>
     let two = with_check(alloc, one)?;
     let three = with_serve(alloc, two)?;
     let four = with_load(alloc, three)?;
-    with_explain(alloc, four)
+    let five = with_explain(alloc, four)?;
+    with_export(alloc, five)
 }
 
 /// The matches of the words, if they are a command.

@@ -1,11 +1,11 @@
 // The words of the command line.
-ghost use Rattle.std.specs.Prelude.{◌≡◌, ◌≢◌, ◌≤◌, ◌||◌, [], Err, IfOk, IfSome, option_map, option_and_then, map, string_bytes};
+ghost use Rattle.std.specs.Prelude.{◌≡◌, ◌≢◌, ◌≤◌, ◌||◌, [], Err, IfOk, IfSome, codes, option_map, option_and_then, map, string_bytes};
 ghost use Rattle.std.specs.List.{list_any};
 ghost use Rattle.clap.specs.Words.{first_of, rows_of, found_of, subcommand_rows_of};
 ghost use Rattle.kms_words.specs.Numbers.{number_within};
-ghost use Rattle.kms_words.specs.Words.{ends_in_equals, is_valueless, is_stray, values_of, form_of, source_of, run_of, explain_of, check_of, served_by, serve_of, loaded_by, load_of, named_command, command_of, source_in, shown};
+ghost use Rattle.kms_words.specs.Words.{ends_in_equals, is_valueless, is_stray, values_of, form_of, source_of, is_given, run_of, explain_of, export_of, check_of, served_by, serve_of, loaded_by, load_of, named_command, command_of, source_in, journal_in, shown};
 
-use crate::asked::{Asked, LoadWords, RunWords, ServeWords, SessionWords};
+use crate::asked::{Asked, LoadWords, RunWords, ServeWords, SessionAsked, SessionWords};
 use crate::line::{LineFault, read_line};
 use crate::numbers::{number_or, number_within};
 use clap::ArgMatches;
@@ -91,8 +91,15 @@ fn value_in<'a>(matches: &ArgMatches<'a>, name: &str) -> Option<&'a str>
     matches.get_str(name)
 }
 
+// Whether an option that takes no value is given.
+fn is_given(matches: &ArgMatches<'_>, name: &str) -> bool
+    ensures { result ≡ is_given name.now (rows_of (found_of matches.now)) }
+{
+    value_in(matches, name) == Some("true")
+}
+
 // The settings of a session.
-fn session_in<'a>(matches: &ArgMatches<'a>) -> Option<SessionWords<'a>>
+fn settings_in<'a>(matches: &ArgMatches<'a>) -> Option<SessionWords<'a>>
     ensures { option_map source_in result ≡ source_of (rows_of (found_of matches.now)) }
 {
     form_of(
@@ -105,18 +112,35 @@ fn session_in<'a>(matches: &ArgMatches<'a>) -> Option<SessionWords<'a>>
     )
 }
 
+// The settings of a session, and its journal.
+fn session_in<'a>(matches: &ArgMatches<'a>) -> Option<SessionAsked<'a>>
+    ensures settings { option_map (λ session. source_in session.words) result ≡ source_of (rows_of (found_of matches.now)) }
+    ensures journal { IfSome result (λ session. journal_in session ≡ first_of (codes "load") (rows_of (found_of matches.now))) }
+{
+    let words = settings_in(matches)?;
+    let load = value_in(matches, "load");
+    Some(SessionAsked { words, load })
+}
+
 fn run_in<'a>(matches: &ArgMatches<'a>) -> Option<Asked<'a>>
     ensures { option_map shown result ≡ run_of (rows_of (found_of matches.now)) }
 {
-    let words = session_in(matches)?;
-    Some(Asked::Run(words))
+    let session = session_in(matches)?;
+    Some(Asked::Run(session))
 }
 
 fn explain_in<'a>(matches: &ArgMatches<'a>) -> Option<Asked<'a>>
     ensures { option_map shown result ≡ explain_of (rows_of (found_of matches.now)) }
 {
-    let words = session_in(matches)?;
-    Some(Asked::Explain(words))
+    let session = session_in(matches)?;
+    Some(Asked::Explain(session))
+}
+
+fn export_in<'a>(matches: &ArgMatches<'a>) -> Option<Asked<'a>>
+    ensures { option_map shown result ≡ export_of (rows_of (found_of matches.now)) }
+{
+    let session = session_in(matches)?;
+    Some(Asked::Export(session))
 }
 
 fn check_in<'a>(matches: &ArgMatches<'a>) -> Option<Asked<'a>>
@@ -132,16 +156,20 @@ fn served_by<'a>(
     address: Option<&'a str>,
     workers: Option<u64>,
     connections: Option<u64>,
+    load: Option<&'a str>,
+    exports: bool,
 ) -> Option<Asked<'a>>
     requires workers { IfSome workers (λ number. (1 ≤ number) × (number ≤ 64)) }
     requires connections { IfSome connections (λ number. (1 ≤ number) × (number ≤ 1000000000)) }
-    ensures { option_map shown result ≡ served_by (option_map (λ s. s.now) file.entry) (option_map (λ s. s.now) address.entry) workers connections }
+    ensures { option_map shown result ≡ served_by (option_map (λ s. s.now) file.entry) (option_map (λ s. s.now) address.entry) workers connections (option_map (λ s. s.now) load.entry) exports }
 {
     Some(Asked::Serve(ServeWords {
         file: file?,
         address: address?,
         workers: workers? as u16,
         connections: connections?,
+        load,
+        exports,
     }))
 }
 
@@ -158,6 +186,8 @@ fn serve_in<'a>(matches: &ArgMatches<'a>) -> Option<Asked<'a>>
             1,
             CONNECTIONS,
         ),
+        value_in(matches, "load"),
+        is_given(matches, "export"),
     )
 }
 
@@ -198,6 +228,7 @@ fn asked_in<'a>(matches: &ArgMatches<'a>) -> Option<Asked<'a>>
     match name {
         "run" => run_in(inner),
         "explain" => explain_in(inner),
+        "export" => export_in(inner),
         "check" => check_in(inner),
         "serve" => serve_in(inner),
         _ => load_in(inner),
@@ -205,11 +236,12 @@ fn asked_in<'a>(matches: &ArgMatches<'a>) -> Option<Asked<'a>>
 }
 
 /// What the words ask, if they are a command: `run` with `--account`, `--region`, `--root` and `--as`, and
-/// perhaps `--boot`; `run` with `--config` and perhaps `--as`; `explain` with the options of one of these
-/// two; `check` with `--config`; `serve` with `--config` and `--listen`, and perhaps `--workers` (1 to 64,
-/// else 4) and `--connections` (1 to 1,000,000,000, else as many); `load` with `--seed` (0 to 2^64 - 1) and
-/// `--requests` (1 to 100,000). A number has 1 to 20 decimal digits. An option is written `--name value` or
-/// `--name=value`, at most once and in any order.
+/// perhaps `--boot` and `--load`; `run` with `--config` and perhaps `--as` and `--load`; `explain` or
+/// `export` with the options of one of these two; `check` with `--config`; `serve` with `--config` and
+/// `--listen`, and perhaps `--workers` (1 to 64, else 4), `--connections` (1 to 1,000,000,000, else as
+/// many), `--load` and `--export`; `load` with `--seed` (0 to 2^64 - 1) and `--requests` (1 to 100,000). A
+/// number has 1 to 20 decimal digits. An option is written `--name value` or `--name=value`, and `--export`
+/// without a value; each at most once and in any order.
 pub fn read_words<'a>(alloc: Global, words: &'a [String]) -> Result<Option<Asked<'a>>, NoMemory>
     ensures { IfOk result (λ asked. option_map shown asked ≡ command_of (map string_bytes words.entry.now)) }
 {

@@ -57,7 +57,7 @@ pub record Made (seed requests : ℕ) (pass : Pass) (text : List ℕ) : Type 0 w
   pub session : IsSessionOf seed requests pass text statuses
 
 abbrev pub before : ℕ → ℕ → Outside
-before seed requests = outside (wire_before (workload_of seed requests)) (Some []) (fresh_pass load_facts 1 1)
+before seed requests = outside (wire_before (workload_of seed requests)) (Some []) (fresh_pass load_facts 1 [] 1)
 
 of_serves : (seed requests : ℕ) (pass : Pass) (made : pass.own ≡ first_places (length pass.history)) (new : Wire) (later : Option (List ℕ)) (text left : List ℕ) (closes : Bool) (count : ℕ) (rest : List ℕ)
     → Serves load_trust (before seed requests) (outside new later pass) closes count rest → (closes ≡ false → (rest ≡ []) × (left ≡ []))
@@ -82,8 +82,8 @@ of_serves seed requests pass made new later text left closes count rest s ends w
         cuts = s.cuts;
         to_end = ends;
         each = sym told.number ∙ number;
-        run = subst (λ (t : List ℕ). SessionRun (fresh_pass load_facts 1 1) load_trust pass s.items (seconds_of requests) t) out
-            (subst (λ (cs : List ℕ). SessionRun (fresh_pass load_facts 1 1) load_trust pass s.items cs s.text) clocks s.run);
+        run = subst (λ (t : List ℕ). SessionRun (fresh_pass load_facts 1 [] 1) load_trust pass s.items (seconds_of requests) t) out
+            (subst (λ (cs : List ℕ). SessionRun (fresh_pass load_facts 1 [] 1) load_trust pass s.items cs s.text) clocks s.run);
         made_all = made;
         replies = are;
         counted = number;

@@ -1,5 +1,5 @@
 // One session of a new service.
-ghost use Rattle.std.specs.Prelude.{◌≡◌, IfOk};
+ghost use Rattle.std.specs.Prelude.{◌≡◌, [], IfOk};
 ghost use Rattle.kms_io.specs.MemoryLink.{wire_of};
 ghost use Rattle.published_account.specs.Rules.{Names};
 ghost use Rattle.session_front.specs.Callers.{IsOfAccount};
@@ -35,8 +35,9 @@ fn serve_opening<W: Wait, R: Realm, G: Gate>(
     gate: &G,
 ) -> Result<Past, NoMemory>
     requires ledger { (opening.name ≡ R.name) × (opening.parts ≡ R.parts) }
-    requires names { Names R.book R.facts R.passes opening.shown }
+    requires names { Names R.book R.facts R.passes R.loaded opening.shown }
     requires passes { opening.shown.whole.passes ≡ 1 }
+    requires empty { (opening.shown.whole.pairs ≡ []) × (opening.shown.whole.loaded ≡ 0) }
     requires trust { IsOfAccount opening.shown.whole.facts.account trust.now }
     ensures { IfOk result (λ past. Serving opening.shown.whole.facts trust.now past (wire_of link.old) (seconds_so_far clock.old) (wire_of link.new) (seconds_so_far clock.new)) }
 {

@@ -48,7 +48,7 @@ fn hold<R: Realm + Send + Sync, W: rt::Runtime<A = Global> + Threads + Wait + Sy
     steps: &[u8],
 ) -> Result<(), Failure>
     requires ledger { (opening.name ≡ R.name) × (opening.parts ≡ R.parts) }
-    requires names { Names R.book R.facts R.passes opening.shown }
+    requires names { Names R.book R.facts R.passes R.loaded opening.shown }
     requires facts { facts.now ≡ opening.shown.whole.facts }
 {
     let (service, mut passes) = open_service::<W, R>(rt, rt.alloc(), opening)?;

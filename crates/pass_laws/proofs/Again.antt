@@ -16,7 +16,7 @@ use Rattle.account_laws.specs.Laws.{PassGoesOn, TimesNeverFall, SealedIsDecrypte
 use Rattle.kms_json.specs.declared.replies.Reply.TheVariants.{Decrypted}
 use Rattle.published_account.specs.Pairs.{entries_of}
 use Rattle.pass_laws.specs.Machine.{State, read, places_after, SealedStaysReadable, DroppedStaysAway, NoVectorTwice, NoVectorShared, NoVectorOverBoots}
-use Rattle.published_account.proofs.Lists.{prefix_trans, prefix_shorter}
+use Rattle.published_account.proofs.Lists.{prefix_trans, prefix_shorter, history_lawful}
 use Rattle.pass_laws.proofs.Kept.{reached, goes, ran}
 
 -- ---- beginnings
@@ -61,7 +61,7 @@ readable times law facts p before after s t k j x y places others sealing run mo
     let first : List Entry = entries_of (take k s.history) in
     let last : List Entry = entries_of (take j t.history) in
     let begins = prefix_entries (take k s.history) (take j t.history) (begins_later s.history t.history k j grown.1.history within le there) in
-    let lawful : IsLawful facts last = subst (IsLawful facts) (sym (entries_of-take j t.history)) (lawful_take facts j (entries_of t.history) grown.0.history.lawful) in
+    let lawful : IsLawful facts last = subst (IsLawful facts) (sym (entries_of-take j t.history)) (lawful_take facts j (entries_of t.history) (history_lawful facts p t.history grown.0.history)) in
     let same : first ++ begins.0 ≡ last = begins.1 in
     let P : List Entry → Type 0 = λ h. (a : AsksToOpen facts h y others sealing.blob sealing.context)
     → reply_to facts h y others ≡ unless_excepted (exception_of sealing.arn a.held.stored) (Decrypted sealing.plaintext sealing.arn) in
@@ -78,7 +78,7 @@ dropped_stays_away times law facts p n j before after s t history more entry gra
     let last : List Entry = entries_of (take j t.history) in
     let later : s.seen n ≤ t.seen n = grown.1.seen n in
     let begins = prefix_entries (take (s.seen n) s.history) (take j t.history) (begins_later s.history t.history (s.seen n) j grown.1.history (here.seen n) (omega arith) there) in
-    let lawful : IsLawful facts last = lawful_first facts j t.history grown.0.history.lawful in
+    let lawful : IsLawful facts last = lawful_first facts j t.history (history_lawful facts p t.history grown.0.history) in
     let joined : first ++ begins.0 ≡ last = begins.1 in
     let same : (history ++ entry ∷ []) ++ (more ++ begins.0) ≡ last =
     sym (append_assoc (history ++ entry ∷ []) more begins.0) ∙ ap (λ (h : List Entry). h ++ begins.0) (sym seen) ∙ joined in
@@ -95,7 +95,7 @@ no_vector_twice times law facts p n k j before between s t u v x y one other run
     let on = ran facts p times t between u stepped.0 more in
     let left : t.places n ≡ places_after facts s n x k = ap (λ (w : State). w.places n) first.2 ∙ cond_self n (places_after facts s n x k) (s.places n) (n == n) refl in
     law facts (entries_of (take k s.history)) (entries_of (take j u.history)) x y (s.places n) (u.places n) one other
-    (lawful_first facts k s.history here.history.lawful) (lawful_first facts j u.history on.0.history.lawful) sealed again
+    (lawful_first facts k s.history (history_lawful facts p s.history here.history)) (lawful_first facts j u.history (history_lawful facts p u.history on.0.history)) sealed again
     (subst (λ (q : Places). PassGoesOn facts q (u.places n)) left (on.1.places n))
 
 pub no_vector_shared : TimesNeverFall → PassesShareNoIv → NoVectorShared
@@ -105,7 +105,7 @@ no_vector_shared times law facts p n m k j before between s u x y one other run 
     let first : (s.places n).number ≡ n = here.number n in
     let second : (u.places m).number ≡ m = on.0.number m in
     law facts (entries_of (take k s.history)) (entries_of (take j u.history)) x y (s.places n) (u.places m) one other
-    (lawful_first facts k s.history here.history.lawful) (lawful_first facts j u.history on.0.history.lawful) sealed again
+    (lawful_first facts k s.history (history_lawful facts p s.history here.history)) (lawful_first facts j u.history (history_lawful facts p u.history on.0.history)) sealed again
     (subst (λ (i : ℕ). i < 2 ^ 16) (sym first) fits) (subst (λ (i : ℕ). i < 2 ^ 16) (sym second) fits_too) (λ same. apart (sym first ∙ same ∙ second))
 
 pub no_vector_over_boots : TimesNeverFall → BootsShareNoIv → NoVectorOverBoots
@@ -113,4 +113,4 @@ no_vector_over_boots times law facts later_facts p q n m k j before later s u x 
     let here = reached facts p times before s run in
     let there = reached later_facts q times later u later_run in
     law facts later_facts (entries_of (take k s.history)) (entries_of (take j u.history)) x y (s.places n) (u.places m) one other
-    (lawful_first facts k s.history here.history.lawful) (lawful_first later_facts j u.history there.history.lawful) sealed again fits fits_too apart
+    (lawful_first facts k s.history (history_lawful facts p s.history here.history)) (lawful_first later_facts j u.history (history_lawful later_facts q u.history there.history)) sealed again fits fits_too apart

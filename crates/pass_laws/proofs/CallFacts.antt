@@ -16,8 +16,8 @@ use Rattle.grant_table.specs.Grants.{grant_with}
 use Rattle.account_core.specs.Decide.{decide, IsProper, IsNext, appended, kept, IsLawful, empty, longer}
 use Rattle.account_core.proofs.GoingOn.{same_entry, decide_goes_on}
 use Rattle.account_laws.specs.Laws.{Sealing, HasSealed, PassGoesOn, no_request, one_more as one_request, wants_memory, OnePassRepeatsNoIv, PassesShareNoIv, BootsShareNoIv, DroppedGrantsStayAway}
-use Rattle.published_account.specs.Pairs.{entries_of}
-use Rattle.published_account.proofs.Lists.{entries_of-push, prefix_self, prefix_push, prefix_trans}
+use Rattle.published_account.specs.Pairs.{entries_of, LeadsTo}
+use Rattle.published_account.proofs.Lists.{entries_of-push, prefix_self, prefix_push, prefix_trans, leads_lawful}
 use Rattle.publish_pass.specs.Pass.{Pass, Meets, Learns, Reads, Changes, Decides, making_any, keeping_house, at_places, fresh_pass}
 use Rattle.pass_laws.specs.Calls.{Call, read, wanted_to_read, missed, changed, wanted_to_change, kept_house, wanted_to_keep_house, learnt, changed_at_desk, kept_house_at_desk, Calls, no_call, one_more, FrontsNeverFall, CallsKeepLawful, AnswersAt, at_front, at_desk, DroppedStaysAwayFromPasses, Seals, NoVectorOfOnePassTwice, NoVectorOfTwoPasses, NoVectorOfTwoBoots}
 
@@ -121,16 +121,16 @@ house_lawful facts s clock before is = makes_lawful facts s (housekeeping_of (en
 same_pass : (facts : RealmFacts) (s t : Pass) → t ≡ s → HasLawful facts s → HasLawful facts t
 same_pass facts s t same is = subst (HasLawful facts) (sym same) is
 
-met_lawful : (facts : RealmFacts) (s u : Pass) → u.facts ≡ s.facts → (IsLawful s.facts (entries_of s.history) → IsLawful u.facts (entries_of u.history)) → HasLawful facts s → HasLawful facts u
-met_lawful facts s u same lawful is =
-    let here : IsLawful s.facts (entries_of s.history) = subst (λ (f : RealmFacts). IsLawful f (entries_of s.history)) (sym is.0) is.1 in
-    (same ∙ is.0, subst (λ (f : RealmFacts). IsLawful f (entries_of u.history)) (same ∙ is.0) (lawful here))
+met_lawful : (facts : RealmFacts) (s u : Pass) → u.facts ≡ s.facts → LeadsTo s.facts (entries_of s.history) (entries_of u.history) → HasLawful facts s → HasLawful facts u
+met_lawful facts s u same leads is =
+    let here : LeadsTo facts (entries_of s.history) (entries_of u.history) = subst (λ (f : RealmFacts). LeadsTo f (entries_of s.history) (entries_of u.history)) is.0 leads in
+    (same ∙ is.0, leads_lawful facts (entries_of s.history) (entries_of u.history) here is.1)
 
 read_lawful : (facts : RealmFacts) (s u : Pass) → Meets s u → HasLawful facts s → HasLawful facts u
-read_lawful facts s u met is = met_lawful facts s u (ap (λ (p : Pass). p.facts) met.others) met.lawful is
+read_lawful facts s u met is = met_lawful facts s u (ap (λ (p : Pass). p.facts) met.others) met.leads is
 
 learnt_lawful : (facts : RealmFacts) (s u : Pass) → Learns s u → HasLawful facts s → HasLawful facts u
-learnt_lawful facts s u met is = met_lawful facts s u (ap (λ (p : Pass). p.facts) met.others) met.lawful is
+learnt_lawful facts s u met is = met_lawful facts s u (ap (λ (p : Pass). p.facts) met.others) met.leads is
 
 left_lawful : (facts : RealmFacts) (met t : Pass) (clock : ℕ) → clock < year_10000 → HasLawful facts met → (t ≡ met) ⊎ (t ≡ keeping_house met clock) → HasLawful facts t
 left_lawful facts met t clock before is (inl same) = same_pass facts met t same is
@@ -275,15 +275,15 @@ not_twice law s t u v one other lawful seals calls again =
     (subst (λ (p : Places). PassGoesOn facts p u.places) here.leaves steps.on)
 
 -- a pass that began anew, and what it seals
-module _ (facts : RealmFacts) (p n : ℕ) (s t : Pass) (sealing : Sealing) (calls : Calls (fresh_pass facts p n) s) (seals : Seals s t sealing) where
-  begun : Steps facts (fresh_pass facts p n) s
-  begun = calls_steps facts (fresh_pass facts p n) s (refl, empty) calls
+module _ (facts : RealmFacts) (p n : ℕ) (s t : Pass) (sealing : Sealing) (calls : Calls (fresh_pass facts p [] n) s) (seals : Seals s t sealing) where
+  begun : Steps facts (fresh_pass facts p [] n) s
+  begun = calls_steps facts (fresh_pass facts p [] n) s (refl, empty) calls
 
   began : Stands facts s t sealing
   began = stands facts s t sealing begun.lawful seals
 
   numbered : s.places.number ≡ n
-  numbered = same_number facts (fresh_pass facts p n).places s.places begun.on
+  numbered = same_number facts (fresh_pass facts p [] n).places s.places begun.on
 
 pub not_of_two : PassesShareNoIv → NoVectorOfTwoPasses
 not_of_two law facts p n m s t u v one other fits fits_too apart calls seals more again =

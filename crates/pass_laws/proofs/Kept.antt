@@ -6,11 +6,12 @@ use Rattle.account_steps.specs.History.{Entry}
 use Rattle.account_steps.specs.declared.places.Places.{Places}
 use Rattle.account_steps.specs.Places.{no_places}
 use Rattle.account_core.specs.Decide.{decide, IsNext, appended, kept, empty}
+use Rattle.account_core.specs.Fitting.{no_entry}
 use Rattle.account_laws.specs.Laws.{PassGoesOn, no_request, one_more, wants_memory, TimesNeverFall}
 use Rattle.account_core.proofs.GoingOn.{same_entry, decide_goes_on}
 use Rattle.published_account.specs.Pairs.{IsHistory, entries_of}
 use Rattle.pass_laws.specs.Machine.{State, Event, house, change, read, starved, learn, start, made, looked, looked_at, made_any, IsNumber, places_after, Step, Runs, places_of_maker, Holds, Grows, HoldsAlways}
-use Rattle.published_account.proofs.Lists.{history_nil, history_push, prefix_self, prefix_push, prefix_trans}
+use Rattle.published_account.proofs.Lists.{history_loaded, history_lawful, history_push, prefix_self, prefix_push, prefix_trans}
 
 -- ---- own places
 
@@ -38,10 +39,10 @@ cond_at P m n x y false is here else = else
 module _ (facts : RealmFacts) (p : ℕ) (times : TimesNeverFall) where
   holds_made : (s : State) (n : ℕ) (entry : Entry) → IsNumber p n → IsNext facts (entries_of s.history) entry → Holds facts p s → Holds facts p (made s n entry)
   holds_made s n entry number next h =
-      let history : IsHistory facts p (s.history ++ (entry, n) ∷ []) = history_push facts p s.history (entry, n) h.history (next, number.0, number.1) in
+      let history : IsHistory facts p 0 (s.history ++ (entry, n) ∷ []) = history_push facts p 0 s.history (entry, n) h.history (next, number.0, number.1) in
       record {
         history = history;
-        times = times facts _ history.lawful;
+        times = times facts _ (history_lawful facts p _ history);
         own = λ m. ap (λ (o : List ℕ). cond (m == n) (o ++ length s.history ∷ []) o) (h.own m)
             ∙ (ap (λ (j : ℕ). cond (m == n) (places_of_maker m 0 s.history ++ j ∷ []) (places_of_maker m 0 s.history)) (omega arith) ∙ sym (places_push m 0 s.history entry n));
         seen = λ m. let grown : length (s.history ++ (entry, n) ∷ []) ≡ length s.history + 1 = length-append s.history ((entry, n) ∷ []) in
@@ -143,7 +144,7 @@ module _ (facts : RealmFacts) (p : ℕ) (times : TimesNeverFall) where
       (rest.0, grows_trans s u t one.1 rest.1)
 
   holds_start : Holds facts p start
-  holds_start = record { history = history_nil facts p; times = times facts [] empty; own = λ m. refl; seen = λ m. le_refl 0; number = λ m. refl }
+  holds_start = record { history = history_loaded facts p 0 [] no_entry refl; times = times facts [] empty; own = λ m. refl; seen = λ m. le_refl 0; number = λ m. refl }
 
   pub reached : (before : List Event) (s : State) → Runs facts p start before s → Holds facts p s
   reached before s run = (ran start before s holds_start run).0

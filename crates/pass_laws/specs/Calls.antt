@@ -38,7 +38,7 @@ pub data Calls (first : Pass) : Pass → Type 0 where
 -- The passes 1 to p of a service, each at a point of its calls, and the history that is published: at first nothing was called, and nothing is
 -- published. A call by which nothing is published meets some front of what is; any other meets all of it, and what its pass then holds is published.
 pub data Together (facts : RealmFacts) (p : ℕ) : (ℕ → Pass) → List (Entry × ℕ) → Type 0 where
-  opened : Together facts p (fresh_pass facts p) []
+  opened : Together facts p (fresh_pass facts p []) []
   looks : {passes : ℕ → Pass} {published : List (Entry × ℕ)} (n : ℕ) (met : List (Entry × ℕ)) (new : Pass)
       → Together facts p passes published → IsNumber p n → Call (passes n) met new → new.history ≡ met → IsPrefix met published
       → Together facts p (λ m. cond (m == n) new (passes m)) published
@@ -87,11 +87,11 @@ NoVectorOfOnePassTwice =
 abbrev pub NoVectorOfTwoPasses : Type 0
 NoVectorOfTwoPasses =
     (facts : RealmFacts) (p n m : ℕ) (s t u v : Pass) (one other : Sealing) → n < 2 ^ 16 → m < 2 ^ 16 → n ≢ m
-    → Calls (fresh_pass facts p n) s → Seals s t one → Calls (fresh_pass facts p m) u → Seals u v other → iv_in one.blob ≢ iv_in other.blob
+    → Calls (fresh_pass facts p [] n) s → Seals s t one → Calls (fresh_pass facts p [] m) u → Seals u v other → iv_in one.blob ≢ iv_in other.blob
 
 -- and of passes of two services whose boots differ
 abbrev pub NoVectorOfTwoBoots : Type 0
 NoVectorOfTwoBoots =
     (facts later_facts : RealmFacts) (p q n m : ℕ) (s t u v : Pass) (one other : Sealing)
     → facts.boot < 2 ^ 32 → later_facts.boot < 2 ^ 32 → facts.boot ≢ later_facts.boot
-    → Calls (fresh_pass facts p n) s → Seals s t one → Calls (fresh_pass later_facts q m) u → Seals u v other → iv_in one.blob ≢ iv_in other.blob
+    → Calls (fresh_pass facts p [] n) s → Seals s t one → Calls (fresh_pass later_facts q [] m) u → Seals u v other → iv_in one.blob ≢ iv_in other.blob

@@ -98,10 +98,10 @@ abbrev pub places_of_maker : ℕ → ℕ → List (Entry × ℕ) → List ℕ
 places_of_maker n k [] = []
 places_of_maker n k (pair ∷ pairs) = cond (n == pair.1) (k ∷ places_of_maker n (k + 1) pairs) (places_of_maker n (k + 1) pairs)
 
--- what holds of a state: the history is lawful and its makers are the passes, its times never fall, a pass's own places are exactly
+-- what holds of a state of a service that began with an empty history: the history is lawful and its makers are the passes, its times never fall, a pass's own places are exactly
 -- those of its number, no pass has seen more than there is, and a pass's places bear its number
 pub record Holds (facts : RealmFacts) (p : ℕ) (s : State) : Type 0 where
-  pub history : IsHistory facts p s.history
+  pub history : IsHistory facts p 0 s.history
   pub times : IsNonDecreasingBy (λ entry. entry.time) (entries_of s.history)
   pub own : (m : ℕ) → s.own m ≡ places_of_maker m 0 s.history
   pub seen : (m : ℕ) → s.seen m ≤ length s.history

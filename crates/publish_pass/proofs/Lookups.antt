@@ -12,11 +12,13 @@ use Rattle.account_steps.specs.Places.{IsWithin, places_of}
 use Rattle.account_core.specs.Decide.{decide}
 use Rattle.account_core.proofs.GoingOn.{decide_goes_on, places_at}
 use Rattle.published_account.specs.declared.answered.Answered.{Answered}
-use Rattle.published_account.specs.Pairs.{IsHistory, entries_of}
+use Rattle.account_core.specs.Account.{Account}
+use Rattle.published_account.specs.Pairs.{Whole, IsHistory, entries_of, account_in}
 use Rattle.published_account.specs.Reading.{AnswersAt}
+use Rattle.published_account.proofs.Lists.{history_leads}
 use Rattle.published_account.specs.declared.answered.Unread.{Unread}
 use Rattle.published_account.specs.declared.answered.Unread.TheVariants.{NoMemory}
-use Rattle.publish_pass.specs.Pass.{Pass, Meets, AnswersRead, LacksRead}
+use Rattle.publish_pass.specs.Pass.{Pass, Learns, Meets, AnswersRead, LacksRead, GivesAccount, LacksAccount}
 
 -- a pass that has looked once at a history of its service in which its own comes first
 module _
@@ -27,21 +29,22 @@ module _
     (before after : List (Entry × ℕ))
     (old new : Line)
     (x : Ask)
-    (n : ℕ)
+    (n k : ℕ)
     (begins : IsPrefix before after)
-    (is : IsHistory facts n after)
+    (was : IsHistory facts n k before)
+    (is : IsHistory facts n k after)
   where
     abbrev at_first : Pass
-    at_first = record { facts = facts; passes = n; number = number; history = before; own = own; places = places_of old; missed = missed }
+    at_first = record { facts = facts; passes = n; loaded = k; number = number; history = before; own = own; places = places_of old; missed = missed }
 
     abbrev met_there : Pass
-    met_there = record { facts = facts; passes = n; number = number; history = after; own = own; places = places_of old; missed = missed }
+    met_there = record { facts = facts; passes = n; loaded = k; number = number; history = after; own = own; places = places_of old; missed = missed }
 
     meets_there : Meets at_first met_there
-    meets_there = record { history = begins; others = refl; missed = le_refl missed; lawful = λ lawful. is.lawful }
+    meets_there = record { history = begins; others = refl; missed = le_refl missed; leads = history_leads facts n k before after was begins is }
 
     abbrev at_end : ℕ → Pass
-    at_end m = record { facts = facts; passes = n; number = number; history = after; own = own; places = places_of new; missed = m }
+    at_end m = record { facts = facts; passes = n; loaded = k; number = number; history = after; own = own; places = places_of new; missed = m }
 
     same_end : (m : ℕ) → m ≡ missed → at_end missed ≡ at_end m
     same_end m same = ap at_end (sym same)
@@ -56,7 +59,7 @@ module _
             met = met_there;
             seen = meets_there;
             answer = refl;
-            used = ap (λ (p : Places). let t : Pass = record { facts = facts; passes = n; number = number; history = after; own = own; places = p; missed = missed } in t) there;
+            used = ap (λ (p : Places). let t : Pass = record { facts = facts; passes = n; loaded = k; number = number; history = after; own = own; places = p; missed = missed } in t) there;
           };
           answer = here.answer;
           front = here.front ∙ length-map after (λ (made : Entry × ℕ). made.0);
@@ -77,6 +80,29 @@ module _
           refl,
         ) in
         subst (λ (p : Pass). LacksRead p x NoMemory (at_end m)) is_first (subst (LacksRead at_first x NoMemory) (same_end m same) wants)
+
+-- a pass that holds a history of its service in which its own comes first, and has missed the published account as often
+pub learns_at : (facts : RealmFacts) (number : ℕ) (own : List ℕ) (missed : ℕ) (before after : List (Entry × ℕ)) (line : Line) (n k m : ℕ) (s : Pass)
+    → IsPrefix before after → IsHistory facts n k before → IsHistory facts n k after → m ≡ missed
+    → (let first : Pass = record { facts = facts; passes = n; loaded = k; number = number; history = before; own = own; places = places_of line; missed = missed } in first) ≡ s
+    → Learns s (record { facts = facts; passes = n; loaded = k; number = number; history = after; own = own; places = places_of line; missed = m })
+learns_at facts number own missed before after line n k m s begins was is same is_first =
+    let t : ℕ → Pass = λ often. record { facts = facts; passes = n; loaded = k; number = number; history = after; own = own; places = places_of line; missed = often } in
+    subst (λ (p : Pass). Learns p (t m)) is_first
+    (record { history = begins; others = ap t same; leads = history_leads facts n k before after was begins is })
+
+-- the account that a pass is given there
+pub gives_there : (s t : Pass) (whole : Whole) (facts : RealmFacts) (account : Account) → Learns s t → account ≡ account_in whole → whole.facts ≡ facts → facts ≡ s.facts
+    → whole.pairs ≡ t.history → GivesAccount s account t
+gives_there s t whole facts account learns is of same pairs = record {
+  learns = learns;
+  facts = ap (λ (a : Account). a.facts) is ∙ of ∙ same;
+  entries = ap (λ (a : Account). a.entries) is ∙ ap entries_of pairs;
+}
+
+pub lacks_account : {A : Type 0} (r : Result A Unread) (s t : Pass) → IsErrAnd r (λ why. why ≡ NoMemory) → Learns s t → IfErr r (λ why. LacksAccount s why t)
+lacks_account (Ok a) s t is learns = tt
+lacks_account (Err why) s t is learns = subst (λ (w : Unread). LacksAccount s w t) (sym is) learns
 
 pub lacks_where : {A : Type 0} (r : Result A Unread) (s : Pass) (x : Ask) (t : Pass) → IsErrAnd r (λ why. why ≡ NoMemory) → LacksRead s x NoMemory t → IfErr r (λ why. LacksRead s x why t)
 lacks_where (Ok a) s x t is lacks = tt

@@ -6,19 +6,21 @@ use Rattle.kms_json.specs.declared.asks.Ask.{Ask}
 use Rattle.published_account.specs.declared.answered.Answered.{Answered}
 use Rattle.account_steps.specs.History.{housekeeping_of}
 use Rattle.published_account.specs.Growing.{Pairs}
-use Rattle.published_account.specs.Pairs.{entries_of}
+use Rattle.account_steps.specs.declared.facts.RealmFacts.{RealmFacts}
+use Rattle.published_account.specs.Pairs.{entries_of, LeadsTo, stays}
 use Rattle.publish_pass.specs.Pass.{Pass, KnewAllIfAlone, MadeAllIfAlone, Learns, AnswersChange, AnswersAtDesk, WantsChange, KeepsHouse, WantsHouse, LeavesAtMost, making_any, keeping_house}
-use Rattle.published_account.proofs.Lists.{prefix_self, prefix_trans}
+use Rattle.published_account.proofs.Lists.{prefix_self, prefix_trans, leads_trans}
 use Rattle.publish_pass.proofs.OwnPlaces.{all_and_any, all_left}
 
 pub learns_self : (s : Pass) → Learns s s
-learns_self s = record { history = prefix_self s.history; others = refl; lawful = λ is. is }
+learns_self s = record { history = prefix_self s.history; others = refl; leads = stays }
 
 pub learns_trans : (s t u : Pass) → Learns s t → Learns t u → Learns s u
 learns_trans s t u p q = record {
   history = prefix_trans s.history t.history u.history p.history q.history;
   others = q.others ∙ ap (λ (x : Pass). let y : Pass = record x { history = u.history } in y) p.others;
-  lawful = λ is. q.lawful (p.lawful is);
+  leads = leads_trans s.facts (entries_of s.history) (entries_of t.history) (entries_of u.history) p.leads
+      (subst (λ (f : RealmFacts). LeadsTo f (entries_of t.history) (entries_of u.history)) (ap (λ (x : Pass). x.facts) p.others) q.leads);
 }
 
 module _ (s u t : Pass) (met : Learns s u) (knew : KnewAllIfAlone s u) (all : MadeAllIfAlone u) where

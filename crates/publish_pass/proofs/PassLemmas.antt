@@ -113,5 +113,7 @@ on_err (Ok v) p = tt
 on_err (Err e) p = p
 
 -- one more pass
-pub fresh_passes-push : (facts : RealmFacts) (passes n : ℕ) → fresh_passes facts passes (n + 1) ≡ fresh_passes facts passes n ++ fresh_pass facts passes (n + 1) ∷ []
-fresh_passes-push facts passes n = ap (fresh_passes facts passes) (add-one n) ∙ ap (λ (k : ℕ). fresh_passes facts passes n ++ fresh_pass facts passes k ∷ []) (sym (add-one n))
+pub fresh_passes-push : (facts : RealmFacts) (passes : ℕ) (loaded : List Entry) (n : ℕ)
+    → fresh_passes facts passes loaded (n + 1) ≡ fresh_passes facts passes loaded n ++ fresh_pass facts passes loaded (n + 1) ∷ []
+fresh_passes-push facts passes loaded n =
+    ap (fresh_passes facts passes loaded) (add-one n) ∙ ap (λ (k : ℕ). fresh_passes facts passes loaded n ++ fresh_pass facts passes loaded k ∷ []) (sym (add-one n))

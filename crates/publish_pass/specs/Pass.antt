@@ -8,20 +8,22 @@ use Rattle.account_steps.specs.History.{Entry}
 use Rattle.account_steps.specs.History.{housekeeping_of}
 use Rattle.account_steps.specs.declared.places.Places.{Places}
 use Rattle.account_steps.specs.Places.{IsUpTo}
-use Rattle.account_core.specs.Decide.{decide, IsLawful}
+use Rattle.account_core.specs.Decide.{decide}
+use Rattle.account_core.specs.Account.{Account}
 use Rattle.published_account.specs.declared.answered.Answered.{Answered}
 use Rattle.published_account.specs.declared.answered.Unread.{Unread}
 use Rattle.published_account.specs.declared.answered.Unread.TheVariants.{NotEntered, NoMemory}
 use Rattle.published_account.specs.Answers.{answer_of, answer_in}
-use Rattle.published_account.specs.Pairs.{Shown, entries_of}
+use Rattle.published_account.specs.Pairs.{Shown, entries_of, loaded_pairs, LeadsTo}
 use Rattle.published_account.specs.Reading.{Rose}
 
--- the facts of its service and how many passes that has, its number, the history that it has seen with the number of the pass that made
--- each entry, the places of its own entries, what it has used of its random stream and its initialization vectors, and how often it
--- missed the published account
+-- the facts of its service, how many passes that has and how many entries were loaded, its number, the history that it has seen with the number of the pass
+-- that made each entry, the places of its own entries, what it has used of its random stream and its initialization vectors, and how often it missed the
+-- published account
 pub record Pass : Type 0 where
   pub facts : RealmFacts
   pub passes : ℕ
+  pub loaded : ℕ
   pub number : ℕ
   pub history : List (Entry × ℕ)
   pub own : List ℕ
@@ -41,15 +43,19 @@ abbrev pub first_places : ℕ → List ℕ
 first_places zero = []
 first_places (suc n) = first_places n ++ n ∷ []
 
--- these are places in a history of so many entries, each once and in order
-pub data ArePlaces : ℕ → List ℕ → Type 0 where
-  no_entry : ArePlaces 0 []
-  passed_over : {n : ℕ} {places : List ℕ} → ArePlaces n places → ArePlaces (suc n) places
-  taken : {n : ℕ} {places : List ℕ} → ArePlaces n places → ArePlaces (suc n) (places ++ n ∷ [])
+-- these are places in a history of so many entries, of which the first k were loaded, each once and in order, and behind the loaded ones
+pub data ArePlaces (k : ℕ) : ℕ → List ℕ → Type 0 where
+  no_entry : ArePlaces k k []
+  passed_over : {n : ℕ} {places : List ℕ} → ArePlaces k n places → ArePlaces k (suc n) places
+  taken : {n : ℕ} {places : List ℕ} → ArePlaces k n places → ArePlaces k (suc n) (places ++ n ∷ [])
 
--- where the service has one pass, the history is exactly the pass's own entries
+-- the history is exactly what was loaded, and then the pass's own entries
+abbrev pub MadeAll : Pass → Type 0
+MadeAll s = first_places (length s.history) ≡ first_places s.loaded ++ s.own
+
+-- so it is where the service has one pass
 abbrev pub MadeAllIfAlone : Pass → Type 0
-MadeAllIfAlone s = s.passes ≡ 1 → s.own ≡ first_places (length s.history)
+MadeAllIfAlone s = s.passes ≡ 1 → MadeAll s
 
 -- and the pass had nothing to learn
 abbrev pub KnewAllIfAlone : Pass → Pass → Type 0
@@ -59,19 +65,19 @@ KnewAllIfAlone s met = s.passes ≡ 1 → met ≡ s
 abbrev pub at_places : Pass → Places → Pass
 at_places s places = record s { places = places }
 
--- the pass comes to hold more of the history, in which all that it held comes first, and a lawful history stays lawful. Nothing else
+-- the pass comes to hold more of the history, in which all that it held comes first, and each further entry may come next after those before it. Nothing else
 -- changes
 pub record Learns (s u : Pass) : Type 0 where
   pub history : IsPrefix s.history u.history
   pub others : u ≡ record s { history = u.history }
-  pub lawful : IsLawful s.facts (entries_of s.history) → IsLawful u.facts (entries_of u.history)
+  pub leads : LeadsTo s.facts (entries_of s.history) (entries_of u.history)
 
 -- the same of a pass that may meanwhile have missed the published account more often
 pub record Meets (s u : Pass) : Type 0 where
   pub history : IsPrefix s.history u.history
   pub others : u ≡ record s { history = u.history; missed = u.missed }
   pub missed : s.missed ≤ u.missed
-  pub lawful : IsLawful s.facts (entries_of s.history) → IsLawful u.facts (entries_of u.history)
+  pub leads : LeadsTo s.facts (entries_of s.history) (entries_of u.history)
 
 -- a request that doesn't change the account is answered at what the pass then holds, and uses what its answer uses
 pub record Reads (s : Pass) (x : Ask) (reply : Reply) (t : Pass) : Type 0 where
@@ -92,6 +98,17 @@ pub record Wants (s : Pass) (x : Ask) (t : Pass) : Type 0 where
 pub record Misses (s t : Pass) : Type 0 where
   pub others : t ≡ record s { missed = t.missed }
   pub rose : Rose s.missed t.missed
+
+-- the account is that of the history that the pass then holds
+pub record GivesAccount (s : Pass) (account : Account) (t : Pass) : Type 0 where
+  pub learns : Learns s t
+  pub facts : account.facts ≡ s.facts
+  pub entries : account.entries ≡ entries_of t.history
+
+-- and why there is none
+abbrev pub LacksAccount : Pass → Unread → Pass → Type 0
+LacksAccount s NotEntered t = Misses s t
+LacksAccount s NoMemory t = Learns s t
 
 -- what is answered to a request that doesn't change the account
 pub record AnswersRead (s : Pass) (x : Ask) (a : Answered) (t : Pass) : Type 0 where
@@ -123,7 +140,7 @@ abbrev pub keeping_house : Pass → ℕ → Pass
 keeping_house s clock = making_any s (housekeeping_of (entries_of s.history) clock)
 
 -- A request that changes the account: housekeeping comes first, then the decision. Where the service has one pass, that pass held the
--- whole history before, and the history which is left is exactly its own entries.
+-- whole history before, and the history which is left is exactly what was loaded, and then its own entries.
 pub record Changes (s : Pass) (x : Ask) (reply : Reply) (t : Pass) : Type 0 where
   pub met : Pass
   pub seen : Learns s met
@@ -154,7 +171,7 @@ pub record WantsChange (s : Pass) (x : Ask) (t : Pass) : Type 0 where
   pub knew : KnewAllIfAlone s met
   pub made_all : MadeAllIfAlone t
 
--- A pass learns what the desk has. Where the service has one pass, there was nothing to learn, and all of it is its own
+-- A pass learns what the desk has. Where the service has one pass, there was nothing to learn, and all that wasn't loaded is its own
 pub record LearnsAll (s t : Pass) : Type 0 where
   pub seen : Learns s t
   pub knew : KnewAllIfAlone s t
@@ -176,14 +193,23 @@ pub record WantsHouse (s : Pass) (clock : ℕ) (t : Pass) : Type 0 where
   pub knew : KnewAllIfAlone s met
   pub made_all : MadeAllIfAlone t
 
--- a pass of a service with so many passes that has seen, made and used nothing
-abbrev pub fresh_pass : RealmFacts → ℕ → ℕ → Pass
-fresh_pass facts passes number = record { facts = facts; passes = passes; number = number; history = []; own = []; places = record { number = number; words = 0; ivs = 0 }; missed = 0 }
+-- a pass of a service with so many passes, which begins with these entries, that has seen no others, and made and used nothing
+abbrev pub fresh_pass : RealmFacts → ℕ → List Entry → ℕ → Pass
+fresh_pass facts passes loaded number = record {
+  facts = facts;
+  passes = passes;
+  loaded = length loaded;
+  number = number;
+  history = loaded_pairs loaded;
+  own = [];
+  places = record { number = number; words = 0; ivs = 0 };
+  missed = 0;
+}
 
 -- its passes 1 to n, in order
-abbrev pub fresh_passes : RealmFacts → ℕ → ℕ → List Pass
-fresh_passes facts passes zero = []
-fresh_passes facts passes (suc n) = fresh_passes facts passes n ++ fresh_pass facts passes (suc n) ∷ []
+abbrev pub fresh_passes : RealmFacts → ℕ → List Entry → ℕ → List Pass
+fresh_passes facts passes loaded zero = []
+fresh_passes facts passes loaded (suc n) = fresh_passes facts passes loaded n ++ fresh_pass facts passes loaded (suc n) ∷ []
 
 -- a service that isn't open yet: the name and the parts of its ledger, and what is published
 pub record Opening : Type 0 where

@@ -5,7 +5,7 @@ ghost use Rattle.std.specs.Arc.{arc_value};
 ghost use Rattle.kms_json.specs.Asks.{changes_account};
 ghost use Rattle.account_core.specs.Decide.{IsProper, IsNext};
 ghost use Rattle.published_account.specs.Answers.{answer_of, answer_in};
-ghost use Rattle.published_account.specs.Pairs.{entries_of};
+ghost use Rattle.published_account.specs.Pairs.{IsHistory, entries_of};
 ghost use Rattle.published_account.specs.Growing.{IsLongerOf};
 ghost use Rattle.publish_pass.specs.Pass.{Learns, KnewAllIfAlone, MadeAllIfAlone, making, keeping_house, AnswersHere, AnswersAtDesk, LeavesAtMost};
 ghost use Rattle.published_account.specs.Rules.{Names};
@@ -32,7 +32,7 @@ pub struct Desk<R: Realm> {
 }
 
 impl<R: Realm> Model for Desk<R> {
-    ghost use Rattle.std.specs.Prelude.{◌≡◌, ℕ, List, length};
+    ghost use Rattle.std.specs.Prelude.{◌≡◌, ◌+◌, ℕ, List, length};
     ghost use Rattle.published_account.specs.Rules.{Names};
     ghost use Rattle.account_steps.specs.History.{Entry};
 
@@ -41,19 +41,19 @@ impl<R: Realm> Model for Desk<R> {
     ghost view = { λ d. d.writer.desk.shown.value.whole.pairs };
 
     ghost invariant = { λ d. record {
-      total : d.book.total ≡ length d.writer.desk.shown.value.whole.pairs;
-      names : Names R.book R.facts R.passes d.writer.desk.shown.value;
+      total : d.book.total + R.loaded ≡ length d.writer.desk.shown.value.whole.pairs;
+      names : Names R.book R.facts R.passes R.loaded d.writer.desk.shown.value;
       parts : R.parts ≡ R.passes;
     } };
 }
 
 impl<R: Realm> Desk<R> {
     pub(crate) fn new(writer: Copies, head: Tip<R>, book: Book<R>) -> Desk<R>
-        requires names { Names R.book R.facts R.passes writer.desk.shown.value }
-        requires empty { writer.desk.shown.value.whole.pairs ≡ [] }
+        requires names { Names R.book R.facts R.passes R.loaded writer.desk.shown.value }
+        requires loaded { length writer.desk.shown.value.whole.pairs ≡ R.loaded }
         requires total { book.total ≡ 0 }
         requires parts { R.parts ≡ R.passes }
-        ensures { result ≡ [] }
+        ensures { result ≡ writer.desk.shown.value.whole.pairs }
     {
         Desk {
             writer,
@@ -76,7 +76,7 @@ impl<R: Realm> Desk<R> {
 
     // What is published.
     fn published(&self) -> &Published
-        ensures { result.now ≡ record { book = R.book; whole = record { facts = R.facts; passes = R.passes; pairs = self.now } } }
+        ensures { result.now ≡ record { book = R.book; whole = record { facts = R.facts; passes = R.passes; loaded = R.loaded; pairs = self.now } } }
     {
         self.writer.published()
     }
@@ -97,8 +97,8 @@ impl<R: Realm> Desk<R> {
 
     /// The pass learns the desk's whole history. It is true exactly where the pass has then seen as many
     /// entries as the desk has, and then the two histories are one; else the pass has seen more, and is as it
-    /// was. The pass has made no more entries than there are, and where it is the only one, it made them all and
-    /// knew of them. It takes no memory.
+    /// was. The pass has made no more entries than there are behind the loaded ones, and where it is the only one, it made
+    /// all of these and knew of them. It takes no memory.
     pub fn meet(&mut self, pass: &mut Pass<R>) -> bool
         ensures desk { self.new ≡ self.old }
         ensures longer { IsLongerOf pass.old.history self.old pass.new.history }
@@ -107,8 +107,9 @@ impl<R: Realm> Desk<R> {
         ensures same { IsTrue result → pass.new.history ≡ self.old }
         ensures more { IsFalse result → pass.new ≡ pass.old }
         ensures passes { pass.new.passes ≡ R.passes }
-        ensures bound { length pass.new.own ≤ length self.new }
-        ensures whole { R.parts ≡ 1 → length pass.new.own ≡ length self.new }
+        ensures loaded { pass.new.loaded ≡ R.loaded }
+        ensures bound { length pass.new.own + R.loaded ≤ length self.new }
+        ensures whole { R.parts ≡ 1 → length pass.new.own + R.loaded ≡ length self.new }
         ensures alone { IsTrue result → KnewAllIfAlone pass.old pass.new × MadeAllIfAlone pass.new }
     {
         self.book.audit(&mut pass.share);
@@ -128,7 +129,8 @@ impl<R: Realm> Desk<R> {
     // The published history with one more entry, which is in its log then; none where the log is longer, or full.
     fn logged(&self, entry: Entry, number: u16) -> Option<Prefix<R>>
         requires next { IsNext R.facts (entries_of self.now) entry × (0 < number) × (number ≤ R.passes) }
-        ensures { IfSome result (λ prefix. prefix ≡ self.now ++ (entry, number) ∷ []) }
+        ensures grown { IfSome result (λ prefix. prefix ≡ self.now ++ (entry, number) ∷ []) }
+        ensures history { IfSome result (λ prefix. IsHistory R.facts R.passes R.loaded prefix) }
     {
         let mut prefix = self.prefix();
         if prefix.len() >= 1 << 62 {

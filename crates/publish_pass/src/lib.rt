@@ -16,7 +16,7 @@ pub use account_steps::RealmFacts;
 pub use desk::Desk;
 pub use kms_io::{Gate, Point};
 pub use kms_json::Ask;
-pub use opening::{Opening, open_service};
+pub use opening::{Opening, open_loaded, open_service};
 pub use pass::Pass;
 pub use published_account::{Answered, Realm, Unread, answer_with};
 pub use service::Service;

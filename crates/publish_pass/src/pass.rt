@@ -5,20 +5,21 @@ ghost use Rattle.account_core.specs.Decide.{IsProper};
 ghost use Rattle.account_steps.specs.History.{housekeeping_of};
 ghost use Rattle.account_steps.specs.Places.{first_line};
 ghost use Rattle.published_account.specs.Growing.{IsLongerOf};
-ghost use Rattle.published_account.specs.Pairs.{IsHistory, entries_of};
-ghost use Rattle.publish_pass.specs.Pass.{fresh_pass, ArePlaces, Learns, AnswersRead, LacksRead};
+ghost use Rattle.published_account.specs.Pairs.{IsHistory, entries_of, loaded_pairs};
+ghost use Rattle.publish_pass.specs.Pass.{fresh_pass, ArePlaces, Learns, AnswersRead, LacksRead, GivesAccount, LacksAccount};
 
 use crate::told::Told;
+use account_core::Account;
 use draw_lines::DrawLine;
 use kms_json::Ask;
-use published_account::{Answered, Entrance, Found, Prefix, Realm, Unread};
+use published_account::{Answered, Entrance, Found, Prefix, Realm, Standing, Unread};
 use std::alloc::Global;
 use std::marker::Model;
 use std::sync::ledger::Share;
 
-/// One connection's hold on the service. Contracts see the facts and the number of passes of the service, its
-/// number, the history that it has seen with the maker of each entry, the places of its own entries, what it has
-/// used of its random stream and of its initialization vectors, and how often it missed the published account.
+/// One connection's hold on the service. Contracts see the facts, the number of passes and of loaded entries of the
+/// service, its number, the history that it has seen with the maker of each entry, the places of its own entries, what it
+/// has used of its random stream and of its initialization vectors, and how often it missed the published account.
 #[derive(Drop)]
 pub struct Pass<R: Realm> {
     pub(crate) number: u16,
@@ -33,15 +34,17 @@ impl<R: Realm> Model for Pass<R> {
     ghost use Rattle.std.specs.Prelude.{◌≡◌, ◌<◌, ◌≤◌, length};
     ghost use Rattle.account_steps.specs.Places.{places_of, IsLineOf};
     ghost use Rattle.publish_pass.specs.Pass as passes;
+    ghost use Rattle.published_account.specs.Pairs.{IsHistory};
 
     ghost Value = { passes.Pass };
 
-    ghost view = { λ p. record { facts = R.facts; passes = R.passes; number = p.number; history = p.prefix; own = p.own.items; places = places_of p.draws; missed = p.entrance } };
+    ghost view = { λ p. record { facts = R.facts; passes = R.passes; loaded = R.loaded; number = p.number; history = p.prefix; own = p.own.items; places = places_of p.draws; missed = p.entrance } };
 
     ghost invariant = { λ p. record {
       parts : p.share.parts ≡ 1;
       amount : p.share.amount ≡ length p.own.items;
-      own : passes.ArePlaces (length p.prefix) p.own.items;
+      own : passes.ArePlaces R.loaded (length p.prefix) p.own.items;
+      history : IsHistory R.facts R.passes R.loaded p.prefix;
       first : 0 < p.number;
       last : p.number ≤ R.passes;
       draws : IsLineOf R.facts p.draws;
@@ -50,7 +53,7 @@ impl<R: Realm> Model for Pass<R> {
 }
 
 impl<R: Realm> Pass<R> {
-    // A pass that has seen, made and used nothing.
+    // A pass that has seen what was loaded alone, and made and used nothing.
     #[tactic(auto, using(crate::proofs::OwnPlaces::no_places))]
     pub(crate) fn new(
         number: u16,
@@ -61,10 +64,11 @@ impl<R: Realm> Pass<R> {
         share: Share<R>,
     ) -> Pass<R>
         requires number { (0 < number) × (number ≤ R.passes) }
-        requires empty { (entrance ≡ 0) × (prefix ≡ []) × (own.items ≡ []) }
+        requires empty { (entrance ≡ 0) × (prefix ≡ loaded_pairs (entries_of prefix)) × (length prefix ≡ R.loaded) × (own.items ≡ []) }
+        requires history { IsHistory R.facts R.passes R.loaded prefix }
         requires draws { draws ≡ first_line R.facts number }
         requires share { (share.parts ≡ 1) × (share.amount ≡ 0) }
-        ensures { result ≡ fresh_pass R.facts R.passes number }
+        ensures { result ≡ fresh_pass R.facts R.passes (entries_of prefix) number }
     {
         Pass {
             number,
@@ -76,15 +80,16 @@ impl<R: Realm> Pass<R> {
         }
     }
 
-    /// The number of entries that the pass has seen. Each of them is one that may come next after those
-    /// before it, and was made by one of the passes; those that this pass made are among them. The facts are those of the
-    /// service. It takes no memory.
+    /// The number of entries that the pass has seen. The first of them were loaded; each other is one that may come
+    /// next after those before it, and was made by one of the passes; those that this pass made are among these. The facts are
+    /// those of the service. It takes no memory.
     pub fn seen(&self) -> u64
         ensures number { result ≡ length self.now.history }
         ensures facts { self.now.facts ≡ R.facts }
         ensures passes { self.now.passes ≡ R.passes }
-        ensures history { IsHistory R.facts R.passes self.now.history }
-        ensures own { ArePlaces (length self.now.history) self.now.own }
+        ensures loaded { self.now.loaded ≡ R.loaded }
+        ensures history { IsHistory R.facts R.passes R.loaded self.now.history }
+        ensures own { ArePlaces R.loaded (length self.now.history) self.now.own }
     {
         self.prefix.len()
     }
@@ -112,6 +117,25 @@ impl<R: Realm> Pass<R> {
         self.prefix = prefix;
         let answered = answered?;
         Ok(answered)
+    }
+
+    /// The account at a history that holds all that this pass has seen, which the pass then holds. It enters the published
+    /// account once, takes no lock and waits for nobody. Nothing of the account is copied.
+    ///
+    /// At `NotEntered` the pass is as it was, but for the count of misses, and the caller asks again; for want of memory it
+    /// holds that history.
+    #[tactic(auto, using(crate::proofs::OwnPlaces::places_stay))]
+    pub fn account(&mut self) -> Result<Account, Unread>
+        ensures account { IfOk result (λ a. GivesAccount self.old a self.new) }
+        ensures lacks { IfErr result (λ why. LacksAccount self.old why self.new) }
+    {
+        let Some(standing) = self.entrance.stand(&self.prefix) else {
+            return Err(Unread::NotEntered);
+        };
+        let Standing { published, prefix } = standing;
+        self.prefix = prefix;
+        let account = published.account().share()?;
+        Ok(account)
     }
 
     // Looks at the published account without a lock, and is true where no housekeeping is due there at the clock's

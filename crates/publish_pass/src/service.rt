@@ -125,6 +125,7 @@ fn try_settle<R: Realm, W: Wait>(rt: &W, service: &Service<R>, pass: &mut Pass<R
     ensures all { IsTrue result → LearnsAll pass.old pass.new }
     ensures none { IsFalse result → pass.new ≡ pass.old }
     ensures passes { pass.new.passes ≡ R.passes }
+    ensures loaded { pass.new.loaded ≡ R.loaded }
 {
     let mut desk = service.desk.lock(rt);
     let met = desk.meet(pass);
@@ -190,14 +191,15 @@ impl<R: Realm> Pass<R> {
     }
 
     /// Learns what the desk holds. The pass then holds more of the history, or as much, and nothing else of it
-    /// changes. Where the service has one pass, there was nothing to learn, and it made all entries. It takes no
-    /// memory.
+    /// changes. Where the service has one pass, there was nothing to learn, and it made all entries that weren't
+    /// loaded. It takes no memory.
     ///
     /// That a pass among several then holds all that was published is said by no clause, since others may publish
     /// more as soon as the desk's lock is left.
     pub fn settle<W: Wait>(&mut self, rt: &W, service: &Service<R>)
         ensures all { LearnsAll self.old self.new }
         ensures passes { self.new.passes ≡ R.passes }
+        ensures loaded { self.new.loaded ≡ R.loaded }
     {
         for _ in rt.forever() {
             if try_settle(rt, service, self) {

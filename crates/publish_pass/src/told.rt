@@ -45,7 +45,7 @@ impl<R: Realm> Told<R> {
     /// The number of entries that are told. Each of them is one that may come next after those before it.
     pub fn front(&self) -> u64
         ensures count { result ≡ length self.now }
-        ensures history { IsHistory R.facts R.passes self.now }
+        ensures history { IsHistory R.facts R.passes R.loaded self.now }
     {
         self.prefix.len()
     }

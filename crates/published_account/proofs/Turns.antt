@@ -7,11 +7,11 @@ use Rattle.atomic_table.proofs.Lists.{at_set, at_snoc}
 use Rattle.logbook.specs.Pages.{Book}
 use Rattle.account_steps.specs.declared.facts.RealmFacts.{RealmFacts}
 use Rattle.published_account.specs.Pairs.{Shown}
-use Rattle.published_account.specs.Rules.{Fits, Keeps, GoesOn, Looks, Knows}
+use Rattle.published_account.specs.Rules.{Fits, Keeps, GoesOn, Looks, Names, Knows}
 use Rattle.published_account.proofs.Lists.{prefix_self, prefix_trans}
 
 pub goes_self : (x : Shown) → GoesOn x x
-goes_self x = record { pairs = prefix_self x.whole.pairs; book = refl; facts = refl; passes = refl }
+goes_self x = record { pairs = prefix_self x.whole.pairs; book = refl; facts = refl; passes = refl; loaded = refl }
 
 pub goes_trans : (x y z : Shown) → GoesOn x y → GoesOn y z → GoesOn x z
 goes_trans x y z p q = record {
@@ -19,6 +19,7 @@ goes_trans x y z p q = record {
   book = q.book ∙ p.book;
   facts = q.facts ∙ p.facts;
   passes = q.passes ∙ p.passes;
+  loaded = q.loaded ∙ p.loaded;
 }
 
 pub fits_on : (x y : Shown) (v : Option Shown) → GoesOn x y → Fits x v → Fits y v
@@ -49,6 +50,6 @@ merges seat v other w x views h at apart there =
     keeps_set x (set views seat w) other None (keeps_set x views seat w h wf) tt
 
 -- what a seat knows of the names goes for all that it sees
-pub knows_on : (b : Book) (f : RealmFacts) (n : ℕ) (v : Option Shown) (y : Shown) → Knows b f n v → Fits y v → (y.book ≡ b) × (y.whole.facts ≡ f) × (y.whole.passes ≡ n)
-knows_on b f n None y k fits = absurd k
-knows_on b f n (Some u) y k fits = (fits.book ∙ k.0, fits.facts ∙ k.1, fits.passes ∙ k.2)
+pub knows_on : (b : Book) (f : RealmFacts) (n l : ℕ) (v : Option Shown) (y : Shown) → Knows b f n l v → Fits y v → Names b f n l y
+knows_on b f n l None y k fits = absurd k
+knows_on b f n l (Some u) y k fits = (fits.book ∙ k.0, fits.facts ∙ k.1, fits.passes ∙ k.2, fits.loaded ∙ k.3)

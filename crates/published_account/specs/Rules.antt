@@ -13,6 +13,7 @@ pub record GoesOn (x y : Shown) : Type 0 where
   pub book : y.book ≡ x.book
   pub facts : y.whole.facts ≡ x.whole.facts
   pub passes : y.whole.passes ≡ x.whole.passes
+  pub loaded : y.whole.loaded ≡ x.whole.loaded
 
 -- what is published goes on where the view ends. A view is what its seat saw last, if anything
 abbrev pub Fits : Shown → Option Shown → Type 0
@@ -25,10 +26,10 @@ Keeps x views = (seat : ℕ) (v : Option Shown) → get_elem? views seat ≡ som
 abbrev pub Looks : Option Shown → Shown → Shown → Option Shown → Type 0
 Looks v x y w = (w ≡ Some y) × Fits y v
 
--- what is published is of this book, with these facts and so many passes
-abbrev pub Names : Book → RealmFacts → ℕ → Shown → Type 0
-Names b f n x = (x.book ≡ b) × (x.whole.facts ≡ f) × (x.whole.passes ≡ n)
+-- what is published is of this book, with these facts, so many passes and so many entries that were loaded
+abbrev pub Names : Book → RealmFacts → ℕ → ℕ → Shown → Type 0
+Names b f n k x = (x.book ≡ b) × (x.whole.facts ≡ f) × (x.whole.passes ≡ n) × (x.whole.loaded ≡ k)
 
--- the seat has seen something of this book, with these facts and so many passes
-abbrev pub Knows : Book → RealmFacts → ℕ → Option Shown → Type 0
-Knows b f n v = MatchOption v ⊥ (λ x. Names b f n x)
+-- the seat has seen something of this book, with these facts, so many passes and so many entries that were loaded
+abbrev pub Knows : Book → RealmFacts → ℕ → ℕ → Option Shown → Type 0
+Knows b f n k v = MatchOption v ⊥ (λ x. Names b f n k x)

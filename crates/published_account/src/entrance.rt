@@ -32,6 +32,15 @@ pub struct Found<R: Realm> {
     pub prefix: Prefix<R>,
 }
 
+/// What is published, and its history.
+#[derive(Drop)]
+pub struct Standing<R: Realm> {
+    /// What is published.
+    pub published: Published,
+    /// Its history.
+    pub prefix: Prefix<R>,
+}
+
 /// The reader of the published account. Contracts see it as the count of missed entries.
 #[derive(Drop)]
 pub struct Entrance<R: Realm> {
@@ -49,7 +58,7 @@ impl<R: Realm> Model for Entrance<R> {
 
     ghost view = { λ e. e.missed };
 
-    ghost invariant = { λ e. MatchOption e.window ⊥ (λ w. Knows R.book R.facts R.passes (sides.view w.place)) };
+    ghost invariant = { λ e. MatchOption e.window ⊥ (λ w. Knows R.book R.facts R.passes R.loaded (sides.view w.place)) };
 }
 
 // The answer at an account, with its body.
@@ -69,6 +78,19 @@ fn answer(
     Ok(answered)
 }
 
+// The history of what is published, or None where that is older than what is known.
+fn history_at<R: Realm>(shown: &Published, known: &Prefix<R>) -> Option<Prefix<R>>
+    requires names { Names R.book R.facts R.passes R.loaded shown.now }
+    ensures begins { IfSome result (λ p. IsPrefix known.now p × IsHistory R.facts R.passes R.loaded p) }
+    ensures pairs { IfSome result (λ p. shown.now.whole.pairs ≡ p) }
+{
+    let history = shown.history::<R>();
+    if history.len() < known.len() {
+        return None;
+    }
+    Some(known.joined(&history))
+}
+
 // The answer at what is published, or None where that is older than what is known.
 fn answer_at<R: Realm>(
     shown: &Published,
@@ -77,19 +99,15 @@ fn answer_at<R: Realm>(
     ask: &Ask,
     draws: &mut DrawLine,
 ) -> Option<Found<R>>
-    requires names { Names R.book R.facts R.passes shown.now }
+    requires names { Names R.book R.facts R.passes R.loaded shown.now }
     requires proper { IsProper R.facts ask.now }
     requires reads { changes_account ask.now.body ≡ false }
     requires line { IsLineOf R.facts draws.old }
-    ensures begins { IfSome result (λ f. IsPrefix known.now f.prefix × IsHistory R.facts R.passes f.prefix) }
+    ensures begins { IfSome result (λ f. IsPrefix known.now f.prefix × IsHistory R.facts R.passes R.loaded f.prefix) }
     ensures found { IfSome result (λ f. Settles R.facts (entries_of f.prefix) ask.now draws.old f.answered draws.new) }
     ensures missed { IfNone result (draws.new ≡ draws.old) }
 {
-    let history = shown.history::<R>();
-    if history.len() < known.len() {
-        return None;
-    }
-    let prefix = known.joined(&history);
+    let prefix = history_at(shown, known)?;
     let answered = answer(alloc, shown.account(), ask, draws);
     Some(Found { answered, prefix })
 }
@@ -103,12 +121,12 @@ fn look<R: Realm>(
     ask: &Ask,
     draws: &mut DrawLine,
 ) -> (Window, Option<Found<R>>)
-    requires window { Knows R.book R.facts R.passes (view window.place) }
+    requires window { Knows R.book R.facts R.passes R.loaded (view window.place) }
     requires proper { IsProper R.facts ask.now }
     requires reads { changes_account ask.now.body ≡ false }
     requires line { IsLineOf R.facts draws.old }
-    ensures window { Knows R.book R.facts R.passes (view result.0.place) }
-    ensures begins { IfSome result.1 (λ f. IsPrefix known.now f.prefix × IsHistory R.facts R.passes f.prefix) }
+    ensures window { Knows R.book R.facts R.passes R.loaded (view result.0.place) }
+    ensures begins { IfSome result.1 (λ f. IsPrefix known.now f.prefix × IsHistory R.facts R.passes R.loaded f.prefix) }
     ensures found { IfSome result.1 (λ f. Settles R.facts (entries_of f.prefix) ask.now draws.old f.answered draws.new) }
     ensures missed { IfNone result.1 (draws.new ≡ draws.old) }
 {
@@ -128,15 +146,14 @@ fn look<R: Realm>(
 // The history of what is published, where no housekeeping is due there at the clock's answer; None where it is, or
 // where the history is older than what is known.
 fn kept_at<R: Realm>(shown: &Published, known: &Prefix<R>, moment: u64) -> Option<Prefix<R>>
-    requires names { Names R.book R.facts R.passes shown.now }
-    ensures begins { IfSome result (λ p. IsPrefix known.now p × IsHistory R.facts R.passes p) }
+    requires names { Names R.book R.facts R.passes R.loaded shown.now }
+    ensures begins { IfSome result (λ p. IsPrefix known.now p × IsHistory R.facts R.passes R.loaded p) }
     ensures kept { IfSome result (λ p. housekeeping_of (entries_of p) moment ≡ None) }
 {
-    let history = shown.history::<R>();
-    if history.len() < known.len() || shown.account().housekeeping(moment).is_some() {
+    if shown.account().housekeeping(moment).is_some() {
         return None;
     }
-    Some(known.joined(&history))
+    history_at(shown, known)
 }
 
 // Enters once, looks whether housekeeping is due, and leaves. It is None where it is, where the account was not
@@ -146,9 +163,9 @@ fn look_for_house<R: Realm>(
     known: &Prefix<R>,
     moment: u64,
 ) -> (Window, Option<Prefix<R>>)
-    requires window { Knows R.book R.facts R.passes (view window.place) }
-    ensures window { Knows R.book R.facts R.passes (view result.0.place) }
-    ensures begins { IfSome result.1 (λ p. IsPrefix known.now p × IsHistory R.facts R.passes p) }
+    requires window { Knows R.book R.facts R.passes R.loaded (view window.place) }
+    ensures window { Knows R.book R.facts R.passes R.loaded (view result.0.place) }
+    ensures begins { IfSome result.1 (λ p. IsPrefix known.now p × IsHistory R.facts R.passes R.loaded p) }
     ensures kept { IfSome result.1 (λ p. housekeeping_of (entries_of p) moment ≡ None) }
 {
     match window.enter_as::<Sees>() {
@@ -160,10 +177,43 @@ fn look_for_house<R: Realm>(
     }
 }
 
+// What is published, or None where that is older than what is known.
+fn stand_at<R: Realm>(published: Published, known: &Prefix<R>) -> Option<Standing<R>>
+    requires names { Names R.book R.facts R.passes R.loaded published }
+    ensures names { IfSome result (λ s. Names R.book R.facts R.passes R.loaded s.published) }
+    ensures begins { IfSome result (λ s. IsPrefix known.now s.prefix × IsHistory R.facts R.passes R.loaded s.prefix) }
+    ensures pairs { IfSome result (λ s. s.published.whole.pairs ≡ s.prefix) }
+{
+    let prefix = history_at(&published, known)?;
+    Some(Standing { published, prefix })
+}
+
+// Enters once, shares what is shown, and leaves. It is None where the account was not entered or could not be shared, or
+// is older than what is known.
+fn look_at_all<R: Realm>(window: Window, known: &Prefix<R>) -> (Window, Option<Standing<R>>)
+    requires window { Knows R.book R.facts R.passes R.loaded (view window.place) }
+    ensures window { Knows R.book R.facts R.passes R.loaded (view result.0.place) }
+    ensures names { IfSome result.1 (λ s. Names R.book R.facts R.passes R.loaded s.published) }
+    ensures begins { IfSome result.1 (λ s. IsPrefix known.now s.prefix × IsHistory R.facts R.passes R.loaded s.prefix) }
+    ensures pairs { IfSome result.1 (λ s. s.published.whole.pairs ≡ s.prefix) }
+{
+    match window.enter_as::<Sees>() {
+        Err(window) => (window, None),
+        Ok(reading) => {
+            let shown = reading.get().share();
+            let window = reading.leave();
+            match shown {
+                Ok(shown) => (window, stand_at(shown, known)),
+                Err(_) => (window, None),
+            }
+        }
+    }
+}
+
 impl<R: Realm> Entrance<R> {
     /// An entrance that has missed nothing.
     pub fn new(window: Window) -> Entrance<R>
-        requires { Knows R.book R.facts R.passes (view window.place) }
+        requires { Knows R.book R.facts R.passes R.loaded (view window.place) }
         ensures { result ≡ 0 }
     {
         Entrance {
@@ -192,7 +242,7 @@ impl<R: Realm> Entrance<R> {
         requires proper { IsProper R.facts ask.now }
         requires reads { changes_account ask.now.body ≡ false }
         requires line { IsLineOf R.facts draws.old }
-        ensures begins { IfSome result (λ f. IsPrefix known.now f.prefix × IsHistory R.facts R.passes f.prefix) }
+        ensures begins { IfSome result (λ f. IsPrefix known.now f.prefix × IsHistory R.facts R.passes R.loaded f.prefix) }
         ensures entered { IfSome result (λ f. self.new ≡ self.old) }
         ensures found { IfSome result (λ f. Settles R.facts (entries_of f.prefix) ask.now draws.old f.answered draws.new) }
         ensures missed { IfNone result (Rose self.old self.new × (draws.new ≡ draws.old)) }
@@ -206,11 +256,30 @@ impl<R: Realm> Entrance<R> {
         found
     }
 
+    /// Enters the published account once, shares it and leaves: its history begins with the known one. At `None` the
+    /// count of missed entries rose, or stands at its last value: the account was not entered or could not be shared,
+    /// or is shorter than the known history.
+    pub fn stand(&mut self, known: &Prefix<R>) -> Option<Standing<R>>
+        ensures names { IfSome result (λ s. Names R.book R.facts R.passes R.loaded s.published) }
+        ensures begins { IfSome result (λ s. IsPrefix known.now s.prefix × IsHistory R.facts R.passes R.loaded s.prefix) }
+        ensures pairs { IfSome result (λ s. s.published.whole.pairs ≡ s.prefix) }
+        ensures entered { IfSome result (λ s. self.new ≡ self.old) }
+        ensures missed { IfNone result (Rose self.old self.new) }
+    {
+        let window = self.window.take().unwrap();
+        let (window, standing) = look_at_all(window, known);
+        self.window = Some(window);
+        if standing.is_none() {
+            self.missed = self.missed.saturating_add(1);
+        }
+        standing
+    }
+
     /// Enters the published account once, without a lock, and looks whether housekeeping is due there at the clock's
     /// answer. Where it isn't, this is the published history, which the known one begins. At `None` it may be due. It
     /// takes no memory, and no miss is counted.
     pub fn kept_house(&mut self, known: &Prefix<R>, moment: u64) -> Option<Prefix<R>>
-        ensures begins { IfSome result (λ p. IsPrefix known.now p × IsHistory R.facts R.passes p) }
+        ensures begins { IfSome result (λ p. IsPrefix known.now p × IsHistory R.facts R.passes R.loaded p) }
         ensures kept { IfSome result (λ p. housekeeping_of (entries_of p) moment ≡ None) }
         ensures same { self.new ≡ self.old }
     {

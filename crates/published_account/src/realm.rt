@@ -3,8 +3,8 @@ use std::marker::Brand;
 use std::sync::ledger::Ledger;
 
 /// What the values of one opening have in common: the name and the parts of the ledger, the book in which
-/// the history stands, the facts of the account, and the number of passes. It has no call, and contracts
-/// alone see its members.
+/// the history stands, the facts of the account, the number of passes, and how many entries were loaded. It
+/// has no call, and contracts alone see its members.
 pub trait Realm: Ledger {
     ghost use Rattle.std.specs.Prelude.{ℕ};
     ghost use Rattle.logbook.specs.Pages.{Book};
@@ -15,6 +15,8 @@ pub trait Realm: Ledger {
     ghost facts: { RealmFacts };
 
     ghost passes: { ℕ };
+
+    ghost loaded: { ℕ };
 }
 
 impl Realm for Brand {
@@ -25,4 +27,6 @@ impl Realm for Brand {
     ghost facts = { record { account = []; region = []; root = []; boot = 0; identities = []; ceiling = [] } };
 
     ghost passes = { 0 };
+
+    ghost loaded = { 0 };
 }

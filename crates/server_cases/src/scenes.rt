@@ -96,7 +96,7 @@ const STILL_OPEN: Pair<'static> = Pair {
 // What came of an order.
 fn outcome_text(alloc: Global, outcome: Outcome) -> Result<String, Failure> {
     let text = match outcome {
-        Outcome::Served(served) => {
+        Outcome::Served(served, _kept) => {
             let Served {
                 connections,
                 front,

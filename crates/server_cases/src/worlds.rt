@@ -2,6 +2,7 @@
 ghost use Rattle.std.specs.Prelude.{◌≡◌, IfOk, vec_len};
 ghost use Rattle.session_front.specs.Callers.{IsOfAccount};
 
+use account_core::Account;
 use account_steps::RealmFacts;
 use authority::{IdentityList, PolicyList};
 use kms_io::{Door, Ear, Gate, MemoryClock};
@@ -112,14 +113,16 @@ impl<'a, W: Wait> World<'a, W> {
             address: "memory",
             workers,
             connections: u64::from(connections),
+            keeps: false,
         };
         let mut clocks = clocks(self.alloc, later)?;
         let facts = self.facts.copy()?;
         let trust = trust(self.alloc, facts.account)?;
+        let account = Account::empty(self.alloc, facts)?;
         Ok(serve(
             self.rt,
             self.alloc,
-            facts,
+            account,
             &trust,
             &order,
             &mut clocks,

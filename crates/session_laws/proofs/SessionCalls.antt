@@ -1,5 +1,7 @@
 -- What sessions and workers do is calls of their passes; so what holds of calls holds of a run.
-use Rattle.std.proofs.Common.{◌≡◌, ◌<◌, ℕ, List, [], ◌∷◌, Bool, map, All, Result, Ok, Err, refl, sym, ap, ◌∙◌, subst, zero, suc}
+use Rattle.std.proofs.Common.{◌≡◌, ◌<◌, ◌≤◌, ℕ, List, [], ◌∷◌, Bool, map, All, Result, Ok, Err, refl, sym, ap, ◌∙◌, subst, zero, suc, inl, arith, lt_of_not-le}
+use mathlib.Core.Logic.{dite}
+use native.Mathlib.Decide.{dec_le}
 use Rattle.std.proofs.lemmas.List.Elements.{All-nil, All-cons, All-head, All-tail, All-append}
 use Rattle.kms_names.specs.Moment.{year_10000}
 use Rattle.kms_json.specs.declared.asks.Ask.{Ask}
@@ -10,8 +12,8 @@ use Rattle.account_core.specs.Decide.{IsProper}
 use Rattle.account_laws.proofs.LawFacts.{no_iv_again as account_law}
 use Rattle.http_front.specs.Message.{Message}
 use Rattle.published_account.specs.Answers.{Answer}
-use Rattle.publish_pass.specs.Pass.{Pass, Learns, fresh_pass, fresh_passes}
-use Rattle.pass_laws.specs.Calls.{Call, read, wanted_to_read, changed, wanted_to_change, wanted_to_keep_house, learnt, Calls, no_call, one_more}
+use Rattle.publish_pass.specs.Pass.{Pass, Learns, Meets, fresh_pass, fresh_passes}
+use Rattle.pass_laws.specs.Calls.{Call, read, wanted_to_read, changed, wanted_to_change, wanted_to_keep_house, missed, learnt, Calls, no_call, one_more}
 use Rattle.pass_laws.proofs.CallFacts.{calls_facts, calls_append, calls_lawful, not_twice}
 use Rattle.session_front.specs.declared.trust.Trust.{Trust}
 use Rattle.session_front.specs.declared.ends.SessionEnd.TheVariants.{Ended, Closed, CutOff, ReadFault, WriteFault, NoMemory}
@@ -24,7 +26,8 @@ use Rattle.session_front.specs.Early.{ask_of}
 use Rattle.session_front.proofs.Asks.{is_ask_at}
 use Rattle.kms_session.proofs.Proper.{proper_at}
 use Rattle.kms_server.specs.Work.{WorkerState, Attends, TakesOne, WorkerRun, begins as starts, goes_on as takes, Works, takes_all, gives_up}
-use Rattle.kms_server.specs.Crew.{Pairwise, none, both, Settles}
+use Rattle.kms_server.specs.declared.crew.Kept.{Kept}
+use Rattle.kms_server.specs.Crew.{Pairwise, none, both, Settles, KeepsOf, keeps_nothing, keeps_whole, lacks_memory, Keeps}
 use Rattle.session_laws.specs.Calls.{TurnsAreCalls, RunsAreCalls, SessionsAreCalls, WorkersAreCalls, ServersAreCalls}
 use Rattle.session_laws.specs.Laws.{RunsKeepLawful, OneSessionRepeatsNoIv}
 
@@ -121,10 +124,29 @@ workers_are_calls trust connections start end of (gives_up {last = last} run siz
 
 -- ---- a server
 
-same_facts : (facts : RealmFacts) (passes n : ℕ) → All (λ (pass : Pass). pass.facts ≡ facts) (fresh_passes facts passes n)
-same_facts facts passes zero = All-nil (λ (pass : Pass). pass.facts ≡ facts)
-same_facts facts passes (suc n) = All-append (λ (pass : Pass). pass.facts ≡ facts) (fresh_passes facts passes n) (fresh_pass facts passes (suc n) ∷ []) (same_facts facts passes n)
-    (All-cons (λ (pass : Pass). pass.facts ≡ facts) (fresh_pass facts passes (suc n)) [] refl (All-nil (λ (pass : Pass). pass.facts ≡ facts)))
+same_facts : (facts : RealmFacts) (passes : ℕ) (loaded : List Entry) (n : ℕ) → All (λ (pass : Pass). pass.facts ≡ facts) (fresh_passes facts passes loaded n)
+same_facts facts passes loaded zero = All-nil (λ (pass : Pass). pass.facts ≡ facts)
+same_facts facts passes loaded (suc n) = All-append (λ (pass : Pass). pass.facts ≡ facts) (fresh_passes facts passes loaded n) (fresh_pass facts passes loaded (suc n) ∷ []) (same_facts facts passes loaded n)
+    (All-cons (λ (pass : Pass). pass.facts ≡ facts) (fresh_pass facts passes loaded (suc n)) [] refl (All-nil (λ (pass : Pass). pass.facts ≡ facts)))
+
+-- a pass that meets more of the history, and may have missed the published account before
+meets_calls : (s u : Pass) → Meets s u → Calls s u
+meets_calls s u met = dite (dec_le u.missed s.missed)
+    (λ (le : u.missed ≤ s.missed). let same : u.missed ≡ s.missed = let more = met.missed in omega (arith, more) in
+    one_more u.history no_call (learnt (record {
+      history = met.history;
+      others = met.others ∙ ap (λ (n : ℕ). let t : Pass = record s { history = u.history; missed = n } in t) same;
+      leads = met.leads;
+    }) refl))
+    (λ (more : _). let mid : Pass = record s { missed = u.missed } in
+    one_more u.history
+    (one_more s.history no_call (missed (record { others = refl; rose = (met.missed, inl (lt_of_not-le more)) }) refl))
+    (learnt (record { history = met.history; others = met.others; leads = met.leads }) refl))
+
+keeps_calls : (facts : RealmFacts) (wanted : Bool) (account : Kept) (s t : Pass) → KeepsOf facts wanted account s t → Calls s t
+keeps_calls facts wanted account s t keeps_nothing = no_call
+keeps_calls facts wanted account s t (keeps_whole kept met of are) = meets_calls s t met
+keeps_calls facts wanted account s t (lacks_memory met) = meets_calls s t met
 
 module _ (facts : RealmFacts) (trust : Trust) (connections : ℕ) (of : IsOfAccount facts.account trust) where
   abbrev Did : Pass → WorkerState → Type 0
@@ -140,14 +162,29 @@ module _ (facts : RealmFacts) (trust : Trust) (connections : ℕ) (of : IsOfAcco
       both (calls_append first.pass end.pass settled.pass (workers_are_calls trust connections first end here work) (learns end.pass settled.pass settles.learns))
       (crew_calls _ _ _ (All-tail P first.pass _ same) works all)
 
+-- the account is kept by the first of them
+kept_calls : (facts : RealmFacts) (wanted : Bool) (account : Kept) (fresh : List Pass) (settled last : List WorkerState)
+    → Pairwise (λ (first : Pass) (worker : WorkerState). Calls first worker.pass) fresh settled → Keeps facts wanted account settled last
+    → Pairwise (λ (first : Pass) (worker : WorkerState). Calls first worker.pass) fresh last
+kept_calls facts wanted account [] [] last did keeps = absurd keeps
+kept_calls facts wanted account [] (s ∷ ss) last did keeps = elim did [ ]
+kept_calls facts wanted account (p ∷ ps) [] last did keeps = elim did [ ]
+kept_calls facts wanted account (p ∷ ps) (s ∷ ss) [] did keeps = absurd keeps
+kept_calls facts wanted account (p ∷ ps) (s ∷ ss) (t ∷ ts) (both first others) keeps =
+    both (calls_append p s.pass t.pass first (keeps_calls facts wanted account s.pass t.pass keeps.0))
+    (subst (Pairwise (λ (first : Pass) (worker : WorkerState). Calls first worker.pass) ps) (sym keeps.2) others)
+
 pub servers_are_calls : ServersAreCalls
-servers_are_calls facts trust wanted served old new of is =
+servers_are_calls first trust wanted served kept old new of is =
     let are = is.is_crew.passes_are in
-    let fresh : List Pass = fresh_passes facts wanted.workers wanted.workers in
+    let facts = first.facts in
     let same : All (λ (pass : Pass). pass.facts ≡ facts) (map (λ (w : WorkerState). w.pass) is.crew) =
-    subst (All (λ (pass : Pass). pass.facts ≡ facts)) (sym are) (same_facts facts wanted.workers wanted.workers) in
-    subst (λ (passes : List Pass). Pairwise (λ (first : Pass) (worker : WorkerState). Calls first worker.pass) passes is.finishes.last) are
-    (crew_calls facts trust wanted.connections of is.crew is.ends is.finishes.last same is.work is.finishes.settles)
+    subst (All (λ (pass : Pass). pass.facts ≡ facts)) (sym are) (same_facts facts wanted.workers first.entries wanted.workers) in
+    let fresh : List Pass = fresh_passes facts wanted.workers first.entries wanted.workers in
+    kept_calls facts wanted.keeps kept fresh is.finishes.settled is.finishes.last
+    (subst (λ (passes : List Pass). Pairwise (λ (first : Pass) (worker : WorkerState). Calls first worker.pass) passes is.finishes.settled) are
+    (crew_calls facts trust wanted.connections of is.crew is.ends is.finishes.settled same is.work is.finishes.settles))
+    is.finishes.keeps
 
 -- ---- what holds of calls
 

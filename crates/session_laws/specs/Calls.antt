@@ -1,7 +1,7 @@
 -- What sessions and workers do is calls of their passes.
 use Rattle.std.specs.Prelude.{ℕ, ◌<◌, List, Bool}
 use Rattle.kms_names.specs.Moment.{year_10000}
-use Rattle.account_steps.specs.declared.facts.RealmFacts.{RealmFacts}
+use Rattle.account_core.specs.Account.{Account}
 use Rattle.publish_pass.specs.Pass.{Pass, fresh_passes}
 use Rattle.pass_laws.specs.Calls.{Calls}
 use Rattle.session_front.specs.declared.trust.Trust.{Trust}
@@ -10,6 +10,7 @@ use Rattle.session_front.specs.Callers.{IsOfAccount}
 use Rattle.session_front.specs.Items.{Item}
 use Rattle.kms_session.specs.Run.{Turn, SessionRun}
 use Rattle.kms_session.specs.Session.{Outside, EndsBy}
+use Rattle.kms_server.specs.declared.crew.Kept.{Kept}
 use Rattle.kms_server.specs.declared.server.Served.{Served}
 use Rattle.kms_server.specs.Work.{WorkerState, Works}
 use Rattle.kms_server.specs.Crew.{Pairwise}
@@ -35,9 +36,9 @@ abbrev pub WorkersAreCalls : Type 0
 WorkersAreCalls =
     (trust : Trust) (connections : ℕ) (start end : WorkerState) → IsOfAccount start.pass.facts.account trust → Works trust connections start end → Calls start.pass end.pass
 
--- a server: what each of its workers did with one of the passes 1 to n of a service, from the first call to the last
+-- a server: what each of its workers did with one of the passes 1 to n of a service, which began with the entries of this account, from the first call to the last
 abbrev pub ServersAreCalls : Type 0
 ServersAreCalls =
-    (facts : RealmFacts) (trust : Trust) (wanted : Wanted) (served : Served) (old new : Surroundings) → IsOfAccount facts.account trust
-    → (serves : ServesDoor facts trust wanted served old new)
-    → Pairwise (λ (first : Pass) (worker : WorkerState). Calls first worker.pass) (fresh_passes facts wanted.workers wanted.workers) serves.finishes.last
+    (first : Account) (trust : Trust) (wanted : Wanted) (served : Served) (kept : Kept) (old new : Surroundings) → IsOfAccount first.facts.account trust
+    → (serves : ServesDoor first trust wanted served kept old new)
+    → Pairwise (λ (fresh : Pass) (worker : WorkerState). Calls fresh worker.pass) (fresh_passes first.facts wanted.workers first.entries wanted.workers) serves.finishes.last

@@ -126,7 +126,7 @@ fn serve_opening<W: Wait, R: Realm>(
     link: &mut MemoryLink,
 ) -> Result<SessionEnd, Failure>
     requires ledger { (opening.name ≡ R.name) × (opening.parts ≡ R.parts) }
-    requires names { Names R.book R.facts R.passes opening.shown }
+    requires names { Names R.book R.facts R.passes R.loaded opening.shown }
     requires passes { opening.shown.whole.passes ≡ 1 }
     requires trust { IsOfAccount opening.shown.whole.facts.account trust.now }
 {

@@ -1,7 +1,7 @@
 use Rattle.std.proofs.Common.{Some, map, slice_set, subst, sym, refl, arith}
 use Rattle.kms_words.specs.declared.asked.Asked.{Asked}
-use Rattle.kms_words.specs.Words.{source_in, shown}
-use Rattle.kms_program.specs.Program.{around, everything, first_of, Serves, Explains, FromSource, Does}
+use Rattle.kms_words.specs.Words.{source_in, journal_in, shown}
+use Rattle.kms_program.specs.Program.{around, everything, first_of, Serves, Explains, Exports, WithSession, Does}
 use Rattle.kms_program.proofs.Clocks.{in_first_place, others_rest}
 use Rattle.kms_program.proofs.program.obey.Goals as goal
 
@@ -15,11 +15,13 @@ returns-in-Run g c =
     let door = g.D.Door.shows c.args.door.now in
     let before = g.L.Link.shows c.args.link.now in
     let after = g.L.Link.shows held.new.link in
-    let source = source_in c.in-Run.words in
+    let session = c.in-Run.session in
+    let source = source_in session.words in
+    let journal = journal_in session in
     let status = held.result in
     subst (λ (asked : Asked). Does (Some (shown asked)) status (everything before old_shelf door (map told clocks)) (everything after new_shelf door (map told (slice_set clocks 0 held.new.clock)))) (sym c.in-Run.is) (
       in_first_place told clocks c.index_mut-clock.result.now held.new.clock
-          (λ old new. FromSource source status (around before old old_shelf) (around after new new_shelf) (λ settings. Serves settings status (around before old old_shelf) (around after new new_shelf)))
+          (λ old new. WithSession source journal status (around before old old_shelf) (around after new new_shelf) (λ settings account met. Serves account settings.trust status met (around after new new_shelf)))
           (omega arith) c.index_mut-clock.ensures.value held.ensures,
       record { door = refl; clocks = others_rest told clocks held.new.clock },
     )
@@ -34,12 +36,35 @@ returns-in-Explain g c =
     let door = g.D.Door.shows c.args.door.now in
     let before = g.L.Link.shows c.args.link.now in
     let after = g.L.Link.shows held.new.link in
-    let source = source_in c.in-Explain.words in
+    let session = c.in-Explain.session in
+    let source = source_in session.words in
+    let journal = journal_in session in
     let status = held.result in
     subst (λ (asked : Asked). Does (Some (shown asked)) status (everything before old_shelf door (map told clocks)) (everything after new_shelf door (map told (slice_set clocks 0 held.new.clock)))) (sym c.in-Explain.is) (
       in_first_place told clocks c.index_mut-clock-in-Explain.result.now held.new.clock
-          (λ old new. FromSource source status (around before old old_shelf) (around after new new_shelf) (λ settings. Explains settings status (around before old old_shelf) (around after new new_shelf)))
+          (λ old new. WithSession source journal status (around before old old_shelf) (around after new new_shelf) (λ settings account met. Explains account settings.trust status met (around after new new_shelf)))
           (omega arith) c.index_mut-clock-in-Explain.ensures.value held.ensures,
+      record { door = refl; clocks = others_rest told clocks held.new.clock },
+    )
+
+pub returns-in-Export : goal.returns-in-Export
+returns-in-Export g c =
+    let told = g.C.Clock.told in
+    let clocks = c.args.clocks.now.items in
+    let held = c.hold_session-in-Export in
+    let old_shelf = g.F.Files.shows c.args.files.now in
+    let new_shelf = g.F.Files.shows held.new.files in
+    let door = g.D.Door.shows c.args.door.now in
+    let before = g.L.Link.shows c.args.link.now in
+    let after = g.L.Link.shows held.new.link in
+    let session = c.in-Export.session in
+    let source = source_in session.words in
+    let journal = journal_in session in
+    let status = held.result in
+    subst (λ (asked : Asked). Does (Some (shown asked)) status (everything before old_shelf door (map told clocks)) (everything after new_shelf door (map told (slice_set clocks 0 held.new.clock)))) (sym c.in-Export.is) (
+      in_first_place told clocks c.index_mut-clock-in-Export.result.now held.new.clock
+          (λ old new. WithSession source journal status (around before old old_shelf) (around after new new_shelf) (λ settings account met. Exports account settings.trust status met (around after new new_shelf)))
+          (omega arith) c.index_mut-clock-in-Export.ensures.value held.ensures,
       record { door = refl; clocks = others_rest told clocks held.new.clock },
     )
 

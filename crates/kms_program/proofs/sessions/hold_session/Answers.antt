@@ -1,20 +1,17 @@
-use Rattle.std.proofs.Common.{subst, sym, refl}
-use Rattle.kms_words.specs.declared.asked.SessionWords.{SessionWords}
-use Rattle.kms_words.specs.Words.{source_in}
-use Rattle.kms_program.specs.Program.{around, Conducts, FromSource}
+use Rattle.std.proofs.Common.{subst}
+use Rattle.kms_io.specs.Wire.{Wire}
+use Rattle.kms_words.specs.Words.{journal_in}
+use Rattle.kms_program.specs.Program.{around, Conducts, Begins, with_settings}
 use Rattle.kms_program.proofs.sessions.hold_session.Goals as goal
 
-pub returns-in-Values : goal.returns-in-Values
-returns-in-Values g c =
-    let shelf = g.F.Files.shows c.args.files.now in
-    let old = around (g.L.Link.shows c.args.link.now) (g.C.Clock.told c.args.clock.now) shelf in
-    let new = around (g.L.Link.shows c.with_values.new.link) (g.C.Clock.told c.with_values.new.clock) shelf in
-    let status = c.with_values.result in
-    subst (λ (words : SessionWords). FromSource (source_in words) status old new (λ settings. Conducts c.args.task settings status old new)) (sym c.in-Values.is) (c.with_values.ensures shelf, refl)
-
-pub returns-in-File : goal.returns-in-File
-returns-in-File g c =
-    let old = around (g.L.Link.shows c.args.link.now) (g.C.Clock.told c.args.clock.now) (g.F.Files.shows c.args.files.now) in
-    let new = around (g.L.Link.shows c.with_file.new.link) (g.C.Clock.told c.with_file.new.clock) (g.F.Files.shows c.with_file.new.files) in
-    let status = c.with_file.result in
-    subst (λ (words : SessionWords). FromSource (source_in words) status old new (λ settings. Conducts c.args.task settings status old new)) (sym c.in-File.is) c.with_file.ensures
+pub returns-in-Ok : goal.returns-in-Ok
+returns-in-Ok g c =
+    let met = g.F.Files.shows c.obtain_settings.new.files in
+    let told = g.C.Clock.told c.args.clock.now in
+    let after = around (g.L.Link.shows c.begin_session.new.link) (g.C.Clock.told c.begin_session.new.clock) (g.F.Files.shows c.begin_session.new.files) in
+    let settings = c.in-Ok.settings in
+    let found = c.in-Ok.ensures.settings in
+    let status = c.begin_session.result in
+    with_settings settings met found.0 c.in-Ok.ensures.policies found.1
+    (subst (λ (wire : Wire). Begins settings.facts (journal_in c.args.session) status (around wire told met) after (λ account here. Conducts c.args.task account settings.trust status here after)) found.2
+    c.begin_session.ensures)

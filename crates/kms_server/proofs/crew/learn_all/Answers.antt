@@ -1,7 +1,7 @@
 use Rattle.std.proofs.Common.{◌∷◌, ◌≡◌, All, map, refl, sym, subst, arith}
 use Rattle.std.proofs.lemmas.List.Elements.{All-map}
 use mathlib.Core.List.{IsPrefix}
-use Rattle.kms_server.specs.Crew.{Pairwise, both, Settles, FirstIsLongest}
+use Rattle.kms_server.specs.Crew.{Pairwise, both, Settles, HoldsAll}
 use Rattle.kms_server.specs.States.{state_of}
 use Rattle.kms_server.proofs.Crews.{settled_all, first_and_rest}
 use Rattle.kms_server.proofs.crew.learn_all.Goals as goal
@@ -23,8 +23,5 @@ returns-clause-longest g c =
     let seen = state_of g.C.Clock.told g.E.Ear.shows in
     let rest = c.remove-first.new.self.items in
     let history = c.learn_from.new.pass.history in
-    subst (λ workers. FirstIsLongest g.R.Realm.facts g.R.Realm.passes c.seen-front.result (map seen workers)) (sym c.put_first.ensures.items) (record {
-      is_history = c.seen-front.ensures.history;
-      size = c.seen-front.ensures.number;
-      begins = All-map (λ worker. IsPrefix worker.pass.history history) seen rest (subst (λ workers. All (λ worker. IsPrefix worker.pass.history history) workers) c.deref.ensures.value c.learn_from.ensures.begins);
-    })
+    subst (λ workers. HoldsAll (map seen workers)) (sym c.put_first.ensures.items)
+    (All-map (λ worker. IsPrefix worker.pass.history history) seen rest (subst (λ workers. All (λ worker. IsPrefix worker.pass.history history) workers) c.deref.ensures.value c.learn_from.ensures.begins))

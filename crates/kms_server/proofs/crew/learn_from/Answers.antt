@@ -3,8 +3,11 @@ use Rattle.std.proofs.lemmas.List.{get_or_default}
 use mathlib.Core.List.{IsPrefix}
 use Rattle.account_steps.specs.History.{Entry}
 use Rattle.published_account.proofs.Lists.{prefix_trans}
-use Rattle.publish_pass.proofs.Meeting.{learns_trans}
+use Rattle.publish_pass.proofs.Meeting.{learns_self, learns_trans}
 use Rattle.kms_server.proofs.crew.learn_from.Goals as goal
+
+pub loop-worker-init : goal.loop-worker-init
+loop-worker-init g c = record { learns = learns_self _; begins = λ k d lt. absurd (omega (arith, lt)) }
 
 pub loop-worker-preserved : goal.loop-worker-preserved
 loop-worker-preserved g c =

@@ -6,7 +6,7 @@ use Rattle.publish_pass.specs.Pass.{fresh_passes}
 use Rattle.kms_server.specs.Work.{Works}
 use Rattle.kms_server.specs.Crew.{Pairwise, taken_by, Finishes}
 use Rattle.kms_server.specs.States.{state_of}
-use Rattle.kms_server.proofs.Crews.{length_fresh, taken_few, map_map, written_back}
+use Rattle.kms_server.proofs.Crews.{taken_few, map_map, written_back}
 use Rattle.kms_server.proofs.server.serve_with.Goals as goal
 
 pub gather-requires-clause-ears : goal.gather-requires-clause-ears
@@ -14,13 +14,13 @@ gather-requires-clause-ears g c =
     let gains = c.in-Open.ensures.1 in
     let ears : c.open.new.ears.items ≡ gains.ears = gains.list ∙ ap (λ before. before ++ gains.ears) c.new-ears.ensures.items in
     let number : length c.open.new.ears.items ≡ c.args.order.now.workers = ap length ears ∙ gains.number in
-    let passes : length c.args.passes.items ≡ g.R.Realm.passes = ap length c.requires.passes ∙ length_fresh g.R.Realm.facts g.R.Realm.passes g.R.Realm.passes in
+    let passes : length c.args.passes.items ≡ g.R.Realm.passes = sym c.args.passes.ok.0 ∙ c.requires.passes in
     let workers : g.R.Realm.passes ≡ c.args.order.now.workers = c.requires.workers.0 in
     omega (arith, c.open.new.ears.ok, c.args.passes.ok)
 
 pub gather-requires-clause-clocks : goal.gather-requires-clause-clocks
 gather-requires-clause-clocks g c =
-    let passes : length c.args.passes.items ≡ g.R.Realm.passes = ap length c.requires.passes ∙ length_fresh g.R.Realm.facts g.R.Realm.passes g.R.Realm.passes in
+    let passes : length c.args.passes.items ≡ g.R.Realm.passes = sym c.args.passes.ok.0 ∙ c.requires.passes in
     let workers : g.R.Realm.passes ≡ c.args.order.now.workers = c.requires.workers.0 in
     let few : c.args.order.now.workers ≤ 64 = c.requires.workers.2 in
     omega (arith, c.args.passes.ok, c.requires.clocks)
@@ -33,7 +33,7 @@ gather-requires-clause-new g c =
 
 pub work_all-requires-clause-some : goal.work_all-requires-clause-some
 work_all-requires-clause-some g c = λ _ _.
-    let passes : length c.args.passes.items ≡ g.R.Realm.passes = ap length c.requires.passes ∙ length_fresh g.R.Realm.facts g.R.Realm.passes g.R.Realm.passes in
+    let passes : length c.args.passes.items ≡ g.R.Realm.passes = sym c.args.passes.ok.0 ∙ c.requires.passes in
     let workers : g.R.Realm.passes ≡ c.args.order.now.workers = c.requires.workers.0 in
     let some : 0 < c.args.order.now.workers = c.requires.workers.1 in
     omega (arith, c.args.passes.ok, c.gather.ensures.size, c.as_mut_slice.ensures.len)
@@ -45,19 +45,19 @@ work_all-requires-clause-is_in g c = λ _ _.
 pub work_all-requires-clause-new : goal.work_all-requires-clause-new
 work_all-requires-clause-new g c = λ _ _. subst (λ workers. All (λ worker. worker.taken ≡ 0) workers) (sym c.as_mut_slice.ensures.value) c.gather.ensures.taken
 
-pub finish-served-requires-clause-some : goal.finish-served-requires-clause-some
-finish-served-requires-clause-some g c =
-    let passes : length c.args.passes.items ≡ g.R.Realm.passes = ap length c.requires.passes ∙ length_fresh g.R.Realm.facts g.R.Realm.passes g.R.Realm.passes in
+pub finish-kept-requires-clause-some : goal.finish-kept-requires-clause-some
+finish-kept-requires-clause-some g c =
+    let passes : length c.args.passes.items ≡ g.R.Realm.passes = sym c.args.passes.ok.0 ∙ c.requires.passes in
     let workers : g.R.Realm.passes ≡ c.args.order.now.workers = c.requires.workers.0 in
     let some : 0 < c.args.order.now.workers = c.requires.workers.1 in
     omega (arith, c.args.passes.ok, c.gather.ensures.size)
 
-pub finish-served-requires-clause-few : goal.finish-served-requires-clause-few
-finish-served-requires-clause-few g c =
+pub finish-kept-requires-clause-few : goal.finish-kept-requires-clause-few
+finish-kept-requires-clause-few g c =
     let seen = state_of g.C.Clock.told g.D.Listener.Ear.shows in
     let begun = c.as_mut_slice.result.now in
     let ended = c.work_all.new.crew in
-    let passes : length c.args.passes.items ≡ g.R.Realm.passes = ap length c.requires.passes ∙ length_fresh g.R.Realm.facts g.R.Realm.passes g.R.Realm.passes in
+    let passes : length c.args.passes.items ≡ g.R.Realm.passes = sym c.args.passes.ok.0 ∙ c.requires.passes in
     let workers : g.R.Realm.passes ≡ c.args.order.now.workers = c.requires.workers.0 in
     let few : c.args.order.now.workers ≤ 64 = c.requires.workers.2 in
     let each : c.args.host.now.connections ≤ 1000000000 = omega (arith, c.requires.connections.0, c.requires.connections.1) in
@@ -67,32 +67,32 @@ finish-served-requires-clause-few g c =
     let bound : taken_by (map seen ended) < 2 ^ 64 = omega (arith, c.args.passes.ok, c.gather.ensures.size, c.as_mut_slice.ensures.len) in
     subst (λ workers. taken_by (map seen workers) < 2 ^ 64) (sym back) bound
 
-pub finish-served-requires-clause-ears : goal.finish-served-requires-clause-ears
-finish-served-requires-clause-ears g c =
+pub finish-kept-requires-clause-ears : goal.finish-kept-requires-clause-ears
+finish-kept-requires-clause-ears g c =
     let gains = c.in-Open.ensures.1 in
     let ears : c.open.new.ears.items ≡ gains.ears = gains.list ∙ ap (λ before. before ++ gains.ears) c.new-ears.ensures.items in
     let number : length c.open.new.ears.items ≡ c.args.order.now.workers = ap length ears ∙ gains.number in
-    let passes : length c.args.passes.items ≡ g.R.Realm.passes = ap length c.requires.passes ∙ length_fresh g.R.Realm.facts g.R.Realm.passes g.R.Realm.passes in
+    let passes : length c.args.passes.items ≡ g.R.Realm.passes = sym c.args.passes.ok.0 ∙ c.requires.passes in
     let workers : g.R.Realm.passes ≡ c.args.order.now.workers = c.requires.workers.0 in
     omega (arith, c.open.new.ears.ok.0, c.open.new.ears.ok.1, c.args.passes.ok.0, c.gather.ensures.ears_room, c.gather.ensures.size)
 
 pub returns : goal.returns
-returns g c =
+returns g c = λ entries fresh loaded.
     let told = g.C.Clock.told in
     let seen = state_of told g.D.Listener.Ear.shows in
     let clocks = c.args.clocks.now.items in
     let hired = c.gather.new.crew.items in
     let ended = c.work_all.new.crew in
-    let served = c.finish-served.ensures in
+    let served = c.finish-kept.ensures in
     let workers : g.R.Realm.passes ≡ c.args.order.now.workers = c.requires.workers.0 in
-    let size : c.args.passes.len ≡ c.args.order.now.workers = c.args.passes.ok.0 ∙ ap length c.requires.passes ∙ length_fresh g.R.Realm.facts g.R.Realm.passes g.R.Realm.passes ∙ workers in
+    let size : c.args.passes.len ≡ c.args.order.now.workers = c.requires.passes ∙ workers in
     let back = written_back c.gather.new.crew.len ended (drop (length ended) c.gather.new.crew.items) (omega (arith, c.work_all.auto.crew, c.as_mut_slice.ensures.len)) in
     record {
       opened = g.D.Door.shows c.open.new.self;
       asked = c.in-Open.ensures.0;
       crew = map seen hired;
       is_crew = record {
-        passes_are = map_map (λ state. state.pass) seen hired ∙ c.gather.ensures.passes ∙ c.requires.passes ∙ ap (λ (n : ℕ). fresh_passes g.R.Realm.facts n n) workers;
+        passes_are = map_map (λ state. state.pass) seen hired ∙ c.gather.ensures.passes ∙ fresh ∙ ap (λ (n : ℕ). fresh_passes g.R.Realm.facts n entries n) workers;
         clocks_are = map_map (λ state. state.clock) seen hired ∙ sym (map_map told (λ worker. worker.clock) hired) ∙ ap (map told) c.gather.ensures.clocks
             ∙ sym (take-map told c.args.passes.len clocks) ∙ ap (λ (n : ℕ). take n (map told clocks)) size;
         ears = All-map (λ state. IsNewEar state.ear) seen hired c.gather.ensures.ears;
@@ -101,10 +101,21 @@ returns g c =
       ends = map seen ended;
       work = subst (λ (n : ℕ). Pairwise (Works c.args.host.now.trust.now n) (map seen hired) (map seen ended)) c.requires.connections.0
           (subst (λ workers. Pairwise (Works c.args.host.now.trust.now c.args.host.now.connections) (map seen workers) (map seen ended)) c.as_mut_slice.ensures.value c.work_all.ensures);
-      ears = map g.D.Listener.Ear.shows c.finish-served.new.ears.items;
+      ears = map g.D.Listener.Ear.shows c.finish-kept.new.ears.items;
       told = served.0;
-      finishes = subst (λ (n : ℕ). Finishes g.R.Realm.facts n c.args.order.now.connections (map seen ended) c.finish-served.result (map g.D.Listener.Ear.shows c.finish-served.new.ears.items) served.0) workers
-          (subst (λ workers. Finishes g.R.Realm.facts g.R.Realm.passes c.args.order.now.connections (map seen workers) c.finish-served.result (map g.D.Listener.Ear.shows c.finish-served.new.ears.items) served.0) back served.2);
+      finishes = subst
+          (λ (k : ℕ). Finishes g.R.Realm.facts c.args.order.now.workers k c.args.order.now.connections c.args.order.now.keeps (map seen ended) c.finish-kept.result.0 c.finish-kept.result.1
+          (map g.D.Listener.Ear.shows c.finish-kept.new.ears.items) served.0)
+          (sym loaded)
+          (subst
+          (λ (n : ℕ). Finishes g.R.Realm.facts n g.R.Realm.loaded c.args.order.now.connections c.args.order.now.keeps (map seen ended) c.finish-kept.result.0 c.finish-kept.result.1
+          (map g.D.Listener.Ear.shows c.finish-kept.new.ears.items) served.0)
+          workers
+          (subst
+          (λ workers. Finishes g.R.Realm.facts g.R.Realm.passes g.R.Realm.loaded c.args.order.now.connections c.args.order.now.keeps (map seen workers) c.finish-kept.result.0 c.finish-kept.result.1
+          (map g.D.Listener.Ear.shows c.finish-kept.new.ears.items) served.0)
+          back
+          served.2));
       closed = c.close.ensures;
       clocks = served.1 ∙ ap (λ rest. served.0 ++ rest) (ap (map told) c.gather.ensures.rest ∙ sym (drop-map told c.args.passes.len clocks) ∙ ap (λ (n : ℕ). drop n (map told clocks)) size);
     }

@@ -14,4 +14,4 @@ answer_at-requires-clause-names g c =
     let x : Shown = c.in-Ok-shown.shown in
     let same : x ≡ c.get.result.now = c.in-Ok-shown.ensures in
     let fits : Fits x (view c.args.window.place) = subst (λ (y : Shown). Fits y (view c.args.window.place)) (sym (same ∙ c.get.ensures)) c.in-Ok.ensures.1.1 in
-    knows_on r.book r.facts r.passes (view c.args.window.place) x c.requires.window fits
+    knows_on r.book r.facts r.passes r.loaded (view c.args.window.place) x c.requires.window fits

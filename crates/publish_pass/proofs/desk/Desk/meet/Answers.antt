@@ -1,4 +1,4 @@
-use Rattle.std.proofs.Common.{◌≡◌, ℕ, ◌≤◌, length, sym, ap, ◌∙◌, arith}
+use Rattle.std.proofs.Common.{◌≡◌, ◌+◌, ℕ, ◌≤◌, length, sym, ap, ◌∙◌, arith}
 use Rattle.std.proofs.lemmas.Bool.Decides.{nat_tests}
 use Rattle.std.specs.Prelude.{IsTrue, nat_eq}
 use Rattle.published_account.proofs.Lists.{prefix_whole}
@@ -14,7 +14,7 @@ returns-clause-alone g c = λ yes.
     let i = c.pass.inside in
     let t = c.learn_prefix.new.self in
     let passes : t.passes ≡ c.args.pass.now.passes = ap (λ (p : Pass). p.passes) c.learn_prefix.ensures.learns.others ∙ ap (λ (p : Pass). p.passes) c.pass.view_is in
-    let as_many : t.passes ≡ 1 → length i.own.items ≡ length t.history = λ one. omega (
+    let as_many : t.passes ≡ 1 → length i.own.items + g.R.Realm.loaded ≡ length t.history = λ one. omega (
       arith,
       same_number c.seen.result c.len.result yes,
       c.audit.ensures.whole (c.pass.invariant.parts ∙ sym (c.self.invariant.parts ∙ ap (λ (p : Pass). p.passes) c.pass.view_is ∙ sym passes ∙ one)),

@@ -11,7 +11,7 @@ returns-clause-answer g c =
     let i = c.self.inside in
     let after = c.in-Some.found.prefix in
     let here = subst (λ (r : Result Answered NoMemory). Settles g.R.Realm.facts (entries_of after) c.args.ask.now i.draws r c.enter.new.draws) c.in_ok-answered.was c.in-Some.ensures.found in
-    answers_read g.R.Realm.facts i.number i.own.items i.entrance i.prefix after i.draws c.enter.new.draws c.args.ask.now g.R.Realm.passes c.in-Some.ensures.begins.0 c.in-Some.ensures.begins.1
+    answers_read g.R.Realm.facts i.number i.own.items i.entrance i.prefix after i.draws c.enter.new.draws c.args.ask.now g.R.Realm.passes g.R.Realm.loaded c.in-Some.ensures.begins.0 c.self.invariant.history c.in-Some.ensures.begins.1
     c.args.self.now c.enter.new.self c.in_ok-answered.answered c.self.view_is c.in-Some.ensures.entered here
 
 pub returns-in_err-answered-clause-lacks : goal.returns-in_err-answered-clause-lacks
@@ -19,6 +19,6 @@ returns-in_err-answered-clause-lacks g c =
     let i = c.self.inside in
     let after = c.in-Some.found.prefix in
     let here = subst (λ (r : Result Answered NoMemory). Settles g.R.Realm.facts (entries_of after) c.args.ask.now i.draws r c.enter.new.draws) c.in_err-answered.was c.in-Some.ensures.found in
-    let wants = wants_read g.R.Realm.facts i.number i.own.items i.entrance i.prefix after i.draws c.enter.new.draws c.args.ask.now g.R.Realm.passes c.in-Some.ensures.begins.0 c.in-Some.ensures.begins.1
+    let wants = wants_read g.R.Realm.facts i.number i.own.items i.entrance i.prefix after i.draws c.enter.new.draws c.args.ask.now g.R.Realm.passes g.R.Realm.loaded c.in-Some.ensures.begins.0 c.self.invariant.history c.in-Some.ensures.begins.1
     c.args.self.now c.enter.new.self c.self.view_is c.in-Some.ensures.entered here in
     lacks_where c.from_residual.result _ _ _ c.from_residual.ensures.1 wants

@@ -14,5 +14,5 @@ invariant_of-self g c =
     let next : IsNext g.R.Realm.facts (entries_of old) pair.0 × (0 < pair.1) × (pair.1 ≤ g.R.Realm.passes) = subst (λ (l : Pairs). IsNext g.R.Realm.facts (entries_of l) pair.0 × (0 < pair.1) × (pair.1 ≤ g.R.Realm.passes)) (sym c.self.view_is) c.requires.next in (
       omega (arith, c.self.invariant.0, ap length e, length-append old (pair ∷ [])),
       c.append.ensures.book ∙ (ap (λ s. s.book) c.again-seen.ensures ∙ c.self.invariant.1),
-      subst (IsHistory g.R.Realm.facts g.R.Realm.passes) (sym e) (history_push g.R.Realm.facts g.R.Realm.passes old pair c.self.invariant.2 next),
+      subst (IsHistory g.R.Realm.facts g.R.Realm.passes g.R.Realm.loaded) (sym e) (history_push g.R.Realm.facts g.R.Realm.passes g.R.Realm.loaded old pair c.self.invariant.2 next),
     )
