@@ -6,7 +6,7 @@ from xml.sax.saxutils import escape
 
 WIDTH, HEIGHT = 760, 340
 LEFT, RIGHT, TOP, BOTTOM = 70, 20, 46, 62
-COLOURS = ["#2b6cb0", "#7fb3dd", "#c2571a", "#8a8a8a"]
+COLOURS = ["#2b6cb0", "#7fb3dd", "#2f855a", "#8fc7a5", "#c2571a", "#8a8a8a"]
 
 
 def text(x, y, words, anchor="middle", size=12):

@@ -27,8 +27,8 @@ def mac(text):
     return hmac.new(ROOT_SECRET, text, hashlib.sha256).digest()
 
 
-def key_id(place):
-    return mac(b"key" + (1).to_bytes(4, "big") + place.to_bytes(6, "big"))[:10] + place.to_bytes(6, "big")
+def key_id(place, boot=1):
+    return mac(b"key" + boot.to_bytes(4, "big") + place.to_bytes(6, "big"))[:10] + place.to_bytes(6, "big")
 
 
 def printed(key):
@@ -44,8 +44,8 @@ def encoded(context):
     return b"".join(len(t).to_bytes(4, "big") + t for pair in pairs for t in pair)
 
 
-def seal(key, version, count, context, text, form=2):
-    iv = (1).to_bytes(4, "big") + (1).to_bytes(2, "big") + count.to_bytes(6, "big")
+def seal(key, version, count, context, text, form=2, boot=1):
+    iv = boot.to_bytes(4, "big") + (1).to_bytes(2, "big") + count.to_bytes(6, "big")
     return blobs.sealed(ROOT_SECRET, key, version, iv, encoded(context), text, form)
 
 
@@ -67,6 +67,8 @@ SYMMETRIC = "SYMMETRIC_DEFAULT"
 
 class Account:
     """One session of the account, of which each request is asked in turn."""
+
+    boot = 1
 
     def __init__(self, what):
         self.lines = [f"case {what}"]
@@ -143,7 +145,7 @@ class Account:
         return self
 
     def CreateKey(self, body):
-        key = {"id": key_id(self.front), "spec": SYMMETRIC, "made": self.moment(), "description": body.get("Description", ""), "state": "Enabled",
+        key = {"id": key_id(self.front, self.boot), "spec": SYMMETRIC, "made": self.moment(), "description": body.get("Description", ""), "state": "Enabled",
                "date": None, "versions": [(self.moment(), None)], "period": None, "next": 0, "on_demand": 0}
         self.append()
         self.keys.append(key)
@@ -233,7 +235,7 @@ class Account:
         return {}
 
     def sealed(self, key, context, text):
-        blob = seal(key["id"], len(key["versions"]), self.ivs, context, text)
+        blob = seal(key["id"], len(key["versions"]), self.ivs, context, text, boot=self.boot)
         self.ivs += 1
         self.blobs[b64(blob)] = (key["id"], len(key["versions"]), context, text)
         return b64(blob)

@@ -36,11 +36,18 @@ DEFAULT_POLICY = ('{"Version":"2012-10-17","Id":"key-default-1","Statement":[{"S
                   '"Principal":{"AWS":"%s"},"Action":"kms:*","Resource":"*"}]}' % ROOT)
 ALIAS = re.compile("alias/[a-zA-Z0-9/_-]+")
 PRINCIPAL = re.compile("arn:aws:iam::[0-9]{12}:(root|(user|role)/[A-Za-z0-9+=,.@_/-]{1,512})")
-DRAWS = Cipher(algorithms.ChaCha20(mac(b"draw" + struct.pack(">IH", 1, 1)), bytes(16)), None).encryptor().update(bytes(1 << 16))
 
 
-def grant_id(place):
-    return (mac(b"grant" + struct.pack(">I", 1) + place.to_bytes(6, "big"))[:26] + place.to_bytes(6, "big")).hex()
+def draws(boot):
+    """The words of the first pass of a run."""
+    return Cipher(algorithms.ChaCha20(mac(b"draw" + struct.pack(">IH", boot, 1)), bytes(16)), None).encryptor().update(bytes(1 << 16))
+
+
+DRAWS = draws(1)
+
+
+def grant_id(place, boot=1):
+    return (mac(b"grant" + struct.pack(">I", boot) + place.to_bytes(6, "big"))[:26] + place.to_bytes(6, "big")).hex()
 
 
 def alias_arn(name):
@@ -376,7 +383,7 @@ class Whole(make_key_lives.Account):
         made = {"spec": kind_of(body), "tags": dict(tags)}
         self.unserved(body, tags)
         if "Policy" in body:
-            self.no_lockout({"id": key_id(self.front)} | made, body)
+            self.no_lockout({"id": key_id(self.front, self.boot)} | made, body)
         born = self.front
         super().CreateKey(body)
         self.keys[-1].update(made | {"policy": body.get("Policy", DEFAULT_POLICY), "born": born})
@@ -448,9 +455,13 @@ class Whole(make_key_lives.Account):
         blob = self.sealed(key, body.get("EncryptionContext", {}), base64.b64decode(body["Plaintext"]))
         return {"CiphertextBlob": blob, "EncryptionAlgorithm": "SYMMETRIC_DEFAULT", "KeyId": arn(key["id"])}
 
+    def stream(self):
+        """The words of the pass, of which it has given some."""
+        return DRAWS
+
     def drawn(self, body):
         size = {"AES_256": 32, "AES_128": 16}[body["KeySpec"]] if "KeySpec" in body else body["NumberOfBytes"]
-        text = DRAWS[4 * self.words:4 * self.words + size]
+        text = self.stream()[4 * self.words:4 * self.words + size]
         self.words += (size + 3) // 4
         return text
 
@@ -687,7 +698,7 @@ class Whole(make_key_lives.Account):
         self.dry(body)
         if not same:
             born = self.append()
-            same = [made | {"grant": grant_id(born), "born": born, "made": self.latest}]
+            same = [made | {"grant": grant_id(born, self.boot), "born": born, "made": self.latest}]
             self.grants += same
         return {"GrantId": same[0]["grant"], "GrantToken": same[0]["grant"]}
 

@@ -16,7 +16,7 @@ use Rattle.account_steps.specs.View.{View, view_of}
 use Rattle.account_core.specs.declared.asking.Asked.{Asked}
 use Rattle.account_core.specs.declared.asking.Asked.TheVariants as asked
 use Rattle.account_core.specs.Decide.{asked_at}
-use Rattle.account_core.proofs.Fitting.{laws_of}
+use Rattle.account_laws.proofs.Histories.{held_laws}
 use Rattle.account_laws.specs.Laws.{reply_to, IsHeld, IsAskedOf, IsAskedSo, AuthorityAsksTheseQuestions, GrantsPermit, PassesWhereStatementsAllow, RowsStandInOrder}
 use Rattle.access_explain.specs.declared.certificates.Certificate.{Certificate}
 use Rattle.access_explain.specs.Certificates.{IsCertificateOf, IsCertificateBy, IsCertificate}
@@ -34,11 +34,11 @@ early_where facts history x c is = early_by (basis_of facts history) (asked_at f
 
 pub allowed_where : (permits : GrantsPermit) (passes : PassesWhereStatementsAllow) (ordered : RowsStandInOrder) → AllowedWhereNoneIsDenied
 unfolding IsCertificate
-allowed_where permits passes ordered facts history x c questions lawful kinds is asks held =
+allowed_where permits passes ordered facts history x c questions held kinds is asks there =
     let view : View = view_of facts history x no_places in
     let by : IsCertificateOf (basis_of facts history) (map (posed view) questions) c = subst (λ (a : Asked). IsCertificateBy (basis_of facts history) a c) asks is in
-    let named : All (λ (row : GrantRow). place_in_grant row.grant ≡ row.born) view.grants = λ k d lt. ((laws_of facts history lawful).grants k d lt).named in
-    let told = all_told permits view (ordered facts history lawful).grants named questions c.findings held by.findings in
+    let named : All (λ (row : GrantRow). place_in_grant row.grant ≡ row.born) view.grants = λ k d lt. ((held_laws facts history held).grants k d lt).named in
+    let told = all_told permits view (ordered facts history held).grants named questions c.findings there by.findings in
     let none = passes view questions kinds in
     (λ allowed. none.1 (told.0 (sym by.allowed ∙ allowed)), λ denied. by.allowed ∙ told.1 (none.0 denied))
 
@@ -58,5 +58,5 @@ module _ (facts : RealmFacts) (history : List Entry) (x : Ask) (places : Places)
       (λ e. absurd (let bad : asked.Questions list ≡ asked.Early = sym is ∙ early.0 e in cc), λ e. (list, so, allowed so.questions (is ∙ ap (λ (l : List Posed). asked.Questions l) so.posed) so.held))
 
 pub explain_replies : AuthorityAsksTheseQuestions → EarlyWhereNothingIsAsked → AllowedWhereNoneIsDenied → CertificatesExplainReplies
-explain_replies asks early allowed facts history x places c lawful kinds is =
-    says_by facts history x places c (asked_at facts history x) refl (asks facts history x places) (early facts history x c is) (λ questions. allowed facts history x c questions lawful kinds is)
+explain_replies asks early allowed facts history x places c held kinds is =
+    says_by facts history x places c (asked_at facts history x) refl (asks facts history x places) (early facts history x c is) (λ questions. allowed facts history x c questions held kinds is)

@@ -14,7 +14,8 @@ use Rattle.kms_json.specs.declared.refusals.Refusal.{Refusal}
 use Rattle.kms_json.specs.declared.replies.Reply.TheVariants.{Refused}
 use Rattle.account_laws.specs.Laws.{reply_to, IsHeld, IsAskedOf}
 use Rattle.account_core.specs.declared.asking.Asked.TheVariants as asked
-use Rattle.account_core.specs.Decide.{asked_at, IsLawful}
+use Rattle.account_core.specs.Decide.{asked_at}
+use Rattle.account_core.specs.Fitting as Fitting
 use Rattle.access_explain.specs.declared.certificates.Certificate.{Certificate}
 use Rattle.access_explain.specs.Certificates.{IsCertificate}
 
@@ -30,7 +31,7 @@ EarlyWhereNothingIsAsked =
 -- where these questions are asked, a certificate is allowed exactly where the step of authority denies none of them
 abbrev pub AllowedWhereNoneIsDenied : Type 0
 AllowedWhereNoneIsDenied =
-    (facts : RealmFacts) (history : List Entry) (x : Ask) (c : Certificate) (questions : List Question) → IsLawful facts history → AreIdentityPolicies (callers_policies facts.identities x.caller)
+    (facts : RealmFacts) (history : List Entry) (x : Ask) (c : Certificate) (questions : List Question) → Fitting.IsHeld facts history → AreIdentityPolicies (callers_policies facts.identities x.caller)
     → IsCertificate facts history x c → asked_at facts history x ≡ asked.Questions (map (posed (view_of facts history x no_places)) questions) → All (IsHeld (view_of facts history x no_places)) questions
     → (c.allowed ≡ true) ↔ (denied (view_of facts history x no_places) questions ≡ None)
 
@@ -38,7 +39,7 @@ AllowedWhereNoneIsDenied =
 -- questions, it is allowed exactly where the step of authority denies none of them, and the first denial is the reply
 abbrev pub CertificatesExplainReplies : Type 0
 CertificatesExplainReplies =
-    (facts : RealmFacts) (history : List Entry) (x : Ask) (places : Places) (c : Certificate) → IsLawful facts history → AreIdentityPolicies (callers_policies facts.identities x.caller)
+    (facts : RealmFacts) (history : List Entry) (x : Ask) (places : Places) (c : Certificate) → Fitting.IsHeld facts history → AreIdentityPolicies (callers_policies facts.identities x.caller)
     → IsCertificate facts history x c
     → (c.early ≡ true → (why : Refusal) × (reply_to facts history x places ≡ Refused why))
     × (c.early ≡ false → (list : List Posed) × (asked : IsAskedOf facts history x places list) × ((c.allowed ≡ true) ↔ (denied (view_of facts history x no_places) asked.questions ≡ None)))

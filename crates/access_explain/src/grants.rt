@@ -13,7 +13,7 @@ ghost use Rattle.access_explain.specs.Runs.{OneByOne};
 use crate::marks::{Mark, MarkList};
 use crate::subjects::Subject;
 use account_core::Account;
-use account_laws::held_grants_stand_in_order;
+use account_laws::rows_stand_in_order;
 use account_steps::{OfGrants, Question};
 use grant_table::{GrantRow, same_principal};
 use kms_names::{GrantId, GrantOp, KeyId, NoMemory, Principal};
@@ -77,7 +77,7 @@ fn next_grant<'a>(account: &'a Account, key: &KeyId, at: Option<u64>) -> Option<
     ensures order { AreInOrder (λ (row : Grant). row.born) (replay account.now.entries).grants }
 {
     let _entries = account.entries();
-    held_grants_stand_in_order();
+    rows_stand_in_order();
     account.key_grant(key, at)
 }
 

@@ -3,11 +3,14 @@ use Rattle.std.specs.Prelude.{◌≡◌, ◌==◌, ◌<◌, ◌≤◌, ◌&&◌,
 use Rattle.kms_names.specs.Moment.{year_10000}
 use Rattle.kms_names.specs.GrantOps.{members}
 use Rattle.kms_names.specs.declared.operations.GrantOp.{GrantOp}
+use Rattle.kms_names.specs.Principal.{principal_text}
+use Rattle.kms_names.specs.declared.principals.Principal.{Principal}
 use Rattle.kms_names.specs.declared.principals.Principal.TheVariants.{Root}
 use Rattle.kms_json.specs.Fields.{is_between, is_grant_name, are_tags, are_tag_keys}
 use Rattle.authority.specs.KeyPolicy.{fault_in}
 use Rattle.resource_tags.specs.Proper.{are_proper}
 use Rattle.resource_tags.specs.declared.tags.Tag.{Tag as TagValue}
+use Rattle.tag_order.specs.Order.{are_in_order}
 use Rattle.account_rows.specs.declared.entries.Entry.{Entry}
 use Rattle.account_rows.specs.declared.entries.What.{What}
 use Rattle.account_rows.specs.declared.entries.What.TheVariants as what
@@ -45,18 +48,26 @@ is_there view what.House = wants_house view.moment view.keys
 -- ---- its texts and numbers have their forms
 
 abbrev pub are_formed : List TagValue → Bool
-are_formed tags = are_tags (Some tags) && are_proper tags
+are_formed tags = are_tags (Some tags) && (are_proper tags && are_in_order tags)
 
 abbrev pub is_name : Option (List ℕ) → Bool
 is_name None = true
 is_name (Some name) = is_grant_name name
+
+-- the ARN of a principal has at most 256 bytes, as a request's has
+abbrev pub is_short : Principal → Bool
+is_short principal = nat_le (length (principal_text principal)) 256
+
+abbrev pub is_short_if_given : Option Principal → Bool
+is_short_if_given None = true
+is_short_if_given (Some principal) = is_short principal
 
 abbrev pub is_some_op : List GrantOp → Bool
 is_some_op [] = false
 is_some_op (op ∷ ops) = true
 
 -- a description has at most 8,192 bytes, a policy no fault, a waiting period 7 to 30 days and a period of rotation 90 to 2,560; tags, the keys of tags, and the
--- names of grants are ones that requests may give; a grant has some operation, and a constraint of at most 4,096 encoded bytes
+-- names of grants are ones that requests may give, tags in the order of their keys; a grant has some operation, a constraint of at most 4,096 encoded bytes, and principals whose ARNs are short
 abbrev pub is_formed : What → Bool
 is_formed (what.CreateKey key kind description policy tags) = nat_le (length description) 8192 && (are_formed tags && is_none (fault_in policy))
 is_formed (what.Schedule key date days) = is_between 7 30 days
@@ -65,7 +76,8 @@ is_formed (what.Policy key text) = is_none (fault_in text)
 is_formed (what.Description key text) = nat_le (length text) 8192
 is_formed (what.Tag key tags) = are_formed tags
 is_formed (what.Untag key keys) = are_tag_keys keys
-is_formed (what.GrantAdd grant key grantee retiring operations constraint name) = is_some_op (members operations) && (nat_le (constraint_size constraint) 4096 && is_name name)
+is_formed (what.GrantAdd grant key grantee retiring operations constraint name) =
+    is_some_op (members operations) && (nat_le (constraint_size constraint) 4096 && (is_name name && (is_short grantee && is_short_if_given retiring)))
 is_formed _ = true
 
 -- a deletion is scheduled for the date that its waiting period comes to

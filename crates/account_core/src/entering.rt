@@ -7,7 +7,7 @@ ghost use Rattle.account_rows.specs.Changes.{wants_house};
 ghost use Rattle.account_rows.specs.History.{most_tags};
 ghost use Rattle.account_rows.specs.Sizes.{constraint_size};
 ghost use Rattle.account_steps.specs.Parts.{overfull};
-ghost use Rattle.account_core.specs.Fitting.{is_there, are_formed, is_name, is_formed, is_dated};
+ghost use Rattle.account_core.specs.Fitting.{is_there, are_formed, is_name, is_short, is_short_if_given, is_formed, is_dated};
 ghost use Rattle.account_core.specs.declared.entering.FitFault.TheVariants.{NoMemory as OutOfMemory};
 
 use account_rows::{Entry, What, days_after};
@@ -15,10 +15,11 @@ use account_steps::{View, overfull};
 use authority::KeyPolicy;
 use grant_table::Constraint;
 use kms_json::{are_tag_keys, are_tags, is_grant_name};
-use kms_names::{NoMemory, Text};
+use kms_names::{NoMemory, Principal, Text, principal_len};
 use policy_doc::PolicyFault;
 use resource_tags::{TagFault, TagList, TagMap, are_proper};
 use std::alloc::Global;
+use tag_order::are_in_order;
 
 /// Why an entry isn't appended.
 #[derive(Clone, Copy)]
@@ -41,6 +42,9 @@ impl From<NoMemory> for FitFault {
 const DESCRIPTION: usize = 8_192;
 
 const CONSTRAINT: usize = 4_096;
+
+// The most bytes of the ARN of a grant's principal.
+const PRINCIPAL: usize = 256;
 
 /// Whether what an entry names is there, and housekeeping has something to do.
 pub fn is_there(view: &View<'_>, house: bool, what: &What) -> bool
@@ -89,7 +93,8 @@ fn is_policy(alloc: Global, text: &Text) -> Result<bool, NoMemory>
 fn are_formed(tags: &TagList) -> bool
     ensures { result ≡ are_formed tags.now }
 {
-    are_tags(Some(tags.as_slice())) && are_proper(tags.as_slice())
+    let tags = tags.as_slice();
+    are_tags(Some(tags)) && are_proper(tags) && are_in_order(tags)
 }
 
 fn is_name(name: &Option<Text>) -> bool
@@ -101,7 +106,7 @@ fn is_name(name: &Option<Text>) -> bool
     }
 }
 
-fn is_short(constraint: &Constraint) -> bool
+fn is_small(constraint: &Constraint) -> bool
     ensures { result ≡ nat_le (constraint_size constraint.now) 4096 }
 {
     match constraint {
@@ -109,6 +114,21 @@ fn is_short(constraint: &Constraint) -> bool
         Constraint::Equals(context) | Constraint::Subset(context) => {
             context.encoded_len() <= CONSTRAINT
         }
+    }
+}
+
+fn is_short(principal: &Principal) -> bool
+    ensures { result ≡ is_short principal.now }
+{
+    principal_len(principal) <= PRINCIPAL
+}
+
+fn is_short_if_given(principal: &Option<Principal>) -> bool
+    ensures { result ≡ is_short_if_given principal.now }
+{
+    match principal {
+        Some(principal) => is_short(principal),
+        None => true,
     }
 }
 
@@ -134,11 +154,19 @@ pub fn is_formed(alloc: Global, what: &What) -> Result<bool, NoMemory>
         What::Tag { tags, .. } => are_formed(tags),
         What::Untag { keys, .. } => are_tag_keys(keys.as_slice()),
         What::GrantAdd {
+            grantee,
+            retiring,
             operations,
             constraint,
             name,
             ..
-        } => !operations.is_empty() && is_short(constraint) && is_name(name),
+        } => {
+            !operations.is_empty()
+                && is_small(constraint)
+                && is_name(name)
+                && is_short(grantee)
+                && is_short_if_given(retiring)
+        }
         _ => true,
     })
 }

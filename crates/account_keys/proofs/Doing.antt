@@ -1,5 +1,5 @@
 -- What each operation does: a key or grant that it makes has the id of its place, a period has days, a grant that it drops is there, and no key has too many tags.
-use Rattle.std.proofs.Common.{◌≡◌, ℕ, ◌≤◌, Bool, true, false, List, length, Option, Some, None, Ok, refl, if◌then◌else◌, arith}
+use Rattle.std.proofs.Common.{◌≡◌, ℕ, ◌≤◌, Bool, true, false, List, length, Option, Some, None, Ok, refl, if◌then◌else◌, arith, le_trans}
 use Rattle.std.specs.Prelude.{option_and_then}
 use Rattle.std.specs.Str.{bytes_eq}
 use Rattle.grant_table.specs.declared.rows.GrantRow.{GrantRow}
@@ -22,6 +22,8 @@ use Rattle.account_steps.specs.View.{View, is_live, if_live, grant_held}
 use Rattle.account_steps.proofs.Done.{HoldsDropped, IsDone, DoesWell, does_this}
 use Rattle.account_steps.proofs.Passing.{found_of, ok_of}
 use Rattle.resource_tags.proofs.TagFacts.{few_from_none}
+use Rattle.tag_order.specs.Order.{in_order}
+use Rattle.tag_order.proofs.OrderFacts.{fewer_in_order}
 use Rattle.account_keys.specs.declared.alias_changes.AliasChange.{AliasChange}
 use Rattle.account_keys.specs.declared.grants.Granting.{Granting}
 use Rattle.account_keys.specs.declared.key_changes.KeyChange.{KeyChange}
@@ -35,7 +37,7 @@ use Rattle.account_keys.specs.Policies.{puts_policy}
 -- ---- keys
 
 pub creates : (view : View) (x : CreateKey) → length x.tags ≤ 50 → DoesWell view (creates_key view x)
-creates view x few found ready did found_is own_is e = does_this view _ did (record { made = refl; gives = tt; holds = tt; tagged = few_from_none x.tags few }) e
+creates view x few found ready did found_is own_is e = does_this view _ did (record { made = refl; gives = tt; holds = tt; tagged = few_from_none (in_order x.tags) (le_trans (fewer_in_order x.tags) few) }) e
 
 pub puts : (view : View) (key_id text : List ℕ) (bypass : Bool) → DoesWell view (puts_policy view key_id text bypass)
 puts view key_id text bypass found ready did found_is own_is e = does_this view _ did (record { made = tt; gives = tt; holds = tt; tagged = tt }) e

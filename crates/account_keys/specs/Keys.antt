@@ -9,6 +9,7 @@ use Rattle.hmac_keys.specs.declared.kinds.KindField.TheVariants as kind_field
 use Rattle.hmac_keys.specs.declared.kinds.KindRead.{KindRead}
 use Rattle.hmac_keys.specs.declared.kinds.KindRead.TheVariants.{Kind, Unsupported}
 use Rattle.resource_tags.specs.Tags.{with_tags}
+use Rattle.tag_order.specs.Order.{in_order}
 use Rattle.resource_tags.specs.declared.tags.Tag.{Tag}
 use Rattle.authority.specs.Setting.{Particulars}
 use Rattle.kms_json.specs.declared.asks.keys.CreateKey.{CreateKey}
@@ -114,7 +115,7 @@ creates_key view request = record {
     reply = λ found kind. reply.Metadata (description_of view.facts (key_id_at view.facts view.place) kind view.moment request.description state.Enabled);
   };
   does = λ found kind.
-      Some (what.CreateKey (key_id_at view.facts view.place) kind request.description (policy_or_default view.facts.account request.policy) request.tags);
+      Some (what.CreateKey (key_id_at view.facts view.place) kind request.description (policy_or_default view.facts.account request.policy) (in_order request.tags));
 }
 
 -- DescribeKey

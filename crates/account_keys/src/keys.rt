@@ -22,6 +22,7 @@ use kms_json::{CreateKey, KeyMetadata, KeyState, Refusal, Reply, Unsupported};
 use kms_names::{AccountNumber, Action, KeyId, NoMemory, Text, TextList};
 use resource_tags::{Tag, TagFault, TagList, TagMap};
 use std::alloc::Global;
+use tag_order::in_order;
 
 // A key as replies describe it.
 fn metadata(
@@ -291,7 +292,7 @@ impl<'a> Changes for CreatingKey<'a> {
                 kind: ready,
                 description,
                 policy,
-                tags: self.request.tags.copy()?,
+                tags: in_order(alloc, self.request.tags.as_slice())?,
             }),
         })
     }

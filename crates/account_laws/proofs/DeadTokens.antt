@@ -85,5 +85,5 @@ module _ (view : View) (grant token : List ℕ) (gone : grant_with view.grants g
   }
 
 pub dead_tokens_are_refused : DeadTokensAreRefused
-dead_tokens_are_refused facts history more entry grant token x places lawful is writes =
-    refuses_token (view_of facts ((history ++ entry ∷ []) ++ more) x places) grant token (dropped_stays_away facts history more entry grant lawful is) writes
+dead_tokens_are_refused facts history more entry grant token x places held is writes =
+    refuses_token (view_of facts ((history ++ entry ∷ []) ++ more) x places) grant token (dropped_stays_away facts history more entry grant held is) writes

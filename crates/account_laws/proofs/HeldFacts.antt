@@ -1,16 +1,13 @@
 -- What operations ask of authority is about what is there.
-use Rattle.std.proofs.Common.{◌≡◌, ℕ, Bool, true, false, cond, List, [], ◌∷◌, ◌++◌, length, map, Option, None, Some, Result, Ok, Err, refl, sym, ap, ◌∙◌, subst, append-nil}
+use Rattle.std.proofs.Common.{◌≡◌, ℕ, Bool, true, false, cond, List, [], ◌∷◌, ◌++◌, Option, None, Some, Result, Ok, refl, sym, ap, ◌∙◌, subst, append-nil}
 use Rattle.std.specs.Prelude.{All, find, option_and_then, if◌then◌else◌}
 use Rattle.std.specs.Str.{bytes_eq}
 use Rattle.std.proofs.lemmas.List.Elements.{All-nil, All-cons}
 use Rattle.std.proofs.lemmas.Slice.Eq.{bytes_eq-Decides}
 use Rattle.kms_names.specs.declared.actions.Action.{Action}
 use Rattle.kms_names.specs.declared.actions.Action.TheVariants as action
-use Rattle.kms_json.specs.declared.asks.AskBody.{AskBody}
 use Rattle.kms_json.specs.declared.asks.AskBody.TheVariants as ask
-use Rattle.kms_json.specs.declared.asks.Changing.{Changing}
 use Rattle.kms_json.specs.declared.asks.Changing.TheVariants as changing
-use Rattle.kms_json.specs.declared.asks.Reading.{Reading}
 use Rattle.kms_json.specs.declared.asks.Reading.TheVariants as reading
 use Rattle.kms_json.specs.declared.asks.grants.RetiredGrant.{RetiredGrant}
 use Rattle.kms_json.specs.declared.asks.grants.RetiredGrant.TheVariants as retired
@@ -24,17 +21,14 @@ use Rattle.key_states.specs.declared.rows.KeyRow.{KeyRow}
 use Rattle.resource_tags.specs.declared.tags.Tag.{Tag}
 use Rattle.account_rows.specs.History.{key_with}
 use Rattle.account_steps.specs.declared.checks.Named.{Named}
-use Rattle.account_steps.specs.declared.questions.Question.{Question as Posed}
-use Rattle.account_steps.specs.Authority.{Question, on_key, on_other, retiring, posed}
-use Rattle.account_steps.specs.Parts.{Parts, questions_of, grant_of_token, grant_id_of}
+use Rattle.account_steps.specs.Authority.{Question, on_key, on_other, retiring}
+use Rattle.account_steps.specs.Parts.{grant_of_token, grant_id_of}
 use Rattle.account_steps.specs.Source.{Source}
 use Rattle.account_steps.specs.Steps.{and_then, unless, key_of, only_key_of, key_of_alias, key_if_given, other_key, alias_of, blob_name, held_key, source_in, source_of}
 use Rattle.account_steps.specs.Given.{grant_id_in, principal_in, principal_if_given}
-use Rattle.account_steps.specs.View.{View, view_of, key_held, aliased, if_live, is_live, grant_held}
-use Rattle.account_steps.specs.Places.{no_places}
+use Rattle.account_steps.specs.View.{View, key_held, aliased, if_live, is_live, grant_held}
 use Rattle.account_steps.proofs.Holding.{there_of, key_there, only_key_there}
 use Rattle.account_steps.proofs.Passing.{found_of, next_of, ok_of, ok_same}
-use Rattle.account_crypto.specs.Crypto.{encrypts, decrypts, of_source, of_destination, re_encrypts, generates_data_key, generates_random, generates_mac, verifies_mac}
 use Rattle.account_crypto.specs.declared.data_keys.DataKeyForm.TheVariants as form
 use Rattle.account_keys.specs.declared.alias_changes.Moving.{Moving}
 use Rattle.account_keys.specs.Aliases.{moving_of, question_on, changes_alias}
@@ -43,26 +37,21 @@ use Rattle.account_keys.specs.declared.grants.Granting.{Granting}
 use Rattle.account_keys.specs.declared.grants.Revoking.{Revoking}
 use Rattle.account_lists.specs.declared.lists.ListedOf.{ListedOf}
 use Rattle.kms_json.specs.declared.asks.grants.CreateGrant.{CreateGrant}
-use Rattle.account_keys.specs.Grants.{granting_of, grant_of, if_of_key, retired_of, revoking_of, creates_grant, retires_grant, revokes_grant}
-use Rattle.account_keys.specs.KeyChanges.{changes_key, gets_rotation_status}
-use Rattle.account_keys.specs.Keys.{questions_of_tags, creates_key, describes_key}
-use Rattle.account_keys.specs.Policies.{puts_policy, gets_policy}
+use Rattle.account_keys.specs.Grants.{granting_of, grant_of, if_of_key, retired_of, revoking_of}
+use Rattle.account_keys.specs.Keys.{questions_of_tags}
 use Rattle.account_keys.specs.declared.alias_changes.AliasChange.{AliasChange}
 use Rattle.account_keys.specs.declared.alias_changes.AliasChange.TheVariants as alias
 use Rattle.account_keys.specs.declared.key_changes.KeyChange.TheVariants as change
-use Rattle.account_lists.specs.Lists.{listed_of, sought_of, lists_in, lists_on}
+use Rattle.account_lists.specs.Lists.{listed_of, sought_of}
 use Rattle.account_lists.specs.declared.lists.AccountList.TheVariants as all
 use Rattle.account_lists.specs.declared.lists.KeyList.TheVariants as of
 use Rattle.account_lists.specs.declared.lists.KeyList.{KeyList}
-use Rattle.account_tags.specs.Tagging.{tags_key, untags_key, lists_tags}
 use Rattle.account_core.specs.declared.asking.Asked.TheVariants as asked
-use Rattle.account_core.specs.Operations.{change_asked, read_asked}
-use Rattle.account_core.specs.Decide.{lacking, asked_of_body, asked_by, asked_at}
 use Rattle.account_laws.specs.Laws.{IsHeld}
 
 -- ---- look-ups
 
-passes : {X : Type 0} (test : X → Bool) (xs : List X) (x : X) → find test xs ≡ Some x → test x ≡ true
+pub passes : {X : Type 0} (test : X → Bool) (xs : List X) (x : X) → find test xs ≡ Some x → test x ≡ true
 passes test [] x e = cc
 passes {X} test (y ∷ xs) x e = by_test (test y) refl e (passes test xs x)
   where

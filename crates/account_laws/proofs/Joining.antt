@@ -17,7 +17,7 @@ use Rattle.account_lists.specs.Pages.{rows_behind, next_of, part_of, PartsFrom, 
 use Rattle.account_lists.specs.Lists.{is_listed_alias, listed_keys, listed_aliases, retirable_grants, grants_of_key, rotations_of, has_sought_id, has_sought_grantee}
 use Rattle.account_lists.proofs.PageFacts.{joined_are}
 use Rattle.account_lists.proofs.ListFacts.{numbers_rise}
-use Rattle.account_laws.specs.Laws.{AreInOrder, IsWhole, ListsOfLawfulHistoriesAreWhole}
+use Rattle.account_laws.specs.Laws.{AreInOrder, IsWhole, ListsOfHistoriesAreWhole}
 use Rattle.account_laws.proofs.Standing.{stand_in_order}
 
 -- ---- fewer rows stand behind a row than behind a place that it is behind
@@ -114,11 +114,11 @@ module _ {A : Type 0} (born : A → ℕ) where
           let ends = come_to_an_end rows limit (length (rows_behind born after rows)) after (omega arith) in
           subst (PartsFrom born rows limit after) (joined_are born rows rise limit some after ends.0 ends.1 ∙ sym is) ends.1
 
--- ---- the lists of a lawful history
+-- ---- the lists of a history that an account holds
 
-pub lists_are_whole : ListsOfLawfulHistoriesAreWhole
-lists_are_whole facts history x places lawful =
-    let stand = stand_in_order facts history lawful in
+pub lists_are_whole : ListsOfHistoriesAreWhole
+lists_are_whole facts history x places held =
+    let stand = stand_in_order facts history held in
     let view : View = view_of facts history x places in
     record {
       keys = is_whole (λ (row : KeyRow). row.born) (listed_keys view)

@@ -13,6 +13,7 @@ use Rattle.enc_context.specs.declared.pairs.Pair.{Pair}
 use Rattle.crypto_ops.specs.Sealed.{sealed, sealed_one, opened}
 use Rattle.crypto_ops.specs.Laws.{CanSeal}
 use Rattle.crypto_ops.proofs.OpeningFacts.{sealed_form, sealed_one_form, opens_one, opens_two}
+use Rattle.kms_names.specs.Reference.{key_arn_text}
 use Rattle.kms_names.specs.declared.actions.Action.TheVariants as action
 use Rattle.authority.specs.Setting.{callers_policies}
 use Rattle.authority.specs.Allowed.{AreIdentityPolicies}
@@ -45,15 +46,17 @@ use Rattle.account_steps.specs.Parts.{Outcome, reads, spent, dead_token, decided
 use Rattle.account_crypto.specs.Crypto.{decrypts}
 use Rattle.account_steps.specs.Authority.{of_context}
 use Rattle.account_core.specs.Operations.{read_outcome}
-use Rattle.account_core.specs.Decide.{lacking, decide_body, decide, IsLawful, empty, longer}
-use Rattle.account_laws.specs.Laws.{Sealing, HasSealed, reply_to, PassGoesOn, no_request, one_more, wants_memory, iv_in, exception_of, unless_excepted, SealedIsDecryptedAgain, AsksToOpen, EarlierBlobsAreDecrypted, OnePassRepeatsNoIv, PassesShareNoIv, BootsShareNoIv, TimesNeverFall, HouseIsKeptOnce, KeysDiffer, GrantsDiffer}
+use Rattle.account_core.specs.Decide.{lacking, decide_body, decide}
+use Rattle.account_core.specs.Fitting.{IsHeld, no_entry, appended_to, fitted_to}
+use Rattle.account_laws.specs.Laws.{IsOpened, IsSameAccount, Sealing, HasSealed, reply_to, PassGoesOn, no_request, one_more, wants_memory, iv_in, exception_of, unless_excepted, SealedIsDecryptedAgain, AsksToOpen, EarlierBlobsAreDecrypted, OnePassRepeatsNoIv, PassesShareNoIv, BootsShareNoIv, TimesNeverFall, HouseIsKeptOnce, KeysDiffer, GrantsDiffer}
 use Rattle.blob_format.proofs.BlobNames.{named_blob}
 use Rattle.account_core.proofs.GoingOn.{decide_goes_on}
 use Rattle.account_rows.specs.Changes.{HasVersions}
 use Rattle.account_rows.proofs.RowFacts.{found_key, found_all, latest-push}
 use Rattle.account_rows.proofs.VersionFacts.{versions_grow, kind_stays}
 use Rattle.account_rows.proofs.HouseFacts.{kept_once}
-use Rattle.account_core.proofs.Fitting.{laws_of, comes_next, lawful_front, id_ends, grant_ends}
+use Rattle.account_core.proofs.Fitting.{id_ends, grant_ends}
+use Rattle.account_laws.proofs.Histories.{held_laws, came_last, key_sizes, opened_front}
 use Rattle.account_steps.proofs.Authorizing.{one_passes}
 use Rattle.account_steps.proofs.Holding.{there_of, live_of}
 use Rattle.account_laws.proofs.StateFacts.{by_state}
@@ -92,45 +95,45 @@ sealed_iv : (facts : RealmFacts) (row : KeyRow) (context : List Pair) (text : Li
 unfolding seals sealed
 sealed_iv facts row context text places is = iv_told row.key (newest_version row) _ _ _ _ is (iv_size facts.boot places.number places.ivs)
 
-key_size : (facts : RealmFacts) (history : List Entry) (row : KeyRow) → IsLawful facts history → key_with (replay history).keys row.key ≡ Some row → length row.key ≡ 16
-key_size facts history row lawful there =
-    found_all (λ (r : KeyRow). length r.key ≡ 16) (replay history).keys row.key row there (laws_of facts history lawful).sizes
+key_size : (facts : RealmFacts) (history : List Entry) (row : KeyRow) → IsOpened facts history → key_with (replay history).keys row.key ≡ Some row → length row.key ≡ 16
+key_size facts history row opened there =
+    found_all (λ (r : KeyRow). length r.key ≡ 16) (replay history).keys row.key row there (key_sizes facts history opened)
 
 -- the vector of a text that was sealed says the boot, the pass and its count
-vector_is : (facts : RealmFacts) (history : List Entry) (x : Ask) (places : Places) (one : Sealing) → IsLawful facts history
+vector_is : (facts : RealmFacts) (history : List Entry) (x : Ask) (places : Places) (one : Sealing) → IsOpened facts history
     → HasSealed facts history x places one → iv_in one.blob ≡ iv_at facts.boot places.number places.ivs
-vector_is facts history x places one lawful sealed =
+vector_is facts history x places one opened sealed =
     let is = is_sealed facts history x places one sealed in
-    ap iv_in is.blob ∙ sealed_iv facts is.row one.context one.plaintext places (key_size facts history is.row lawful is.there)
+    ap iv_in is.blob ∙ sealed_iv facts is.row one.context one.plaintext places (key_size facts history is.row opened is.there)
 
 pub no_iv_again : OnePassRepeatsNoIv
-no_iv_again facts history later x y places later_places one other lawful lawful_later first second on same =
+no_iv_again facts history later x y places later_places one other opened opened_later first second on same =
     let a = is_sealed facts history x places one first in
     let b = is_sealed facts later y later_places other second in
     let up = goes_up facts _ later_places on in
-    let iv = vector_is facts history x places one lawful first in
-    let iv' = vector_is facts later y later_places other lawful_later second in
+    let iv = vector_is facts history x places one opened first in
+    let iv' = vector_is facts later y later_places other opened_later second in
     let count : places.ivs ≡ later_places.ivs = count_told facts.boot facts.boot places.number later_places.number places.ivs later_places.ivs a.few b.few (sym iv ∙ same ∙ iv') in
     omega (arith, up.ivs_from, a.ivs, count)
 
 pub no_iv_shared : PassesShareNoIv
-no_iv_shared facts history later x y places others one other lawful lawful_later first second fits fits_too apart same =
-    let iv = vector_is facts history x places one lawful first in
-    let iv' = vector_is facts later y others other lawful_later second in
+no_iv_shared facts history later x y places others one other opened opened_later first second fits fits_too apart same =
+    let iv = vector_is facts history x places one opened first in
+    let iv' = vector_is facts later y others other opened_later second in
     apart (pass_told facts.boot facts.boot places.number others.number places.ivs others.ivs fits fits_too (sym iv ∙ same ∙ iv'))
 
 pub no_iv_over_boots : BootsShareNoIv
-no_iv_over_boots facts later_facts history later x y places later_places one other lawful lawful_later first second fits fits_too apart same =
-    let iv = vector_is facts history x places one lawful first in
-    let iv' = vector_is later_facts later y later_places other lawful_later second in
+no_iv_over_boots facts later_facts history later x y places later_places one other opened opened_later first second fits fits_too apart same =
+    let iv = vector_is facts history x places one opened first in
+    let iv' = vector_is later_facts later y later_places other opened_later second in
     apart (boot_told facts.boot later_facts.boot places.number later_places.number places.ivs later_places.ivs fits fits_too (sym iv ∙ same ∙ iv'))
 
 -- ---- what was sealed is decrypted again
 
 -- the row of a key that sealed
-sealing_versions : (facts : RealmFacts) (history : List Entry) (row : KeyRow) → IsLawful facts history → key_with (replay history).keys row.key ≡ Some row → HasVersions row
-sealing_versions facts history row lawful there =
-    let laws = laws_of facts history lawful in
+sealing_versions : (facts : RealmFacts) (history : List Entry) (row : KeyRow) → IsHeld facts history → key_with (replay history).keys row.key ≡ Some row → HasVersions row
+sealing_versions facts history row held there =
+    let laws = held_laws facts history held in
     let is = found_all (IsRowOf (length history)) (replay history).keys row.key row there laws.rows.each in
     record { some = is.some; few = omega (arith, is.counted, laws.few) }
 
@@ -139,6 +142,15 @@ record Opens (facts : RealmFacts) (row : KeyRow) (version : ℕ) (context : List
   named : named_in blob ≡ Some (record { key = row.key; version = version })
   key : (name_in blob).key ≡ row.key
   opens_to : opened facts.root blob context ≡ Some text
+
+-- it goes by the root secret alone
+opens_by_root : (facts later : RealmFacts) (row : KeyRow) (version : ℕ) (context : List Pair) (text blob : List ℕ) → later.root ≡ facts.root → Opens facts row version context text blob
+    → Opens later row version context text blob
+opens_by_root facts later row version context text blob same is =
+    record { named = is.named; key = is.key; opens_to = ap (λ (root : List ℕ). opened root blob context) same ∙ is.opens_to }
+
+same_arn : (facts later : RealmFacts) (key : List ℕ) → IsSameAccount facts later → arn_of later key ≡ arn_of facts key
+same_arn facts later key same = ap (λ (account : List ℕ). key_arn_text account later.region key) same.account ∙ ap (λ (region : List ℕ). key_arn_text facts.account region key) same.region
 
 sealed_opens : (facts : RealmFacts) (row : KeyRow) (context : List Pair) (text : List ℕ) (places : Places) → length row.key ≡ 16 → HasVersions row → IsText text
     → Opens facts row (newest_version row) context text (seals facts row context text places)
@@ -215,14 +227,14 @@ may_open view d row alias context kinds same may =
     ∙ ap (λ (o : Option Refusal). or_else o None) ((one_passes view kinds (on_key action.Decrypt row (of_context view row alias context))).1 may)
 
 -- the blob of a version that a key had at a history, at one that goes on from it
-opened_later : (facts : RealmFacts) (history more : List Entry) (y : Ask) (places : Places) (s : Sealing) (row : KeyRow) (version : ℕ) → IsLawful facts (history ++ more)
+opened_later : (facts : RealmFacts) (history more : List Entry) (y : Ask) (places : Places) (s : Sealing) (row : KeyRow) (version : ℕ) → IsHeld facts (history ++ more)
     → key_with (replay history).keys row.key ≡ Some row → row.kind ≡ Symmetric → version ≤ newest_version row → Opens facts row version s.context s.plaintext s.blob → s.arn ≡ arn_of facts row.key
     → AreIdentityPolicies (callers_policies facts.identities y.caller) → (asks : AsksToOpen facts (history ++ more) y places s.blob s.context)
     → reply_to facts (history ++ more) y places ≡ unless_excepted (exception_of s.arn asks.held.stored) (reply.Decrypted s.plaintext s.arn)
-opened_later facts history more y places s row version lawful there symmetric had made arn_is kinds asks =
+opened_later facts history more y places s row version held_all there symmetric had made arn_is kinds asks =
     let d : Decrypt = asks.fields in
     let view : View = view_of facts (history ++ more) y places in
-    let laws = laws_of facts (history ++ more) lawful in
+    let laws = held_laws facts (history ++ more) held_all in
     let later : KeyRow = asks.held in
     let found : key_with view.keys (name_in s.blob).key ≡ Some later = there_of view.moment (key_with view.keys (name_in s.blob).key) later asks.is_held in
     let named_key : later.key ≡ (name_in s.blob).key = found_key view.keys (name_in s.blob).key later found in
@@ -244,19 +256,20 @@ opened_later facts history more y places s row version lawful there symmetric ha
     ∙ ap (λ (arn : List ℕ). unless_excepted (exception_of arn later.stored) (reply.Decrypted s.plaintext arn)) (ap (arn_of facts) id ∙ sym arn_is)
 
 pub decrypted_again : SealedIsDecryptedAgain
-decrypted_again facts history more x y places other_places s lawful proper sealed kinds asks =
+decrypted_again facts later history more x y places other_places s same opened proper sealed kinds asks =
     let is = is_sealed facts history x places s sealed in
-    let before = lawful_front facts history more lawful in
-    let versions = sealing_versions facts history is.row before is.there in
-    let size = key_size facts history is.row before is.there in
+    let before = opened_front later history more opened in
+    let versions = sealing_versions later history is.row before.held is.there in
+    let size = key_size later history is.row before is.there in
     let made = sealed_opens facts is.row s.context s.plaintext places size versions (is.size proper) in
-    opened_later facts history more y other_places s is.row (newest_version is.row) lawful is.there is.symmetric (omega arith)
-    (subst (Opens facts is.row (newest_version is.row) s.context s.plaintext) (sym is.blob) made) is.arn kinds asks
+    opened_later later history more y other_places s is.row (newest_version is.row) opened.held is.there is.symmetric (omega arith)
+    (opens_by_root facts later is.row (newest_version is.row) s.context s.plaintext s.blob same.root
+    (subst (Opens facts is.row (newest_version is.row) s.context s.plaintext) (sym is.blob) made)) (is.arn ∙ sym (same_arn facts later is.row.key same)) kinds asks
 
 pub earlier_decrypted : EarlierBlobsAreDecrypted
-earlier_decrypted facts history more y places s lawful is kinds asks =
-    let before = lawful_front facts history more lawful in
-    let versions = sealing_versions facts history is.row before is.there in
+earlier_decrypted facts history more y places s opened is kinds asks =
+    let before = opened_front facts history more opened in
+    let versions = sealing_versions facts history is.row before.held is.there in
     let can : CanSeal is.row.key is.version is.iv s.plaintext = record {
       id_size = key_size facts history is.row before is.there;
       version_from_one = is.version_from_one;
@@ -265,7 +278,7 @@ earlier_decrypted facts history more y places s lawful is kinds asks =
       text_given = is.text_given;
       text_fits = is.text_fits;
     } in
-    opened_later facts history more y places s is.row is.version lawful is.there is.symmetric is.had
+    opened_later facts history more y places s is.row is.version opened.held is.there is.symmetric is.had
     (subst (Opens facts is.row is.version s.context s.plaintext) (sym is.blob) (sealed_one_opens facts is.row is.version is.iv s.context s.plaintext can)) is.arn kinds asks
 
 -- ---- times
@@ -274,11 +287,8 @@ record IsInOrder (history : List Entry) : Type 0 where
   falls_never : IsNonDecreasingBy (λ (e : Entry). e.time) history
   last : (d : Entry) → 0 < length history → (get_or history (length history - 1) d).time ≡ latest_of history
 
-in_order : (facts : RealmFacts) (history : List Entry) → IsLawful facts history → IsInOrder history
-in_order facts history empty = record { falls_never = λ i j d up within. absurd (omega arith); last = λ d some. absurd (omega arith) }
-in_order facts history (longer {history = before} entry lawful next) =
-    let so_far = in_order facts before lawful in
-    let later = (comes_next facts before entry (laws_of facts before lawful).latest next).later in
+in_order_after : (before : List Entry) (entry : Entry) → latest_of before ≤ entry.time → IsInOrder before → IsInOrder (before ++ entry ∷ [])
+in_order_after before entry later so_far =
     record {
       falls_never = IsNonDecreasingBy-push (λ (e : Entry). e.time) before entry so_far.falls_never (λ d some. subst (λ (n : ℕ). n ≤ entry.time) (sym (so_far.last d some)) later);
       last = λ d some.
@@ -287,8 +297,13 @@ in_order facts history (longer {history = before} entry lawful next) =
           ∙ ap (λ (e : Entry). e.time) (get_or_push before entry d (length before) refl) ∙ sym (latest-push before entry);
     }
 
+in_order : (facts : RealmFacts) (history : List Entry) → IsHeld facts history → IsInOrder history
+in_order facts history no_entry = record { falls_never = λ i j d up within. absurd (omega arith); last = λ d some. absurd (omega arith) }
+in_order facts history (appended_to {history = before} entry held next) = in_order_after before entry (came_last facts before entry held next).later (in_order facts before held)
+in_order facts history (fitted_to {history = before} entry held fits) = in_order_after before entry fits.later (in_order facts before held)
+
 pub times_never_fall : TimesNeverFall
-times_never_fall facts history lawful = (in_order facts history lawful).falls_never
+times_never_fall facts history held = (in_order facts history held).falls_never
 
 -- ---- ids
 
@@ -305,4 +320,4 @@ pub grants_differ : GrantsDiffer
 grants_differ facts p q p_fits q_fits same = place_told p q p_fits q_fits (sym (grant_ends facts p) ∙ ap (drop 26) same ∙ grant_ends facts q)
 
 pub house_kept_once : HouseIsKeptOnce
-house_kept_once facts history clock entry lawful is = kept_once history clock entry (laws_of facts history lawful).days is
+house_kept_once facts history clock entry held is = kept_once history clock entry (held_laws facts history held).days is

@@ -1,3 +1,4 @@
+pub mod Histories
 mod Allowing
 mod HeldFacts
 mod AskingFacts

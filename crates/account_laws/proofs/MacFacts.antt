@@ -36,7 +36,7 @@ use Rattle.account_steps.proofs.Passing.{none_of, ok_same, read_passed, goes_thr
 use Rattle.account_crypto.specs.Crypto.{mac_under, wrong_mac, generates_mac, verifies_mac}
 use Rattle.account_core.specs.Operations.{read_outcome}
 use Rattle.account_core.specs.Decide.{lacking, decide_body, decide}
-use Rattle.account_core.proofs.Fitting.{laws_of}
+use Rattle.account_laws.proofs.Histories.{held_laws}
 use Rattle.account_laws.specs.Laws.{reply_to, exception_of, unless_excepted}
 use Rattle.account_laws.specs.Macs.{HasMac, MacsAreVerifiedAgain}
 use Rattle.account_laws.proofs.Serving.{serves_of}
@@ -131,29 +131,29 @@ may_verify view v named algorithm kinds same may =
     ∙ ap (λ (o : Option Refusal). or_else o None) ((one_passes view kinds (on_key action.VerifyMac named.row (of_mac view named.row named.alias algorithm))).1 may)
 
 pub verified_again : MacsAreVerifiedAgain
-verified_again facts history more x y places other_places message algorithm mac key lawful has kinds asks =
+verified_again facts later history more x y places other_places message algorithm mac key same held has kinds asks =
     let v : VerifyMac = asks.fields in
-    let view : View = view_of facts (history ++ more) y other_places in
+    let view : View = view_of later (history ++ more) y other_places in
     let made = is_made facts history x places message algorithm mac key has in
-    let laws = laws_of facts (history ++ more) lawful in
-    let later : KeyRow = asks.named.row in
-    let there : key_with view.keys later.key ≡ Some later = key_there view v.key_id asks.named asks.is_named in
-    let id : later.key ≡ made.row.key = asks.right_key ∙ sym made.id in
-    let kind : later.kind ≡ made.row.kind = kind_stays history more made.row.key made.row later laws.made made.there (ap (key_with view.keys) (sym id) ∙ there) id in
-    let fit : unfit_mac later.kind v.algorithm ≡ None = ap (λ (k : KeyKind). unfit_mac k v.algorithm) kind ∙ ap (unfit_mac made.row.kind) asks.by_algorithm ∙ made.fit in
+    let laws = held_laws later (history ++ more) held in
+    let row : KeyRow = asks.named.row in
+    let there : key_with view.keys row.key ≡ Some row = key_there view v.key_id asks.named asks.is_named in
+    let id : row.key ≡ made.row.key = asks.right_key ∙ sym made.id in
+    let kind : row.kind ≡ made.row.kind = kind_stays history more made.row.key made.row row laws.made made.there (ap (key_with view.keys) (sym id) ∙ there) id in
+    let fit : unfit_mac row.kind v.algorithm ≡ None = ap (λ (k : KeyKind). unfit_mac k v.algorithm) kind ∙ ap (unfit_mac made.row.kind) asks.by_algorithm ∙ made.fit in
     let allowed = may_verify view v asks.named algorithm kinds asks.by_algorithm asks.may in
-    let state = by_state view later action.VerifyMac refl later.stored refl (key_lives view v.key_id asks.named asks.is_named) in
-    let arn : arn_of facts later.key ≡ arn_of facts key = ap (arn_of facts) asks.right_key in
-    let wanted : mac_under view later v.message ≡ mac =
-    ap (λ (k : List ℕ). mac_of facts.root k v.message) asks.right_key ∙ ap (mac_of facts.root key) asks.of_message ∙ sym made.mac_is in
-    let first = verify_reply facts (history ++ more) y other_places v asks.there asks.body in
+    let state = by_state view row action.VerifyMac refl row.stored refl (key_lives view v.key_id asks.named asks.is_named) in
+    let arn : arn_of later row.key ≡ arn_of later key = ap (arn_of later) asks.right_key in
+    let wanted : mac_under view row v.message ≡ mac =
+    ap (λ (k : List ℕ). mac_of later.root k v.message) asks.right_key ∙ ap (mac_of later.root key) asks.of_message ∙ ap (λ (root : List ℕ). mac_of root key message) same.root ∙ sym made.mac_is in
+    let first = verify_reply later (history ++ more) y other_places v asks.there asks.body in
     record {
       right = λ is.
           first
-          ∙ right view v asks.named asks.is_named allowed asks.live_tokens fit asks.no_dry_run (exception_of (arn_of facts later.key) later.stored) state (valid_if view v later (is ∙ sym wanted))
-          ∙ ap (λ (a : List ℕ). unless_excepted (exception_of a later.stored) (reply.MacValid a)) arn;
+          ∙ right view v asks.named asks.is_named allowed asks.live_tokens fit asks.no_dry_run (exception_of (arn_of later row.key) row.stored) state (valid_if view v row (is ∙ sym wanted))
+          ∙ ap (λ (a : List ℕ). unless_excepted (exception_of a row.stored) (reply.MacValid a)) arn;
       wrong = λ differ.
           first
-          ∙ wrong view v asks.named asks.is_named allowed asks.live_tokens fit asks.no_dry_run (exception_of (arn_of facts later.key) later.stored) state (invalid_if view v later (λ is. differ (is ∙ wanted)))
-          ∙ ap (λ (a : List ℕ). unless_excepted (exception_of a later.stored) (reply.Refused refusal.InvalidMac)) arn;
+          ∙ wrong view v asks.named asks.is_named allowed asks.live_tokens fit asks.no_dry_run (exception_of (arn_of later row.key) row.stored) state (invalid_if view v row (λ is. differ (is ∙ wanted)))
+          ∙ ap (λ (a : List ℕ). unless_excepted (exception_of a row.stored) (reply.Refused refusal.InvalidMac)) arn;
     }

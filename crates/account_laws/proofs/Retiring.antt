@@ -17,10 +17,10 @@ use Rattle.account_rows.specs.History.{replay, place_in_grant, IsMadeHere, IsGra
 use Rattle.account_rows.proofs.GrantFacts.{grants-push}
 use Rattle.account_rows.proofs.RowFacts.{length-push}
 use Rattle.account_steps.specs.declared.facts.RealmFacts.{RealmFacts}
-use Rattle.account_core.specs.Decide.{IsLawful, empty, longer}
+use Rattle.account_core.specs.Fitting.{IsHeld, no_entry, appended_to, fitted_to}
 use Rattle.account_laws.specs.Laws.{DroppedGrantsStayAway}
 use Rattle.account_steps.proofs.Done.{HoldsDropped}
-use Rattle.account_core.proofs.Fitting.{comes_next, laws_of}
+use Rattle.account_laws.proofs.Histories.{Came, held_laws, came_last, came_fitting}
 
 -- no grant has the id, which ends with a place of an entry before
 record IsAway (grant : List ℕ) (n : ℕ) (grants : List GrantRow) : Type 0 where
@@ -75,7 +75,7 @@ dropped_here grant n time w keys grants is holds all =
       told = let b = of.before in omega (arith, place, b);
     })
 
--- ---- along a lawful history
+-- ---- along a history that an account holds
 
 last_is : {X : Type 0} (xs ys : List X) (x y : X) → xs ++ x ∷ [] ≡ ys ++ y ∷ [] → (xs ≡ ys) × (x ≡ y)
 last_is {X} xs ys x y e =
@@ -96,26 +96,29 @@ with_one grant history entry away =
     subst (λ (n : ℕ). IsAway grant n (replay (history ++ entry ∷ [])).grants) (sym (length-push history entry))
     (subst (IsAway grant (length history + 1)) (sym (grants-push history entry)) away)
 
+append_nothing : (xs : List Entry) → xs ++ [] ≡ xs
+append_nothing [] = refl
+append_nothing (x ∷ xs) = ap (λ (l : List Entry). x ∷ l) (append_nothing xs)
+
 module _ (facts : RealmFacts) (grant : List ℕ) (history : List Entry) (entry : Entry) (is : entry.what ≡ what.GrantDrop grant) where
-  away_at : (whole : List Entry) → IsLawful facts whole → (more : List Entry) → whole ≡ (history ++ entry ∷ []) ++ more → AwayAt grant whole
-  away_at whole empty more e =
-      let n = ap length e in
-      absurd (omega (arith, n, length-append (history ++ entry ∷ []) more, length-append history (entry ∷ [])))
-  away_at whole (longer {history = before} last lawful next) [] e =
+  -- the last entry is the one that drops the grant, or the grant is away before it
+  away_after : (before : List Entry) (last : Entry) → IsHeld facts before → Came before last → ((more : List Entry) → before ≡ (history ++ entry ∷ []) ++ more → AwayAt grant before)
+      → (more : List Entry) → before ++ last ∷ [] ≡ (history ++ entry ∷ []) ++ more → AwayAt grant (before ++ last ∷ [])
+  away_after before last held came away [] e =
       let both = last_is before history last entry (e ∙ append_nothing (history ++ entry ∷ [])) in
-      let laws = laws_of facts before lawful in
-      let comes = comes_next facts before last laws.latest next in
-      with_one grant before last (dropped_here grant (length before) last.time last.what (replay before).keys (replay before).grants (ap (λ (x : Entry). x.what) both.1 ∙ is) comes.holds laws.grants)
-    where
-      append_nothing : (xs : List Entry) → xs ++ [] ≡ xs
-      append_nothing [] = refl
-      append_nothing (x ∷ xs) = ap (λ (l : List Entry). x ∷ l) (append_nothing xs)
-  away_at whole (longer {history = before} last lawful next) (first ∷ more) e =
+      with_one grant before last
+      (dropped_here grant (length before) last.time last.what (replay before).keys (replay before).grants (ap (λ (x : Entry). x.what) both.1 ∙ is) came.holds (held_laws facts before held).grants)
+  away_after before last held came away (first ∷ more) e =
       let rest = snoc first more in
       let both = last_is before ((history ++ entry ∷ []) ++ rest.0) last rest.1 (e ∙ ap (λ (l : List Entry). (history ++ entry ∷ []) ++ l) rest.2 ∙ sym (append_assoc (history ++ entry ∷ []) rest.0 (rest.1 ∷ []))) in
-      let laws = laws_of facts before lawful in
-      let comes = comes_next facts before last laws.latest next in
-      with_one grant before last (stays grant (length before) last.time last.what (replay before).keys (replay before).grants comes.fits.made (away_at before lawful rest.0 both.0))
+      with_one grant before last (stays grant (length before) last.time last.what (replay before).keys (replay before).grants came.fits.made (away rest.0 both.0))
+
+  away_at : (whole : List Entry) → IsHeld facts whole → (more : List Entry) → whole ≡ (history ++ entry ∷ []) ++ more → AwayAt grant whole
+  away_at whole no_entry more e =
+      let n = ap length e in
+      absurd (omega (arith, n, length-append (history ++ entry ∷ []) more, length-append history (entry ∷ [])))
+  away_at whole (appended_to {history = before} last held next) more e = away_after before last held (came_last facts before last held next) (away_at before held) more e
+  away_at whole (fitted_to {history = before} last held fits) more e = away_after before last held (came_fitting facts before last fits) (away_at before held) more e
 
 none_with : (grant : List ℕ) (grants : List GrantRow) → All (Differs grant) grants → grant_with grants grant ≡ None
 none_with grant [] all = refl
@@ -126,5 +129,5 @@ none_with grant (row ∷ rows) all = by_test (has_id grant row) (bytes_eq-Decide
     by_test false same later = later
 
 pub dropped_stays_away : DroppedGrantsStayAway
-dropped_stays_away facts history more entry grant lawful is =
-    none_with grant (replay ((history ++ entry ∷ []) ++ more)).grants (away_at facts grant history entry is ((history ++ entry ∷ []) ++ more) lawful more refl).gone
+dropped_stays_away facts history more entry grant held is =
+    none_with grant (replay ((history ++ entry ∷ []) ++ more)).grants (away_at facts grant history entry is ((history ++ entry ∷ []) ++ more) held more refl).gone

@@ -1,4 +1,4 @@
--- The rows of lawful histories stand in order of making.
+-- The rows of the histories that accounts hold stand in order of making.
 use Rattle.std.proofs.Common.{ℕ, ◌+◌, ◌<◌, not, List, [], ◌∷◌, ◌++◌, length, sym, subst, arith}
 use Rattle.std.specs.Prelude.{All}
 use Rattle.std.proofs.lemmas.List.Kept.{AllPairs-filter}
@@ -15,16 +15,14 @@ use Rattle.account_rows.specs.declared.entries.What.TheVariants as what
 use Rattle.account_rows.specs.Changes.{gone_keys}
 use Rattle.account_rows.specs.AliasChanges.{put_row, aliases_after}
 use Rattle.account_rows.specs.GrantChanges.{new_grant, grants_after}
-use Rattle.account_rows.specs.History.{replay, IsGrantOf, IsMadeHere}
+use Rattle.account_rows.specs.History.{replay, IsGrantOf}
 use Rattle.account_rows.proofs.AliasFacts.{may_put, before_after, aliases-push}
-use Rattle.account_rows.proofs.GrantFacts.{grants_rise, grants-push}
+use Rattle.account_rows.proofs.GrantFacts.{grants-push}
 use Rattle.account_rows.proofs.RowFacts.{length-push}
 use Rattle.account_steps.specs.declared.facts.RealmFacts.{RealmFacts}
-use Rattle.account_core.specs.Decide.{IsLawful, empty, longer}
 use Rattle.account_core.specs.Fitting.{IsHeld, no_entry, appended_to, fitted_to}
-use Rattle.account_core.proofs.Fitting.{comes_next, laws_of}
-use Rattle.account_core.proofs.Histories.{latest_held, fitting_of}
-use Rattle.account_laws.specs.Laws.{AreInOrder, RowsStandInOrder, HeldGrantsStandInOrder}
+use Rattle.account_laws.specs.Laws.{AreInOrder, RowsStandInOrder}
+use Rattle.account_laws.proofs.Histories.{held_laws}
 
 -- ---- one entry more
 
@@ -45,24 +43,17 @@ grants_stand n time (what.GrantDrop grant) keys grants all rise = AllPairs-filte
 grants_stand n time what.House keys grants all rise = AllPairs-filter (λ (p q : GrantRow). p.born < q.born) (λ row. not (is_of_any (gone_keys time keys) row)) grants rise
 grants_stand n time other keys grants all rise = rise
 
--- ---- along a lawful history
+-- ---- along a history that an account holds
 
 record Stand (history : List Entry) : Type 0 where
   aliases : AreAliases (replay history).aliases
   before : AreBefore (replay history).aliases (length history)
   grants : Rise (replay history).grants
 
-stand : (facts : RealmFacts) (history : List Entry) → IsLawful facts history → Stand history
-stand facts history empty = record {
-  aliases = ((λ i j d lt within. absurd (omega (arith, within))), (λ i j d lt within. absurd (omega (arith, within))));
-  before = λ k d lt. absurd (omega (arith, lt));
-  grants = λ i j d lt within. absurd (omega (arith, within));
-}
-stand facts history (longer {history = front} entry lawful next) =
-    let so_far = stand facts front lawful in
+stand_with : (front : List Entry) (entry : Entry) → All (IsGrantOf (length front)) (replay front).grants → Stand front → Stand (front ++ entry ∷ [])
+stand_with front entry made so_far =
     let keys : List KeyRow = (replay front).keys in
     let aliases : List AliasRow = (replay front).aliases in
-    let made = (laws_of facts front lawful).grants in
     record {
       aliases = subst AreAliases (sym (aliases-push front entry)) (aliases_stand (length front) entry.time entry.what keys aliases so_far.before so_far.aliases);
       before = subst (λ (n : ℕ). AreBefore (replay (front ++ entry ∷ [])).aliases n) (sym (length-push front entry))
@@ -70,32 +61,16 @@ stand facts history (longer {history = front} entry lawful next) =
       grants = subst Rise (sym (grants-push front entry)) (grants_stand (length front) entry.time entry.what keys (replay front).grants made so_far.grants);
     }
 
+stand : (facts : RealmFacts) (history : List Entry) → IsHeld facts history → Stand history
+stand facts history no_entry = record {
+  aliases = ((λ i j d lt within. absurd (omega (arith, within))), (λ i j d lt within. absurd (omega (arith, within))));
+  before = λ k d lt. absurd (omega (arith, lt));
+  grants = λ i j d lt within. absurd (omega (arith, within));
+}
+stand facts history (appended_to {history = front} entry held next) = stand_with front entry (held_laws facts front held).grants (stand facts front held)
+stand facts history (fitted_to {history = front} entry held fits) = stand_with front entry (held_laws facts front held).grants (stand facts front held)
+
 pub stand_in_order : RowsStandInOrder
-stand_in_order facts history lawful =
-    let rows = stand facts history lawful in
-    record { keys = (laws_of facts history lawful).rows.rise; aliases = rows.aliases.1; grants = rows.grants }
-
--- ---- along a history that an account holds
-
-record HeldGrants (history : List Entry) : Type 0 where
-  of : All (IsGrantOf (length history)) (replay history).grants
-  rise : Rise (replay history).grants
-
-with_entry : (front : List Entry) (entry : Entry) → IsMadeHere (length front) entry.what → HeldGrants front → HeldGrants (front ++ entry ∷ [])
-with_entry front entry made held =
-    let keys : List KeyRow = (replay front).keys in
-    let grants : List GrantRow = (replay front).grants in
-    record {
-      of = subst (λ (n : ℕ). All (IsGrantOf n) (replay (front ++ entry ∷ [])).grants) (sym (length-push front entry))
-          (subst (All (IsGrantOf (length front + 1))) (sym (grants-push front entry)) (grants_rise (length front) entry.time entry.what keys grants made held.of));
-      rise = subst Rise (sym (grants-push front entry)) (grants_stand (length front) entry.time entry.what keys grants held.of held.rise);
-    }
-
-held_grants : (facts : RealmFacts) (history : List Entry) → IsHeld facts history → HeldGrants history
-held_grants facts history no_entry = record { of = λ k d lt. absurd (omega (arith, lt)); rise = λ i j d lt within. absurd (omega (arith, within)) }
-held_grants facts history (appended_to {history = front} entry held next) =
-    with_entry front entry (comes_next facts front entry (latest_held facts front held) next).fits.made (held_grants facts front held)
-held_grants facts history (fitted_to {history = front} entry held fits) = with_entry front entry (fitting_of facts front entry fits).made (held_grants facts front held)
-
-pub held_grants_stand : HeldGrantsStandInOrder
-held_grants_stand facts history held = (held_grants facts history held).rise
+stand_in_order facts history held =
+    let rows = stand facts history held in
+    record { keys = (held_laws facts history held).rows.rise; aliases = rows.aliases.1; grants = rows.grants }

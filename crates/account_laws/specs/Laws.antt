@@ -37,6 +37,7 @@ use Rattle.account_steps.specs.Places.{IsUpTo, no_places}
 use Rattle.account_steps.specs.declared.questions.Question.{Question as Posed}
 use Rattle.account_steps.specs.declared.places.Places.{Places}
 use Rattle.blob_format.specs.Names.{name_in}
+use Rattle.account_rows.specs.declared.entries.What.{What}
 use Rattle.account_rows.specs.declared.entries.What.TheVariants as what
 use Rattle.alias_map.specs.declared.rows.AliasRow.{AliasRow}
 use Rattle.grant_table.specs.declared.rows.GrantRow.{GrantRow}
@@ -57,7 +58,38 @@ use Rattle.account_lists.specs.Lists.{listed_keys, listed_aliases, retirable_gra
 use Rattle.account_core.specs.declared.asking.Asked.{Asked}
 use Rattle.account_core.specs.declared.asking.Asked.TheVariants as asked
 use Rattle.account_core.specs.Fitting as Fitting
-use Rattle.account_core.specs.Decide.{lacking, decide, asked_at, IsProper, IsLawful}
+use Rattle.account_core.specs.Decide.{lacking, decide, asked_at, IsProper, IsNext, IsLawful}
+
+-- ---- the histories of opened accounts
+
+-- an entry that makes a key names it by 16 bytes
+abbrev pub KeyHasSize : What → Type 0
+KeyHasSize (what.CreateKey key kind description policy tags) = length key ≡ 16
+KeyHasSize _ = ⊤
+
+abbrev pub HasKeySize : Entry → Type 0
+HasKeySize entry = KeyHasSize entry.what
+
+-- each entry is one that requests or housekeeping append to those before it, or one that fits them, as loaded entries do; and keys have ids of 16 bytes
+pub record IsOpened (facts : RealmFacts) (history : List Entry) : Type 0 where
+  pub held : Fitting.IsHeld facts history
+  pub sized : All HasKeySize history
+
+-- such is each history of an account that began with nothing, which is lawful
+abbrev pub LawfulHistoriesAreOpened : Type 0
+LawfulHistoriesAreOpened = (facts : RealmFacts) (history : List Entry) → IsLawful facts history → IsOpened facts history
+
+-- and each history to which an entry comes that a request or housekeeping appends
+abbrev pub NextEntriesKeepOpened : Type 0
+NextEntriesKeepOpened = (facts : RealmFacts) (history : List Entry) (entry : Entry) → IsOpened facts history → IsNext facts history entry → IsOpened facts (history ++ entry ∷ [])
+
+-- another run of the account, in the same region and under the same root secret: its boot, its callers' policies and its ceiling may be others
+pub record IsSameAccount (facts later : RealmFacts) : Type 0 where
+  pub account : later.account ≡ facts.account
+  pub region : later.region ≡ facts.region
+  pub root : later.root ≡ facts.root
+
+-- ---- sealed texts
 
 -- a blob, the text that is sealed in it, the context that it is sealed under, and the ARN of the key
 pub record Sealing : Type 0 where
@@ -115,14 +147,14 @@ unless_excepted None reply = reply
 unless_excepted (Some why) reply = Refused why
 
 -- the text that a request sealed is what Decrypt answers for its blob, with the ARN of the same key, at that history and at
--- every lawful one that goes on from it, whatever rotations stand between, to whoever may decrypt and by whatever pass, where
+-- every one that goes on from it, also in a later run that loaded it, whatever rotations stand between, to whoever may decrypt and by whatever pass, where
 -- the key is enabled; where it is disabled, or its deletion is scheduled, the answer is the exception of that state
 abbrev pub SealedIsDecryptedAgain : Type 0
 SealedIsDecryptedAgain =
-    (facts : RealmFacts) (history more : List Entry) (x y : Ask) (places other_places : Places) (sealing : Sealing)
-    → IsLawful facts (history ++ more) → IsProper facts x → HasSealed facts history x places sealing
-    → AreIdentityPolicies (callers_policies facts.identities y.caller) → (asks : AsksToOpen facts (history ++ more) y other_places sealing.blob sealing.context)
-    → reply_to facts (history ++ more) y other_places ≡ unless_excepted (exception_of sealing.arn asks.held.stored) (reply.Decrypted sealing.plaintext sealing.arn)
+    (facts later : RealmFacts) (history more : List Entry) (x y : Ask) (places other_places : Places) (sealing : Sealing) → IsSameAccount facts later
+    → IsOpened later (history ++ more) → IsProper facts x → HasSealed facts history x places sealing
+    → AreIdentityPolicies (callers_policies later.identities y.caller) → (asks : AsksToOpen later (history ++ more) y other_places sealing.blob sealing.context)
+    → reply_to later (history ++ more) y other_places ≡ unless_excepted (exception_of sealing.arn asks.held.stored) (reply.Decrypted sealing.plaintext sealing.arn)
 
 -- a blob of form 1, as earlier versions sealed it: of this text under this context, with any initialization vector, under the
 -- material of a version that a symmetric key had at this history
@@ -144,7 +176,7 @@ pub record SealedEarlier (facts : RealmFacts) (history : List Entry) (sealing : 
 abbrev pub EarlierBlobsAreDecrypted : Type 0
 EarlierBlobsAreDecrypted =
     (facts : RealmFacts) (history more : List Entry) (y : Ask) (places : Places) (sealing : Sealing)
-    → IsLawful facts (history ++ more) → SealedEarlier facts history sealing
+    → IsOpened facts (history ++ more) → SealedEarlier facts history sealing
     → AreIdentityPolicies (callers_policies facts.identities y.caller) → (asks : AsksToOpen facts (history ++ more) y places sealing.blob sealing.context)
     → reply_to facts (history ++ more) y places ≡ unless_excepted (exception_of sealing.arn asks.held.stored) (reply.Decrypted sealing.plaintext sealing.arn)
 
@@ -162,7 +194,7 @@ iv_in blob = slice_range blob 21 33
 abbrev pub OnePassRepeatsNoIv : Type 0
 OnePassRepeatsNoIv =
     (facts : RealmFacts) (history later : List Entry) (x y : Ask) (places later_places : Places) (one other : Sealing)
-    → IsLawful facts history → IsLawful facts later
+    → IsOpened facts history → IsOpened facts later
     → HasSealed facts history x places one → HasSealed facts later y later_places other
     → PassGoesOn facts (decide facts history x places).places later_places
     → iv_in one.blob ≢ iv_in other.blob
@@ -171,7 +203,7 @@ OnePassRepeatsNoIv =
 abbrev pub PassesShareNoIv : Type 0
 PassesShareNoIv =
     (facts : RealmFacts) (history later : List Entry) (x y : Ask) (places others : Places) (one other : Sealing)
-    → IsLawful facts history → IsLawful facts later
+    → IsOpened facts history → IsOpened facts later
     → HasSealed facts history x places one → HasSealed facts later y others other
     → places.number < 2 ^ 16 → others.number < 2 ^ 16 → places.number ≢ others.number
     → iv_in one.blob ≢ iv_in other.blob
@@ -180,14 +212,14 @@ PassesShareNoIv =
 abbrev pub BootsShareNoIv : Type 0
 BootsShareNoIv =
     (facts later_facts : RealmFacts) (history later : List Entry) (x y : Ask) (places later_places : Places) (one other : Sealing)
-    → IsLawful facts history → IsLawful later_facts later
+    → IsOpened facts history → IsOpened later_facts later
     → HasSealed facts history x places one → HasSealed later_facts later y later_places other
     → facts.boot < 2 ^ 32 → later_facts.boot < 2 ^ 32 → facts.boot ≢ later_facts.boot
     → iv_in one.blob ≢ iv_in other.blob
 
--- along a lawful history times never fall
+-- along a history that an account holds times never fall
 abbrev pub TimesNeverFall : Type 0
-TimesNeverFall = (facts : RealmFacts) (history : List Entry) → IsLawful facts history → IsNonDecreasingBy (λ entry. entry.time) history
+TimesNeverFall = (facts : RealmFacts) (history : List Entry) → Fitting.IsHeld facts history → IsNonDecreasingBy (λ entry. entry.time) history
 
 -- keys that entries at different places make have different ids
 abbrev pub KeysDiffer : Type 0
@@ -200,13 +232,13 @@ GrantsDiffer = (facts : RealmFacts) (p q : ℕ) → p < 2 ^ 48 → q < 2 ^ 48 �
 -- housekeeping that was kept at a clock's answer has nothing more to do at it
 abbrev pub HouseIsKeptOnce : Type 0
 HouseIsKeptOnce =
-    (facts : RealmFacts) (history : List Entry) (clock : ℕ) (entry : Entry) → IsLawful facts history → housekeeping_of history clock ≡ Some entry
+    (facts : RealmFacts) (history : List Entry) (clock : ℕ) (entry : Entry) → Fitting.IsHeld facts history → housekeeping_of history clock ≡ Some entry
     → housekeeping_of (history ++ entry ∷ []) clock ≡ None
 
--- a grant that an entry of a lawful history drops stays away: at that history, and at every lawful one that begins with it, no grant has its id
+-- a grant that an entry of a history drops stays away: at that history, and at every one that begins with it, no grant has its id
 abbrev pub DroppedGrantsStayAway : Type 0
 DroppedGrantsStayAway =
-    (facts : RealmFacts) (history more : List Entry) (entry : Entry) (grant : List ℕ) → IsLawful facts ((history ++ entry ∷ []) ++ more) → entry.what ≡ what.GrantDrop grant
+    (facts : RealmFacts) (history more : List Entry) (entry : Entry) (grant : List ℕ) → Fitting.IsHeld facts ((history ++ entry ∷ []) ++ more) → entry.what ≡ what.GrantDrop grant
     → grant_with (replay ((history ++ entry ∷ []) ++ more)).grants grant ≡ None
 
 -- ---- lists
@@ -221,13 +253,9 @@ pub record StandInOrder (state : State) : Type 0 where
   pub aliases : AreInOrder (λ (row : AliasRow). row.born) state.aliases
   pub grants : AreInOrder (λ (grant : GrantRow). grant.born) state.grants
 
--- and so do those of every lawful history
+-- and so do those of every history that an account holds
 abbrev pub RowsStandInOrder : Type 0
-RowsStandInOrder = (facts : RealmFacts) (history : List Entry) → IsLawful facts history → StandInOrder (replay history)
-
--- so do the grants of a history that an account holds, with entries that whoever made
-abbrev pub HeldGrantsStandInOrder : Type 0
-HeldGrantsStandInOrder = (facts : RealmFacts) (history : List Entry) → Fitting.IsHeld facts history → AreInOrder (λ (grant : GrantRow). grant.born) (replay history).grants
+RowsStandInOrder = (facts : RealmFacts) (history : List Entry) → Fitting.IsHeld facts history → StandInOrder (replay history)
 
 -- a list stands in order of making, and its parts that follow one another's markers come to an end and, joined, are exactly its rows behind the place
 -- where they begin
@@ -243,10 +271,10 @@ pub record ListsAreWhole (view : View) : Type 0 where
   pub grants : (key : List ℕ) (sought : Sought) → IsWhole (λ (grant : GrantRow). grant.born) (grants_of_key view key sought)
   pub rotations : (row : KeyRow) → IsWhole (λ (numbered : Numbered). numbered.number) (rotations_of row)
 
--- so it is at every lawful history, whatever the request's moment, its caller and the places of the pass
-abbrev pub ListsOfLawfulHistoriesAreWhole : Type 0
-ListsOfLawfulHistoriesAreWhole =
-    (facts : RealmFacts) (history : List Entry) (x : Ask) (places : Places) → IsLawful facts history → ListsAreWhole (view_of facts history x places)
+-- so it is at every history that an account holds, whatever the request's moment, its caller and the places of the pass
+abbrev pub ListsOfHistoriesAreWhole : Type 0
+ListsOfHistoriesAreWhole =
+    (facts : RealmFacts) (history : List Entry) (x : Ask) (places : Places) → Fitting.IsHeld facts history → ListsAreWhole (view_of facts history x places)
 
 -- the tags of a key stand in ascending byte order of their keys, and the parts of their list that follow one another's markers come to an end and, joined, are exactly
 -- those whose keys are above the bytes where they begin

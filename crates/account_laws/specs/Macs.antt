@@ -19,8 +19,9 @@ use Rattle.account_steps.specs.Authority.{on_key, of_mac, MayAsk}
 use Rattle.account_steps.specs.Parts.{dead_token}
 use Rattle.account_steps.specs.Steps.{key_of, arn_of}
 use Rattle.account_steps.specs.View.{view_of}
-use Rattle.account_core.specs.Decide.{lacking, IsLawful}
-use Rattle.account_laws.specs.Laws.{reply_to, exception_of, unless_excepted}
+use Rattle.account_core.specs.Decide.{lacking}
+use Rattle.account_core.specs.Fitting as Fitting
+use Rattle.account_laws.specs.Laws.{IsSameAccount, reply_to, exception_of, unless_excepted}
 
 -- the reply to the request is this MAC of a message, by an algorithm, under the key of this id, which the request names
 pub record HasMac (facts : RealmFacts) (history : List Entry) (x : Ask) (places : Places) (message algorithm mac key : List ℕ) : Type 0 where
@@ -53,12 +54,12 @@ pub record Verifies (wanted : List ℕ) (given : List ℕ) (arn : List ℕ) (exc
   pub right : given ≡ wanted → answer ≡ except (reply.MacValid arn)
   pub wrong : given ≢ wanted → answer ≡ except (reply.Refused refusal.InvalidMac)
 
--- the MAC that GenerateMac answered is valid to VerifyMac, with the ARN of the same key, at that history and at every lawful one that goes on from it, for whoever may
+-- the MAC that GenerateMac answered is valid to VerifyMac, with the ARN of the same key, at that history and at every one that goes on from it, also in a later run that loaded it, for whoever may
 -- verify and by whatever pass, where the key is enabled, and every other MAC is KMSInvalidMacException there; where the key is disabled, or its deletion is scheduled,
 -- the answer is the exception of that state
 abbrev pub MacsAreVerifiedAgain : Type 0
 MacsAreVerifiedAgain =
-    (facts : RealmFacts) (history more : List Entry) (x y : Ask) (places other_places : Places) (message algorithm mac key : List ℕ)
-    → IsLawful facts (history ++ more) → HasMac facts history x places message algorithm mac key
-    → AreIdentityPolicies (callers_policies facts.identities y.caller) → (asks : AsksToVerify facts (history ++ more) y other_places message algorithm key)
-    → Verifies mac asks.fields.mac (arn_of facts key) (unless_excepted (exception_of (arn_of facts key) asks.named.row.stored)) (reply_to facts (history ++ more) y other_places)
+    (facts later : RealmFacts) (history more : List Entry) (x y : Ask) (places other_places : Places) (message algorithm mac key : List ℕ) → IsSameAccount facts later
+    → Fitting.IsHeld later (history ++ more) → HasMac facts history x places message algorithm mac key
+    → AreIdentityPolicies (callers_policies later.identities y.caller) → (asks : AsksToVerify later (history ++ more) y other_places message algorithm key)
+    → Verifies mac asks.fields.mac (arn_of later key) (unless_excepted (exception_of (arn_of later key) asks.named.row.stored)) (reply_to later (history ++ more) y other_places)

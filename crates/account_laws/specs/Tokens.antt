@@ -23,7 +23,7 @@ use Rattle.account_crypto.specs.Crypto.{encrypts, decrypts, re_encrypts, generat
 use Rattle.account_crypto.specs.declared.data_keys.DataKeyForm.TheVariants as form
 use Rattle.account_keys.specs.Keys.{describes_key}
 use Rattle.account_keys.specs.Grants.{creates_grant}
-use Rattle.account_core.specs.Decide.{IsLawful}
+use Rattle.account_core.specs.Fitting.{IsHeld}
 use Rattle.account_core.specs.Operations.{read_outcome, change_outcome}
 
 -- a request comes to the step of grant tokens, and gives this one: its references are found, and authority passes
@@ -49,9 +49,9 @@ pub record RefusesToken (view : View) (token : List ℕ) : Type 0 where
   pub create_grant : (x : CreateGrant) → ComesToTokens view (creates_grant view x).parts token → change_outcome view (changing.CreateGrant x) ≡ Err refusal.InvalidGrantToken
   pub retire_grant : (dry_run : Bool) → change_outcome view (changing.RetireGrant (retired.OfToken token) dry_run) ≡ Err refusal.InvalidGrantToken
 
--- so it is with the token of a grant that an entry of a lawful history drops, at that history and at every lawful one that begins with
+-- so it is with the token of a grant that an entry of a history drops, at that history and at every one that an account holds and that begins with
 -- it; no later grant has its id
 abbrev pub DeadTokensAreRefused : Type 0
 DeadTokensAreRefused =
-    (facts : RealmFacts) (history more : List Entry) (entry : Entry) (grant token : List ℕ) (x : Ask) (places : Places) → IsLawful facts ((history ++ entry ∷ []) ++ more)
+    (facts : RealmFacts) (history more : List Entry) (entry : Entry) (grant token : List ℕ) (x : Ask) (places : Places) → IsHeld facts ((history ++ entry ∷ []) ++ more)
     → entry.what ≡ what.GrantDrop grant → grant_id_of token ≡ Some grant → RefusesToken (view_of facts ((history ++ entry ∷ []) ++ more) x places) token

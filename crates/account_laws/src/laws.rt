@@ -1,27 +1,37 @@
-//! Laws of what the account answers. Each stands as the contract of a function that does nothing.
+//! Laws of what the account answers. Each stands as the contract of a function that does nothing. They hold of every history
+//! that an account holds: of a lawful one, and of one that was loaded and then went on. Those of sealed texts ask besides that
+//! the ids of keys have 16 bytes (`IsOpened`), as `histories_stay_opened` says that they do.
 
-ghost use Rattle.account_laws.specs.Laws.{SealedIsDecryptedAgain, EarlierBlobsAreDecrypted, OnePassRepeatsNoIv, PassesShareNoIv, BootsShareNoIv, TimesNeverFall, HouseIsKeptOnce, KeysDiffer, GrantsDiffer, PassesWhereStatementsAllow, PassesWithoutACeiling, NamesTheFirstDenied, AuthorityAsksTheseQuestions, GrantsPermit, DroppedGrantsStayAway, RowsStandInOrder, HeldGrantsStandInOrder, ListsOfLawfulHistoriesAreWhole, TagsOfKeysAreWhole};
+ghost use Rattle.account_laws.specs.Laws.{SealedIsDecryptedAgain, EarlierBlobsAreDecrypted, OnePassRepeatsNoIv, PassesShareNoIv, BootsShareNoIv, TimesNeverFall, HouseIsKeptOnce, KeysDiffer, GrantsDiffer, PassesWhereStatementsAllow, PassesWithoutACeiling, NamesTheFirstDenied, AuthorityAsksTheseQuestions, GrantsPermit, DroppedGrantsStayAway, RowsStandInOrder, ListsOfHistoriesAreWhole, TagsOfKeysAreWhole, LawfulHistoriesAreOpened, NextEntriesKeepOpened};
 ghost use Rattle.account_laws.specs.Macs.{MacsAreVerifiedAgain};
 ghost use Rattle.account_laws.specs.Tokens.{DeadTokensAreRefused};
 ghost use Rattle.account_steps.specs.View.{View};
 ghost use Rattle.account_lists.specs.Lists.{PartsOfListsMakeTheWhole};
 
+/// A lawful history, as that of an account that began with nothing, is opened, and an opened one stays so with each entry that
+/// a request or housekeeping appends.
+pub fn histories_stay_opened()
+    ensures lawful { LawfulHistoriesAreOpened }
+    ensures next { NextEntriesKeepOpened }
+{}
+
 /// What Encrypt, ReEncrypt or a data key call answered as sealed under a context, Decrypt opens to the
-/// text that was sealed, at that history and at every lawful one that goes on from it, where the key is
-/// there and enabled, whatever rotations stand between: under an equal context, for any pass and any
-/// caller whom statements allow it, where the key is left out or is the blob's, the algorithm is left out
-/// or that of symmetric keys, and the request has no Recipient and no DryRun, and waits for no entry that
-/// isn't there. The reply names the key that sealed the text. Where the key is disabled, or its deletion
-/// is scheduled, the reply is the exception of that state.
+/// text that was sealed, at that history and at every one that goes on from it, also in a later run that
+/// loaded it (of the same account and region, under the same root secret), where the key is there and
+/// enabled, whatever rotations stand between: under an equal context, for any pass and any caller whom
+/// statements allow it, where the key is left out or is the blob's, the algorithm is left out or that of
+/// symmetric keys, and the request has no Recipient and no DryRun, and waits for no entry that isn't
+/// there. The reply names the key that sealed the text. Where the key is disabled, or its deletion is
+/// scheduled, the reply is the exception of that state.
 pub fn sealed_is_decrypted_again()
     ensures { SealedIsDecryptedAgain }
 {}
 
-/// The MAC that GenerateMac answered for a message is valid to VerifyMac, at that history and at every lawful one that
-/// goes on from it, where the key is there and enabled: by the same algorithm, for any pass and any caller whom statements
-/// or grants allow it, where the request has no DryRun, and waits for no entry that isn't there. Every other MAC is
-/// KMSInvalidMacException there. Where the key is disabled, or its deletion is scheduled, the reply is the exception of that
-/// state.
+/// The MAC that GenerateMac answered for a message is valid to VerifyMac, at that history and at every one
+/// that goes on from it, also in a later run that loaded it, where the key is there and enabled: by the
+/// same algorithm, for any pass and any caller whom statements or grants allow it, where the request has no
+/// DryRun, and waits for no entry that isn't there. Every other MAC is KMSInvalidMacException there. Where
+/// the key is disabled, or its deletion is scheduled, the reply is the exception of that state.
 pub fn macs_are_verified_again()
     ensures { MacsAreVerifiedAgain }
 {}
@@ -33,7 +43,7 @@ pub fn earlier_blobs_are_decrypted()
 {}
 
 /// The blobs that one pass seals have initialization vectors of their own: a blob's differs from those
-/// of all that the pass seals later, at whatever lawful histories, keys and contexts.
+/// of all that the pass seals later, at whatever histories, keys and contexts.
 pub fn one_pass_repeats_no_iv()
     ensures { OnePassRepeatsNoIv }
 {}
@@ -49,7 +59,7 @@ pub fn boots_share_no_iv()
     ensures { BootsShareNoIv }
 {}
 
-/// Along a lawful history times never fall, whatever the clock answers.
+/// Along a history times never fall, whatever the clock answers.
 pub fn times_never_fall()
     ensures { TimesNeverFall }
 {}
@@ -107,35 +117,30 @@ pub fn grants_permit()
     ensures { GrantsPermit }
 {}
 
-/// A grant that was retired or revoked stays away: at every lawful history that goes on from its
+/// A grant that was retired or revoked stays away: at every history that goes on from its
 /// entry no grant has its id.
 pub fn dropped_grants_stay_away()
     ensures { DroppedGrantsStayAway }
 {}
 
 /// The token of a grant that was retired or revoked is refused by its name, InvalidGrantTokenException (AWS
-/// KMS API Reference), at every lawful history that goes on from its entry: by each operation that takes
+/// KMS API Reference), at every history that goes on from its entry: by each operation that takes
 /// tokens wherever its references are found and authority passes, and by RetireGrant in any case.
 pub fn dead_tokens_are_refused()
     ensures { DeadTokensAreRefused }
 {}
 
-/// The keys, the aliases and the grants of a lawful history stand in order of making.
+/// The keys, the aliases and the grants of a history stand in order of making, whoever made its entries.
 pub fn rows_stand_in_order()
     ensures { RowsStandInOrder }
 {}
 
-/// The grants of any history that an account holds stand in order of making, whoever made its entries.
-pub fn held_grants_stand_in_order()
-    ensures { HeldGrantsStandInOrder }
-{}
-
-/// Each list of a lawful history stands in order of making. Its parts, each behind the marker of the one
+/// Each list of a history stands in order of making. Its parts, each behind the marker of the one
 /// before it, come to an end, and joined they are its rows behind the place where they begin, each once.
 /// At any view, joined parts are these rows where the list's rows stand in order of making. So do the tags of
 /// each key, in the byte order of their keys.
 pub fn parts_make_the_whole()
     ensures in_order { (view : View) → PartsOfListsMakeTheWhole view }
-    ensures lawful { ListsOfLawfulHistoriesAreWhole }
+    ensures lists { ListsOfHistoriesAreWhole }
     ensures tags { TagsOfKeysAreWhole }
 {}

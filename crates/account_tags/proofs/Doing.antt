@@ -6,6 +6,7 @@ use Rattle.kms_json.specs.declared.refusals.Refusal.{Refusal}
 use Rattle.kms_json.specs.declared.refusals.Refusal.TheVariants as refusal
 use Rattle.resource_tags.specs.Tags.{Tags, with_tags}
 use Rattle.resource_tags.specs.declared.tags.Tag.{Tag as TagValue}
+use Rattle.tag_order.specs.Order.{in_order}
 use Rattle.key_states.specs.declared.rows.KeyRow.{KeyRow}
 use Rattle.account_rows.specs.History.{TagsFitOn}
 use Rattle.account_rows.specs.declared.entries.What.{What}
@@ -14,7 +15,7 @@ use Rattle.account_steps.specs.Steps.{unless, improper}
 use Rattle.account_steps.specs.View.{View}
 use Rattle.account_steps.proofs.Done.{IsDone, DoesWell, does_this}
 use Rattle.account_steps.proofs.Holding.{only_key_there}
-use Rattle.account_steps.proofs.Passing.{next_of, none_of}
+use Rattle.account_steps.proofs.Passing.{next_of, none_of, ok_same}
 use Rattle.account_tags.specs.Tagging.{too_many, has_some, tags_key, untags_key}
 
 below_of : (b : Bool) (why : Refusal) → (if b then Some why else None) ≡ None → b ≡ false
@@ -26,13 +27,14 @@ few_of tags more e = let no = below_of (nat_lt 50 (length (with_tags tags more))
 
 pub tags : (view : View) (key_id : List ℕ) (more : List TagValue) → DoesWell view (tags_key view key_id more)
 tags view key_id more found ready did found_is own_is e =
-    let proper = next_of (improper more) (unless (too_many found.tags more) (Ok tt)) ready own_is in
-    let few = few_of found.tags more (none_of (too_many found.tags more) (Ok tt) ready proper) in
-    does_this view (what.Tag found.key more) did (record {
+    let proper = next_of (improper more) (unless (too_many found.tags (in_order more)) (Ok (in_order more))) ready own_is in
+    let few = few_of found.tags (in_order more) (none_of (too_many found.tags (in_order more)) (Ok (in_order more)) ready proper) in
+    let same : in_order more ≡ ready = ok_same (in_order more) ready (next_of (too_many found.tags (in_order more)) (Ok (in_order more)) ready proper) in
+    does_this view (what.Tag found.key ready) did (record {
       made = tt;
       gives = tt;
       holds = tt;
-      tagged = subst (λ (o : Option KeyRow). TagsFitOn o more) (sym (only_key_there view key_id found found_is)) few;
+      tagged = subst (λ (o : Option KeyRow). TagsFitOn o ready) (sym (only_key_there view key_id found found_is)) (subst (λ (t : List TagValue). length (with_tags found.tags t) ≤ 50) same few);
     }) e
 
 untagged_by : (view : View) (b : Bool) (row : KeyRow) (keys : List (List ℕ)) (did : What) → (if b then Some (what.Untag row.key keys) else None) ≡ Some did → IsDone view did

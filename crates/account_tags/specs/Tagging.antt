@@ -5,6 +5,7 @@ use Rattle.std.specs.List.{list_any}
 use Rattle.persist_map.specs.Pairs.{value_at}
 use Rattle.resource_tags.specs.Tags.{Tags, by_bytes, with_tags}
 use Rattle.resource_tags.specs.declared.tags.Tag.{Tag}
+use Rattle.tag_order.specs.Order.{in_order}
 use Rattle.kms_names.specs.declared.actions.Action.TheVariants as action
 use Rattle.kms_json.specs.declared.asks.pages.Page.{Page}
 use Rattle.kms_json.specs.declared.refusals.Limit.TheVariants as limit
@@ -24,19 +25,19 @@ use Rattle.account_tags.specs.Pages.{behind_marker, part_of}
 abbrev pub too_many : Tags → List Tag → Option Refusal
 too_many tags more = if nat_lt 50 (length (with_tags tags more)) then Some (refusal.LimitExceeded limit.Tags) else None
 
--- TagResource
-abbrev pub tags_key : View → List ℕ → List Tag → ChangeParts KeyRow ⊤
+-- TagResource, whose entry has the tags in the order of their keys
+abbrev pub tags_key : View → List ℕ → List Tag → ChangeParts KeyRow (List Tag)
 tags_key view reference tags = record {
   parts = record {
     found = only_key_of view reference;
     questions = λ row. on_key action.TagResource row (record (of_key view row) { request_tags = tags }) ∷ [];
     tokens = [];
     uses = λ row. record { action = action.TagResource; key = row } ∷ [];
-    own = λ row. unless (improper tags) (unless (too_many row.tags tags) (Ok tt));
+    own = λ row. unless (improper tags) (unless (too_many row.tags (in_order tags)) (Ok (in_order tags)));
     dry_run = false;
     reply = λ row ready. reply.Done;
   };
-  does = λ row ready. Some (what.Tag row.key tags);
+  does = λ row ready. Some (what.Tag row.key ready);
 }
 
 -- a tag of the key has one of these keys

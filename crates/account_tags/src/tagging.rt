@@ -12,6 +12,7 @@ use kms_json::{Limit, Refusal, Reply};
 use kms_names::{Action, NoMemory, Text, TextList};
 use resource_tags::{TagFault, TagList, TagMap};
 use std::alloc::Global;
+use tag_order::in_order;
 
 // Stops where a key would have too many tags.
 fn keep_few(tags: &TagMap, more: &TagList) -> Result<(), Stop>
@@ -38,7 +39,7 @@ pub struct TaggingKey<'a> {
 impl<'a> Request for TaggingKey<'a> {
     type Found = Lent<'a>;
 
-    type Ready = ();
+    type Ready = TagList;
 
     ghost seen = { λ op. op.view.now };
 
@@ -68,9 +69,11 @@ impl<'a> Request for TaggingKey<'a> {
         self.view.fit(alloc, Action::TagResource, found)
     }
 
-    fn own(&self, _alloc: Global, found: &Lent<'a>) -> Result<(), Stop> {
+    fn own(&self, alloc: Global, found: &Lent<'a>) -> Result<TagList, Stop> {
         refuse(improper(self.tags.as_slice()))?;
-        keep_few(&found.row().tags, self.tags)
+        let tags = in_order(alloc, self.tags.as_slice())?;
+        keep_few(&found.row().tags, &tags)?;
+        Ok(tags)
     }
 
     fn dry_run(&self) -> bool {
@@ -81,13 +84,12 @@ impl<'a> Request for TaggingKey<'a> {
 impl<'a> Changes for TaggingKey<'a> {
     ghost does = { λ op. (tags_key op.view.now op.key_id.now op.tags.now).does };
 
-    fn make(&self, _alloc: Global, found: Lent<'a>, _ready: ()) -> Result<Made, NoMemory> {
-        let tags = self.tags.copy()?;
+    fn make(&self, _alloc: Global, found: Lent<'a>, ready: TagList) -> Result<Made, NoMemory> {
         Ok(Made {
             reply: Reply::Done,
             what: Some(What::Tag {
                 key: found.row().key,
-                tags,
+                tags: ready,
             }),
         })
     }

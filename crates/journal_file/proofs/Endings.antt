@@ -53,6 +53,7 @@ module _ (facts : RealmFacts) (boot : ℕ) (text : List ℕ) (account : Account)
     same = so_far.same;
     lower = subst (λ (f : RealmFacts). boot < f.boot) so_far.same lower;
     sound = so_far.sound;
+    read = so_far.read;
     text = rightly none counted sealed;
   }
 

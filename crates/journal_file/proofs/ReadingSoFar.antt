@@ -1,6 +1,8 @@
 -- What a reading has come to.
 use Rattle.std.proofs.Common.{◌≡◌, ◌≢◌, ℕ, ◌+◌, ◌<◌, ◌≤◌, List, [], ◌∷◌, ◌++◌, length, map, codes, refl, sym, ap, subst, ◌∙◌, append_assoc, append-nil, length-append, arith, ◌-◌}
+use Rattle.std.specs.Prelude.{All}
 use Rattle.std.proofs.lemmas.List.{length-drop}
+use Rattle.std.proofs.lemmas.List.Elements.{All-nil, All-push}
 use Rattle.mac_sha.specs.Running.{IsMac}
 use Rattle.mac_sha.specs.declared.Mac.{Mac}
 use Rattle.account_steps.specs.declared.facts.RealmFacts.{RealmFacts}
@@ -11,7 +13,8 @@ use Rattle.journal_lines.specs.Cuts.{lines_of, place_of, first_line, behind_line
 use Rattle.journal_lines.specs.Lines.{entry_line}
 use Rattle.journal_lines.specs.FrameLines.{head_line, IsEnd}
 use Rattle.journal_file.specs.Journal.{entries_text, before_end}
-use Rattle.journal_file.specs.Faults.{IsLeft, IsFaultBehind, IsWithLine}
+use Rattle.journal_lines.specs.LineReading.{entry_of}
+use Rattle.journal_file.specs.Faults.{IsLeft, IsFaultBehind, IsWithLine, IsReadBack}
 use Rattle.journal_lines.specs.Forms.{IsEntry}
 use Rattle.journal_file.specs.declared.faults.JournalFault.TheVariants.{At}
 use Rattle.journal_lines.proofs.CutFacts.{next_line, cut_whole}
@@ -20,6 +23,7 @@ use Rattle.journal_lines.proofs.CutFacts.{next_line, cut_whole}
 pub record IsSoFar (facts : RealmFacts) (boot : ℕ) (text : List ℕ) (account : Account) (mac : Mac) (rest : List ℕ) : Type 0 where
   pub same : account.facts ≡ facts
   pub sound : IsSound facts account.entries
+  pub read : All IsReadBack account.entries
   pub lines : lines_of text ≡ map entry_line account.entries ++ lines_of rest
   pub whole : text ≡ entries_text account.entries ++ rest
   pub few : length account.entries + length rest ≤ length text
@@ -43,6 +47,7 @@ module _ (facts : RealmFacts) (boot : ℕ) (text : List ℕ) where
       record {
         same = same;
         sound = subst (IsSound facts) (sym none) IsSound.nothing;
+        read = subst (All IsReadBack) (sym none) (All-nil IsReadBack);
         lines = ap (λ (h : List Entry). map entry_line h ++ lines_of text) (sym none);
         whole = ap (λ (h : List Entry). entries_text h ++ text) (sym none);
         few = omega (arith, ap (λ (h : List Entry). length h) none);
@@ -93,6 +98,7 @@ module _ (facts : RealmFacts) (boot : ℕ) (text : List ℕ) where
       record {
         same = with.facts ∙ so_far.same;
         sound = subst (IsSound facts) (sym with.entries) (IsSound.one_more entry so_far.sound (subst (λ (f : RealmFacts). Fits f before entry) so_far.same with.fits));
+        read = subst (All IsReadBack) (sym with.entries) (All-push IsReadBack before entry so_far.read (ap entry_of is ∙ with.read));
         lines = so_far.lines ∙ ap (λ (ls : List (List ℕ)). map entry_line before ++ ls) (next_line rest some) ∙ sym listed;
         whole = so_far.whole ∙ ap (λ (t : List ℕ). entries_text before ++ t) (sym (cut_whole rest)) ∙ sym (append_assoc (entries_text before) line behind)
             ∙ ap (λ (t : List ℕ). t ++ behind) (sym texts);

@@ -55,6 +55,10 @@ pub data IsFault (facts : RealmFacts) (bytes : List ℕ) : JournalFault → Type
       → IsFaultBehind facts boot rest fault → IsFault facts bytes fault
   no_memory : IsFault facts bytes NoMemory
 
+-- the line of the entry is read as that entry
+abbrev pub IsReadBack : Entry → Type 0
+IsReadBack entry = entry_of (entry_line entry) ≡ Some entry
+
 -- an account with one entry more, which fits, and whose line this is
 pub record IsWithLine (before : Account) (line : List ℕ) (after : Account) : Type 0 where
   pub entry : Entry
@@ -83,4 +87,5 @@ pub record IsReadOf (facts : RealmFacts) (boot : ℕ) (rest : List ℕ) (account
   pub same : account.facts ≡ facts
   pub lower : boot < facts.boot
   pub sound : IsSound facts account.entries
+  pub read : All IsReadBack account.entries
   pub text : rest ≡ entries_text account.entries ++ end_line (length account.entries) (right_seal facts boot account.entries)

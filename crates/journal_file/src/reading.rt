@@ -6,7 +6,7 @@ ghost use Rattle.account_rows.specs.declared.entries.Entry.{Entry as EntryValue}
 ghost use Rattle.journal_lines.specs.Forms.{IsEntry};
 ghost use Rattle.journal_lines.specs.Lines.{entry_line as line_of};
 ghost use Rattle.journal_lines.specs.FrameLines.{head_line};
-ghost use Rattle.journal_file.specs.Faults.{IsExpected, IsJournalOf, IsFault, IsFaultBehind, IsReadOf, IsWithLine, IsEndFault};
+ghost use Rattle.journal_file.specs.Faults.{IsExpected, IsJournalOf, IsFault, IsFaultBehind, IsReadOf, IsWithLine, IsEndFault, IsReadBack};
 ghost use Rattle.journal_file.specs.declared.faults.JournalFault.TheVariants.{NoMemory as OutOfMemory};
 
 use crate::faults::JournalFault;
@@ -105,9 +105,10 @@ fn read_lines(
 /// that stands is answered: `At` with the first line, counted from 1, that hasn't its form, names
 /// another account or region, doesn't fit, or follows the last line; `At` of the last line where
 /// its number or its HMAC is wrong; `At` of the line at which the text ends early; and `OldBoot`.
-/// Want of memory may replace each answer.
+/// Want of memory may replace each answer. Of each entry that is read, its line is read as that entry.
 pub fn read_journal(alloc: Global, facts: RealmFacts, bytes: &[u8]) -> Result<Account, JournalFault>
     ensures ok { IfOk result (λ a. (a.facts ≡ facts) × IsJournalOf facts bytes.now a.entries) }
+    ensures read { IfOk result (λ a. All IsReadBack a.entries) }
     ensures taken { (history : List EntryValue) → All IsEntry history → length history < 10 ^ 18 → IsJournalOf facts bytes.now history → MatchResult result (λ a. a.entries ≡ history) (λ fault. fault ≡ OutOfMemory) }
     ensures fault { IfErr result (IsFault facts bytes.now) }
 {

@@ -1,6 +1,6 @@
 -- What an operation does that a proper request asks: what it names is there, it has its form, its date is right, and its parts are what an entry's are.
 use Rattle.std.proofs.Common.{◌≡◌, ◌≢◌, inl, inr, ℕ, ◌≤◌, ◌<◌, ◌+◌, ◌/◌, ◌%◌, ◌^◌, ◌&&◌, List, [], ◌∷◌, ◌++◌, length, take, codes, Bool, true, false, Option, Some, None, Result, Ok, Err, IsUtf8, refl, sym, ap, ap₂, ◌∙◌, subst, if◌then◌else◌, nat_le, nat_lt, is_some, is_none, length-append, length-take, lit≤, arith}
-use Rattle.std.specs.Prelude.{All, MatchOption, find, cond, ok_or, option_and_then}
+use Rattle.std.specs.Prelude.{All, IfSome, MatchOption, find, cond, ok_or, option_and_then}
 use Rattle.std.specs.List.{list_all}
 use Rattle.std.specs.Result.{result_ok}
 use Rattle.std.specs.Str.{bytes_eq}
@@ -38,7 +38,7 @@ use Rattle.hmac_keys.specs.declared.kinds.KeyKind.{KeyKind}
 use Rattle.resource_tags.specs.Proper.{are_proper}
 use Rattle.resource_tags.specs.declared.tags.Tag.{Tag as TagValue}
 use Rattle.kms_json.specs.Fields.{is_between, are_tags, are_tag_keys}
-use Rattle.kms_json.specs.Asks.{IsSizedChanging, IsSizedConstraint}
+use Rattle.kms_json.specs.Asks.{IsSizedChanging, IsSizedConstraint, IsSizedGrant}
 use Rattle.kms_json.specs.declared.asks.Changing.{Changing}
 use Rattle.kms_json.specs.declared.asks.Changing.TheVariants as changing
 use Rattle.kms_json.specs.declared.asks.grants.CreateGrant.{CreateGrant}
@@ -81,8 +81,11 @@ use Rattle.account_keys.specs.Grants.{creates_grant, retires_grant, revokes_gran
 use Rattle.account_keys.specs.KeyChanges.{done_at, does_unless, is_disabled, is_period, is_off, changes_key}
 use Rattle.account_keys.specs.Keys.{creates_key, kind_asked, served_kind, unserved_key, refused_if_given, said_new_key, policy_or_default}
 use Rattle.account_keys.specs.Policies.{puts_policy, policy_refused, refused_by}
+use Rattle.tag_order.specs.Order.{in_order}
+use Rattle.tag_order.proofs.OrderFacts.{all_in_order}
+use Rattle.journal_laws.proofs.OrderedTags.{ordered_formed}
 use Rattle.account_tags.specs.Tagging.{tags_key, untags_key, too_many, has_some}
-use Rattle.account_core.specs.Fitting.{is_there, is_formed, is_dated, are_formed}
+use Rattle.account_core.specs.Fitting.{is_there, is_short, is_short_if_given, is_formed, is_dated, are_formed}
 use Rattle.account_core.specs.Operations.{change_outcome}
 use Rattle.account_core.proofs.Fitting.{both_none}
 use Rattle.journal_lines.specs.Forms.{IsTag, IsContextOfTexts, IsConstraint, IsIfAny, IsWhat}
@@ -312,10 +315,10 @@ module _ (view : View) (number : IsAccountNumber view.facts.account) where
         there = refl;
         formed =
             both_true (nat_le (length x.description) 8192) _ (le-leb (length x.description) 8192 short)
-            (both_true (are_formed x.tags) _ (both_true (are_tags (Some x.tags)) (are_proper x.tags) tags (proper_of x.tags proper))
+            (both_true (are_formed (in_order x.tags)) _ (ordered_formed x.tags tags (proper_of x.tags proper))
             (policy_fits view (said_new_key view kind.value x.tags) x.policy x.bypass_lockout_check number given));
         dated = refl;
-        parts = (key_made view.facts view.place, texts.1, policy_text view.facts.account x.policy number texts.0, texts.2);
+        parts = (key_made view.facts view.place, texts.1, policy_text view.facts.account x.policy number texts.0, all_in_order IsTag x.tags texts.2);
       }) e
 
 puts : (view : View) (key_id text : List ℕ) (bypass : Bool) → IsUtf8 text → SaysWell view (puts_policy view key_id text bypass)
@@ -417,6 +420,24 @@ named_by (Some q) text p reads e = let same : q ≡ p = cc in subst IsPrincipal 
 principal_given : (text : List ℕ) (p : Principal) → principal_in text ≡ Ok p → IsPrincipal p
 principal_given text p e = named_by (principal_of text) text p (principal_reads text) (ok_of (principal_of text) refusal.InvalidArn p e)
 
+-- and its ARN is no longer than the text
+short_by : (o : Option Principal) (text : List ℕ) (p : Principal) → MatchOption o ((q : Principal) → IsPrincipal q → text ≢ principal_text q) (λ q. IsPrincipal q × (text ≡ principal_text q)) → length text ≤ 256
+    → o ≡ Some p → is_short p ≡ true
+short_by None text p reads few e = cc
+short_by (Some q) text p reads few e =
+    let same : q ≡ p = cc in
+    let size : length text ≡ length (principal_text q) = ap length reads.1 in
+    subst (λ (r : Principal). is_short r ≡ true) same (le-leb (length (principal_text q)) 256 (omega (arith, few, size)))
+
+short_given : (text : List ℕ) (p : Principal) → length text ≤ 256 → principal_in text ≡ Ok p → is_short p ≡ true
+short_given text p few e = short_by (principal_of text) text p (principal_reads text) few (ok_of (principal_of text) refusal.InvalidArn p e)
+
+short_if_given : (text : Option (List ℕ)) (p : Option Principal) → IfSome text (λ t. length t ≤ 256) → principal_if_given text ≡ Ok p → is_short_if_given p ≡ true
+short_if_given None p few e = subst (λ (o : Option Principal). is_short_if_given o ≡ true) (ok_same None p e) refl
+short_if_given (Some text) p few e =
+    let found = found_of (principal_in text) (λ (q : Principal). Ok (Some q)) p e in
+    subst (λ (o : Option Principal). is_short_if_given o ≡ true) (ok_same (Some found.value) p found.came) (short_given text found.value few found.is)
+
 retiring_given : (text : Option (List ℕ)) (p : Option Principal) → principal_if_given text ≡ Ok p → IsIfAny IsPrincipal p
 retiring_given None p e = subst (IsIfAny IsPrincipal) (ok_same None p e) tt
 retiring_given (Some text) p e =
@@ -427,9 +448,11 @@ record IsGranting (view : View) (granting : Granting) : Type 0 where
   key : IsKeyThere view granting.row
   grantee : IsPrincipal granting.grantee
   retiring : IsIfAny IsPrincipal granting.retiring
+  short : is_short granting.grantee ≡ true
+  short_retiring : is_short_if_given granting.retiring ≡ true
 
-granting_there : (view : View) (x : CreateGrant) (granting : Granting) → granting_of view x ≡ Ok granting → IsGranting view granting
-granting_there view x granting e =
+granting_there : (view : View) (x : CreateGrant) (granting : Granting) → IsSizedGrant x → granting_of view x ≡ Ok granting → IsGranting view granting
+granting_there view x granting sized e =
     let row = found_of (only_key_of view x.key_id) (λ (r : KeyRow). and_then (principal_in x.grantee) (λ grantee. and_then (principal_if_given x.retiring) (λ retiring. Ok (record { row = r; grantee = grantee; retiring = retiring })))) granting e in
     let grantee = found_of (principal_in x.grantee) (λ (g : Principal). and_then (principal_if_given x.retiring) (λ retiring. Ok (record { row = row.value; grantee = g; retiring = retiring }))) granting row.came in
     let retiring = found_of (principal_if_given x.retiring) (λ (r : Option Principal). Ok (record { row = row.value; grantee = grantee.value; retiring = r })) granting grantee.came in
@@ -438,6 +461,8 @@ granting_there view x granting e =
       key = key_there view x.key_id row.value row.is;
       grantee = principal_given x.grantee grantee.value grantee.is;
       retiring = retiring_given x.retiring retiring.value retiring.is;
+      short = short_given x.grantee grantee.value sized.0 grantee.is;
+      short_retiring = short_if_given x.retiring retiring.value sized.1 retiring.is;
     })
 
 granted : (view : View) (x : CreateGrant) (granting : Granting) (same : Option GrantRow) (did : What) → IsGranting view granting → IsSizedConstraint x.constraint → IsFormed (changing.CreateGrant x)
@@ -446,13 +471,13 @@ granted view x granting (Some grant) did is sized formed texts e = cc
 granted view x granting None did is sized formed texts e =
     does_this view _ did (record {
       there = is.key.held;
-      formed = both_true _ _ formed.0 (both_true _ _ (small x.constraint sized) formed.1);
+      formed = both_true _ _ formed.0 (both_true _ _ (small x.constraint sized) (both_true _ _ formed.1 (both_true _ _ is.short is.short_retiring)));
       dated = refl;
       parts = (grant_made view.facts view.place, is.key.id, is.grantee, is.retiring, texts.0, constrained x.constraint sized texts.1, texts.2);
     }) e
 
-grants : (view : View) (x : CreateGrant) → IsSizedConstraint x.constraint → IsFormed (changing.CreateGrant x) → IsTextual (changing.CreateGrant x) → SaysWell view (creates_grant view x)
-grants view x sized formed texts found ready did found_is own_is e = granted view x found (same_grant view x found) did (granting_there view x found found_is) sized formed texts e
+grants : (view : View) (x : CreateGrant) → IsSizedGrant x → IsFormed (changing.CreateGrant x) → IsTextual (changing.CreateGrant x) → SaysWell view (creates_grant view x)
+grants view x sized formed texts found ready did found_is own_is e = granted view x found (same_grant view x found) did (granting_there view x found sized found_is) sized.3 formed texts e
 
 retires : (view : View) (x : RetiredGrant) (dry_run : Bool) → SaysWell view (retires_grant view x dry_run)
 retires view x dry_run found ready did found_is own_is e =
@@ -468,10 +493,13 @@ revokes view key_id id dry_run found ready did found_is own_is e =
 
 tags : (view : View) (key_id : List ℕ) (more : List TagValue) → are_tags (Some more) ≡ true → All IsTag more → SaysWell view (tags_key view key_id more)
 tags view key_id more formed texts found ready did found_is own_is e =
-    let proper = none_of (improper more) (unless (too_many found.tags more) (Ok tt)) ready own_is in
+    let proper = none_of (improper more) (unless (too_many found.tags (in_order more)) (Ok (in_order more))) ready own_is in
+    let counted = next_of (improper more) (unless (too_many found.tags (in_order more)) (Ok (in_order more))) ready own_is in
+    let same : in_order more ≡ ready = ok_same (in_order more) ready (next_of (too_many found.tags (in_order more)) (Ok (in_order more)) ready counted) in
     let key = key_there view key_id found found_is in
-    does_this view (what.Tag found.key more) did
-    (record { there = key.held; formed = both_true (are_tags (Some more)) (are_proper more) formed (proper_of more proper); dated = refl; parts = (key.id, texts) }) e
+    does_this view (what.Tag found.key ready) did
+    (subst (λ (tags : List TagValue). IsWell view (what.Tag found.key tags)) same
+    (record { there = key.held; formed = ordered_formed more formed (proper_of more proper); dated = refl; parts = (key.id, all_in_order IsTag more texts) })) e
 
 untagged_by : (view : View) (b : Bool) (row : KeyRow) (keys : List (List ℕ)) (did : What) → IsKeyThere view row → are_tag_keys keys ≡ true → All IsUtf8 keys
     → (if b then Some (what.Untag row.key keys) else None) ≡ Some did → IsWell view did
@@ -504,7 +532,7 @@ module _ (view : View) (number : IsAccountNumber view.facts.account) (soon : vie
   well (changing.CreateAlias name key_id) o did sized formed texts = alias_well name (alias.Create key_id) sized o did
   well (changing.UpdateAlias name key_id) o did sized formed texts = alias_well name (alias.Update key_id) sized o did
   well (changing.DeleteAlias name) o did sized formed texts = alias_well name alias.Delete sized o did
-  well (changing.CreateGrant x) o did sized formed texts = well_by view (creates_grant view x) (grants view x sized.3 formed texts) o did
+  well (changing.CreateGrant x) o did sized formed texts = well_by view (creates_grant view x) (grants view x sized formed texts) o did
   well (changing.RetireGrant grant dry_run) o did sized formed texts = well_by view (retires_grant view grant dry_run) (retires view grant dry_run) o did
   well (changing.RevokeGrant key_id grant_id dry_run) o did sized formed texts = well_by view (revokes_grant view key_id grant_id dry_run) (revokes view key_id grant_id dry_run) o did
   well (changing.TagResource key_id more) o did sized formed texts = well_by view (tags_key view key_id more) (tags view key_id more formed texts) o did

@@ -3,8 +3,10 @@ mod TextBytes
 mod TextValues
 mod AskedForms
 mod AskedTexts
+mod OrderedTags
 mod Doing
 mod ReadForms
 mod Sound
+mod Loaded
 mod Telling
 mod ReadingBack

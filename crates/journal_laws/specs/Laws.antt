@@ -8,7 +8,8 @@ use Rattle.account_core.specs.Decide.{IsNext, IsLawful}
 use Rattle.account_core.specs.Fitting.{Fits, IsSound, IsHeld}
 use Rattle.journal_lines.specs.Forms.{IsEntry}
 use Rattle.journal_lines.specs.LineReading.{entry_of}
-use Rattle.journal_file.specs.Faults.{IsJournalOf}
+use Rattle.journal_file.specs.Faults.{IsJournalOf, IsReadBack}
+use Rattle.account_laws.specs.Laws.{IsOpened}
 use Rattle.journal_file.specs.Journal.{journal_text}
 
 -- ---- entries that are appended fit
@@ -52,6 +53,11 @@ LawfulEntriesHaveForms = (facts : RealmFacts) (history : List Entry) → IsAccou
 -- what is read of a line has them too
 abbrev pub ReadEntriesHaveForms : Type 0
 ReadEntriesHaveForms = (line : List ℕ) (entry : Entry) → entry_of line ≡ Some entry → IsEntry entry
+
+-- what is read of a journal is a history that an opened account holds, so that the laws of such histories hold of it, and its entries have these forms
+abbrev pub LoadedHistoriesAreOpened : Type 0
+LoadedHistoriesAreOpened =
+    (facts : RealmFacts) (bytes : List ℕ) (history : List Entry) → IsJournalOf facts bytes history → All IsReadBack history → IsOpened facts history × All IsEntry history
 
 -- ---- texts differ
 

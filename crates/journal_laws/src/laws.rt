@@ -1,6 +1,6 @@
 //! Laws of the entries of an account and of their text. Each stands as the contract of a function that does nothing.
 
-ghost use Rattle.journal_laws.specs.Laws.{NextEntriesFit, HeldHistoriesAreSound, LawfulHistoriesAreSound, NextEntriesHaveForms, OpenedEntriesHaveForms, LawfulEntriesHaveForms, ReadEntriesHaveForms, JournalsDiffer, LawfulJournalsDiffer, JournalIsReadBack, OpenedJournalIsReadBack, LawfulJournalIsReadBack};
+ghost use Rattle.journal_laws.specs.Laws.{NextEntriesFit, HeldHistoriesAreSound, LawfulHistoriesAreSound, NextEntriesHaveForms, OpenedEntriesHaveForms, LawfulEntriesHaveForms, ReadEntriesHaveForms, LoadedHistoriesAreOpened, JournalsDiffer, LawfulJournalsDiffer, JournalIsReadBack, OpenedJournalIsReadBack, LawfulJournalIsReadBack};
 
 /// An entry that a proper request appends, or that housekeeping appends at a clock's answer before the
 /// year 10000, fits the history before it, where an account holds that history and the account's number
@@ -34,6 +34,13 @@ pub fn entries_have_forms()
     ensures opened { OpenedEntriesHaveForms }
     ensures lawful { LawfulEntriesHaveForms }
     ensures read { ReadEntriesHaveForms }
+{}
+
+/// The history that `read_journal` gives is one that an opened account holds (`IsOpened` of
+/// `account_laws`), and its entries have their forms. So what `account_laws` and `pass_laws` say of such
+/// histories holds of an account that was loaded, and of all that its service makes of it.
+pub fn loaded_histories_are_opened()
+    ensures { LoadedHistoriesAreOpened }
 {}
 
 /// Where the texts of two histories are equal, each under facts of its own, then so are the accounts, the

@@ -1,9 +1,9 @@
 -- Each call of a pass is a list of events of the machine.
-use Rattle.std.proofs.Common.{◌≡◌, ◌≢◌, ◌⊎◌, inl, inr, ℕ, ◌+◌, ◌≤◌, ◌<◌, ◌==◌, Bool, true, false, cond, max, List, [], ◌∷◌, ◌++◌, length, take, Option, Some, None, All, refl, sym, ap, ◌∙◌, subst, arith, length-append}
+use Rattle.std.proofs.Common.{◌≡◌, ◌≢◌, inl, inr, ℕ, ◌+◌, ◌≤◌, ◌<◌, ◌==◌, Bool, true, false, cond, List, [], ◌∷◌, ◌++◌, length, take, Option, Some, None, All, refl, sym, ap, ◌∙◌, subst, arith, length-append}
 use mathlib.Core.List.{IsPrefix}
 use Rattle.std.proofs.lemmas.Bool.{false≢true}
 use Rattle.std.proofs.lemmas.Bool.Decides.{nat_tests}
-use Rattle.std.proofs.lemmas.List.{take-append-le, length-take-le, map-append}
+use Rattle.std.proofs.lemmas.List.{take-append-le, length-take-le}
 use Rattle.std.proofs.lemmas.List.Elements.{All-nil, All-cons, All-append}
 use Rattle.kms_names.specs.Moment.{year_10000}
 use Rattle.kms_json.specs.declared.asks.Ask.{Ask}
@@ -14,14 +14,14 @@ use Rattle.account_steps.specs.History.{Entry, housekeeping_of}
 use Rattle.account_steps.specs.declared.places.Places.{Places}
 use Rattle.account_steps.specs.Places.{IsUpTo}
 use Rattle.account_core.specs.Decide.{decide, IsProper}
-use Rattle.account_laws.specs.Laws.{TimesNeverFall}
-use Rattle.published_account.specs.Pairs.{entries_of}
-use Rattle.published_account.proofs.Lists.{prefix_self, prefix_trans, prefix_whole}
-use Rattle.publish_pass.specs.Pass.{Pass, Meets, Learns, Reads, Wants, Misses, Changes, Decides, LeavesAtMost, making, making_any, keeping_house, at_places, fresh_pass}
+use Rattle.account_laws.specs.Laws.{IsOpened, TimesNeverFall}
+use Rattle.published_account.specs.Pairs.{entries_of, loaded_pairs}
+use Rattle.published_account.proofs.Lists.{prefix_self}
+use Rattle.publish_pass.specs.Pass.{Pass, Meets, Learns, Reads, Wants, Misses, Decides, LeavesAtMost, making, making_any, keeping_house, at_places, fresh_pass}
 use Rattle.pass_laws.specs.Machine.{State, Event, house, change, read as reading, starved, learn, start, made, made_any, looked, looked_at, IsNumber, MayRead, places_after, Step, Runs, Holds}
 use Rattle.pass_laws.specs.Calls.{Call, read, wanted_to_read, missed, changed, wanted_to_change, kept_house, wanted_to_keep_house, learnt, changed_at_desk, kept_house_at_desk, Together, opened, looks, publishes}
 use Rattle.pass_laws.specs.Events.{doer, Has, IsDoneBy, CallsAreEvents, AreOneRun, PassesAreTheMachine}
-use Rattle.pass_laws.proofs.Kept.{ran, reached}
+use Rattle.pass_laws.proofs.Kept.{ran, reached, loaded_length}
 
 -- ---- numbers and beginnings
 
@@ -75,11 +75,11 @@ done_by old event by = All-cons (λ event. doer event ≡ old.number) event [] b
 abbrev moved : Pass → List (Entry × ℕ) → ℕ → Places → Pass
 moved old history count places = record old { history = history; missed = count; places = places }
 
-module _ (facts : RealmFacts) (p : ℕ) (times : TimesNeverFall) where
+module _ (facts : RealmFacts) (p : ℕ) (loaded : List Entry) (times : TimesNeverFall) where
   abbrev Done : State → List (Entry × ℕ) → Pass → Pass → Type 0
   Done s published old new = IsDoneBy facts p s published old new
 
-  seen_is : (s : State) (old : Pass) → Holds facts p s → Has facts p s old → length old.history ≡ s.seen old.number
+  seen_is : (s : State) (old : Pass) → Holds facts p loaded s → Has facts p s old → length old.history ≡ s.seen old.number
   seen_is s old h has = ap length has.history ∙ length-take-le (s.seen old.number) s.history (h.seen old.number)
 
   -- one event leads to what is seen and used
@@ -112,7 +112,7 @@ module _ (facts : RealmFacts) (p : ℕ) (times : TimesNeverFall) where
   }
 
   -- learning, by an event
-  learnt_on : (s : State) (old : Pass) (history : List (Entry × ℕ)) (count : ℕ) → Holds facts p s → Has facts p s old → IsPrefix old.history history → IsPrefix history s.history
+  learnt_on : (s : State) (old : Pass) (history : List (Entry × ℕ)) (count : ℕ) → Holds facts p loaded s → Has facts p s old → IsPrefix old.history history → IsPrefix history s.history
       → Done s s.history old (record old { history = history; missed = count })
   learnt_on s old history count h has on front = record {
     events = learn old.number (length history) ∷ [];
@@ -143,7 +143,7 @@ module _ (facts : RealmFacts) (p : ℕ) (times : TimesNeverFall) where
     };
   }
 
-  learns_done : (s : State) (old new : Pass) → Holds facts p s → Has facts p s old → Learns old new → IsPrefix new.history s.history → Done s s.history old new
+  learns_done : (s : State) (old new : Pass) → Holds facts p loaded s → Has facts p s old → Learns old new → IsPrefix new.history s.history → Done s s.history old new
   learns_done s old new h has learns front = subst (Done s s.history old) (sym learns.others) (learnt_on s old new.history old.missed h has learns.history front)
 
   misses_done : (s : State) (old new : Pass) → Has facts p s old → Misses old new → Done s s.history old new
@@ -160,7 +160,7 @@ module _ (facts : RealmFacts) (p : ℕ) (times : TimesNeverFall) where
 
   -- ---- reads
 
-  may_read : (s : State) (old : Pass) (x : Ask) (history : List (Entry × ℕ)) → Holds facts p s → Has facts p s old → IsProper old.facts x → changes_account x.body ≡ false
+  may_read : (s : State) (old : Pass) (x : Ask) (history : List (Entry × ℕ)) → Holds facts p loaded s → Has facts p s old → IsProper old.facts x → changes_account x.body ≡ false
       → IsPrefix old.history history → IsPrefix history s.history → MayRead facts s old.number x (length history)
   may_read s old x history h has proper reads on front = record {
     proper = subst (λ (f : RealmFacts). IsProper f x) has.facts_are proper;
@@ -180,7 +180,7 @@ module _ (facts : RealmFacts) (p : ℕ) (times : TimesNeverFall) where
   met_is : (old met new : Pass) (places : Places) → Meets old met → new ≡ at_places met places → new ≡ moved old met.history met.missed places
   met_is old met new places seen used = used ∙ ap (λ (q : Pass). at_places q places) seen.others
 
-  reads_done : (s : State) (old new : Pass) (x : Ask) (reply : Reply) → Holds facts p s → Has facts p s old → IsProper old.facts x → changes_account x.body ≡ false
+  reads_done : (s : State) (old new : Pass) (x : Ask) (reply : Reply) → Holds facts p loaded s → Has facts p s old → IsProper old.facts x → changes_account x.body ≡ false
       → (is : Reads old x reply new) → IsPrefix is.met.history s.history → Done s s.history old new
   reads_done s old new x reply h has proper which is front =
       let left : Places = places_after facts s old.number x (length is.met.history) in
@@ -189,7 +189,7 @@ module _ (facts : RealmFacts) (p : ℕ) (times : TimesNeverFall) where
       (looked_on s old is.met.history is.met.missed left (reading old.number x (length is.met.history)) refl
       (has.number, may_read s old x is.met.history h has proper which is.seen.history front, refl) has front)
 
-  wants_done : (s : State) (old new : Pass) (x : Ask) → Holds facts p s → Has facts p s old → IsProper old.facts x → changes_account x.body ≡ false
+  wants_done : (s : State) (old new : Pass) (x : Ask) → Holds facts p loaded s → Has facts p s old → IsProper old.facts x → changes_account x.body ≡ false
       → (is : Wants old x new) → IsPrefix is.met.history s.history → Done s s.history old new
   wants_done s old new x h has proper which is front =
       let from : is.met.places ≡ s.places old.number = ap (λ (q : Pass). q.places) is.seen.others ∙ has.places in
@@ -203,7 +203,7 @@ module _ (facts : RealmFacts) (p : ℕ) (times : TimesNeverFall) where
   -- ---- entries
 
   -- at a pass that holds all that is published
-  made_on : (s : State) (old : Pass) (entry : Entry) (event : Event) → doer event ≡ old.number → Step facts p s event (made s old.number entry) → Holds facts p s → Has facts p s old
+  made_on : (s : State) (old : Pass) (entry : Entry) (event : Event) → doer event ≡ old.number → Step facts p s event (made s old.number entry) → Holds facts p loaded s → Has facts p s old
       → old.history ≡ s.history → Done s (making old entry).history old (making old entry)
   made_on s old entry event by step h has whole =
       let longer : length (s.history ++ (entry, old.number) ∷ []) ≡ length s.history + 1 = length-append s.history ((entry, old.number) ∷ []) in
@@ -250,18 +250,18 @@ module _ (facts : RealmFacts) (p : ℕ) (times : TimesNeverFall) where
     others = λ other apart is. is;
   }
 
-  house_by : (s : State) (old : Pass) (clock : ℕ) (due : Option Entry) → clock < year_10000 → Holds facts p s → Has facts p s old → old.history ≡ s.history
+  house_by : (s : State) (old : Pass) (clock : ℕ) (due : Option Entry) → clock < year_10000 → Holds facts p loaded s → Has facts p s old → old.history ≡ s.history
       → housekeeping_of (entries_of old.history) clock ≡ due → Done s (making_any old due).history old (making_any old due)
   house_by s old clock None before h has whole is = rests s old has whole
   house_by s old clock (Some entry) before h has whole is =
       made_on s old entry (house old.number clock) refl
       (has.number, before, (entry, ap (λ (pairs : List (Entry × ℕ)). housekeeping_of (entries_of pairs) clock) (sym whole) ∙ is, refl)) h has whole
 
-  house_done : (s : State) (old : Pass) (clock : ℕ) → clock < year_10000 → Holds facts p s → Has facts p s old → old.history ≡ s.history
+  house_done : (s : State) (old : Pass) (clock : ℕ) → clock < year_10000 → Holds facts p loaded s → Has facts p s old → old.history ≡ s.history
       → Done s (keeping_house old clock).history old (keeping_house old clock)
   house_done s old clock before h has whole = house_by s old clock (housekeeping_of (entries_of old.history) clock) before h has whole refl
 
-  change_by : (s : State) (old : Pass) (x : Ask) (entry : Option Entry) → IsProper facts x → changes_account x.body ≡ true → Holds facts p s → Has facts p s old → old.history ≡ s.history
+  change_by : (s : State) (old : Pass) (x : Ask) (entry : Option Entry) → IsProper facts x → changes_account x.body ≡ true → Holds facts p loaded s → Has facts p s old → old.history ≡ s.history
       → (decide facts (entries_of s.history) x (s.places old.number)).entry ≡ entry → Done s (making_any old entry).history old (making_any old entry)
   change_by s old x None proper changing h has whole is = rests s old has whole
   change_by s old x (Some entry) proper changing h has whole is =
@@ -274,7 +274,7 @@ module _ (facts : RealmFacts) (p : ℕ) (times : TimesNeverFall) where
       ∙ ap (λ (pairs : List (Entry × ℕ)). (decide facts (entries_of pairs) x old.places).entry) whole
       ∙ ap (λ (q : Places). (decide facts (entries_of s.history) x q).entry) has.places
 
-  change_done : (s : State) (old : Pass) (x : Ask) (reply : Reply) (new : Pass) → IsProper facts x → changes_account x.body ≡ true → Holds facts p s → Has facts p s old → old.history ≡ s.history
+  change_done : (s : State) (old : Pass) (x : Ask) (reply : Reply) (new : Pass) → IsProper facts x → changes_account x.body ≡ true → Holds facts p loaded s → Has facts p s old → old.history ≡ s.history
       → Decides old x reply new → Done s new.history old new
   change_done s old x reply new proper changing h has whole is =
       let entry : Option Entry = (decide facts (entries_of s.history) x (s.places old.number)).entry in
@@ -283,8 +283,8 @@ module _ (facts : RealmFacts) (p : ℕ) (times : TimesNeverFall) where
 
   -- ---- one after another
 
-  after_holds : {s : State} {published : List (Entry × ℕ)} {old new : Pass} → Holds facts p s → (done : Done s published old new) → Holds facts p done.after
-  after_holds {s = s} h done = (ran facts p times s done.events done.after h done.runs).0
+  after_holds : {s : State} {published : List (Entry × ℕ)} {old new : Pass} → Holds facts p loaded s → (done : Done s published old new) → Holds facts p loaded done.after
+  after_holds {s = s} h done = (ran facts p loaded times s done.events done.after h done.runs).0
 
   by_same : (n m : ℕ) → n ≡ m → (events : List Event) → All (λ event. doer event ≡ n) events → All (λ event. doer event ≡ m) events
   by_same n m same events all = subst (λ (i : ℕ). All (λ event. doer event ≡ i) events) same all
@@ -303,22 +303,22 @@ module _ (facts : RealmFacts) (p : ℕ) (times : TimesNeverFall) where
 
   -- ---- what a call does beyond learning
 
-  writes : (s : State) (met : Pass) → Holds facts p s → Has facts p s met → met.history ≡ s.history → (x : Ask) (reply : Reply) (new : Pass) → IsProper facts x → changes_account x.body ≡ true
+  writes : (s : State) (met : Pass) → Holds facts p loaded s → Has facts p s met → met.history ≡ s.history → (x : Ask) (reply : Reply) (new : Pass) → IsProper facts x → changes_account x.body ≡ true
       → Decides (keeping_house met x.moment) x reply new → Done s new.history met new
   writes s met h has whole x reply new proper changing is =
       let first = house_done s met x.moment proper.moment h has whole in
       then_done first (change_done first.after (keeping_house met x.moment) x reply new proper changing (after_holds h first) first.has (sym first.is_published) is)
 
-  leaves : (s : State) (met new : Pass) (clock : ℕ) → clock < year_10000 → Holds facts p s → Has facts p s met → met.history ≡ s.history → LeavesAtMost met clock new → Done s new.history met new
+  leaves : (s : State) (met new : Pass) (clock : ℕ) → clock < year_10000 → Holds facts p loaded s → Has facts p s met → met.history ≡ s.history → LeavesAtMost met clock new → Done s new.history met new
   leaves s met new clock before h has whole (inl same) = subst (λ (q : Pass). Done s q.history met q) (sym same) (rests s met has whole)
   leaves s met new clock before h has whole (inr same) = subst (λ (q : Pass). Done s q.history met q) (sym same) (house_done s met clock before h has whole)
 
   -- it learns all that is published first
-  learns_whole : (s : State) (old met : Pass) → Holds facts p s → Has facts p s old → Learns old met → met.history ≡ s.history → Done s s.history old met
+  learns_whole : (s : State) (old met : Pass) → Holds facts p loaded s → Has facts p s old → Learns old met → met.history ≡ s.history → Done s s.history old met
   learns_whole s old met h has learns whole = learns_done s old met h has learns (subst (IsPrefix met.history) whole (prefix_self met.history))
 
-  learns_then : (s : State) (old met new : Pass) (published : List (Entry × ℕ)) → Holds facts p s → Has facts p s old → Learns old met → met.history ≡ s.history
-      → ((t : State) → Holds facts p t → Has facts p t met → met.history ≡ t.history → Done t published met new) → Done s published old new
+  learns_then : (s : State) (old met new : Pass) (published : List (Entry × ℕ)) → Holds facts p loaded s → Has facts p s old → Learns old met → met.history ≡ s.history
+      → ((t : State) → Holds facts p loaded t → Has facts p t met → met.history ≡ t.history → Done t published met new) → Done s published old new
   learns_then s old met new published h has learns whole more =
       let first = learns_whole s old met h has learns whole in
       then_done first (more first.after (after_holds h first) first.has (whole ∙ sym first.is_published))
@@ -372,10 +372,10 @@ module _ (facts : RealmFacts) (p : ℕ) (times : TimesNeverFall) where
   at_front : (s : State) (history met : List (Entry × ℕ)) → met ≡ history → IsPrefix met s.history → IsPrefix history s.history
   at_front s history met same front = subst (λ (pairs : List (Entry × ℕ)). IsPrefix pairs s.history) same front
 
-  only_learnt : (s : State) (old met new : Pass) → Holds facts p s → Has facts p s old → Learns old met → IsPrefix met.history s.history → new ≡ met → Done s s.history old new
+  only_learnt : (s : State) (old met new : Pass) → Holds facts p loaded s → Has facts p s old → Learns old met → IsPrefix met.history s.history → new ≡ met → Done s s.history old new
   only_learnt s old met new h has learns front same = subst (Done s s.history old) (sym same) (learns_done s old met h has learns front)
 
-  call_looks : (s : State) (old : Pass) (met : List (Entry × ℕ)) (new : Pass) → Holds facts p s → Has facts p s old → Call old met new → IsPrefix met s.history → new.history ≡ met
+  call_looks : (s : State) (old : Pass) (met : List (Entry × ℕ)) (new : Pass) → Holds facts p loaded s → Has facts p s old → Call old met new → IsPrefix met s.history → new.history ≡ met
       → Done s s.history old new
   call_looks s old met new h has (read x reply proper which is at) front same = reads_done s old new x reply h has proper which is (at_front s is.met.history met at front)
   call_looks s old met new h has (wanted_to_read x proper which is at) front same = wants_done s old new x h has proper which is (at_front s is.met.history met at front)
@@ -405,7 +405,7 @@ module _ (facts : RealmFacts) (p : ℕ) (times : TimesNeverFall) where
   proper_there : (s : State) (old : Pass) (x : Ask) → Has facts p s old → IsProper old.facts x → IsProper facts x
   proper_there s old x has proper = subst (λ (f : RealmFacts). IsProper f x) has.facts_are proper
 
-  call_publishes : (s : State) (old : Pass) (met : List (Entry × ℕ)) (new : Pass) → Holds facts p s → Has facts p s old → Call old met new → met ≡ s.history → Done s new.history old new
+  call_publishes : (s : State) (old : Pass) (met : List (Entry × ℕ)) (new : Pass) → Holds facts p loaded s → Has facts p s old → Call old met new → met ≡ s.history → Done s new.history old new
   call_publishes s old met new h has (read x reply proper which is at) all =
       is_published_as s old new (ap (λ (q : Pass). q.history) is.used ∙ sym at ∙ all) (reads_done s old new x reply h has proper which is (whole_front s is.met.history (sym at ∙ all)))
   call_publishes s old met new h has (wanted_to_read x proper which is at) all =
@@ -431,7 +431,7 @@ module _ (facts : RealmFacts) (p : ℕ) (times : TimesNeverFall) where
   not_same : (m n : ℕ) → (m == n) ≡ false → m ≢ n
   not_same m n is same = false≢true (sym is ∙ ap (λ (k : ℕ). m == k) (sym same) ∙ self m)
 
-  module _ (passes : ℕ → Pass) (published later : List (Entry × ℕ)) (run : AreOneRun facts p passes published) (n : ℕ) (new : Pass) (done : Done run.after later (passes n) new) where
+  module _ (passes : ℕ → Pass) (published later : List (Entry × ℕ)) (run : AreOneRun facts p loaded passes published) (n : ℕ) (new : Pass) (done : Done run.after later (passes n) new) where
     numbers : (m : ℕ) (b : Bool) → (m == n) ≡ b → (cond b new (passes m)).number ≡ m
     numbers m true is = done.same_pass ∙ run.number n ∙ sym (same_number m n is)
     numbers m false is = run.number m
@@ -441,41 +441,51 @@ module _ (facts : RealmFacts) (p : ℕ) (times : TimesNeverFall) where
     each_has m false is number =
         done.others (passes m) (λ same. not_same m n is (sym (run.number m) ∙ same ∙ run.number n)) (run.has m number)
 
-    joined : AreOneRun facts p (λ m. cond (m == n) new (passes m)) later
+    joined : AreOneRun facts p loaded (λ m. cond (m == n) new (passes m)) later
     joined = record {
       events = run.events ++ done.events;
       after = done.after;
-      runs = runs_append facts p start run.after done.after run.events done.events run.runs done.runs;
+      runs = runs_append facts p (start loaded) run.after done.after run.events done.events run.runs done.runs;
       is_published = done.is_published;
       holds = after_holds run.holds done;
       number = λ m. numbers m (m == n) refl;
       has = λ m number. each_has m (m == n) refl number;
     }
 
-  one_run : (passes : ℕ → Pass) (published : List (Entry × ℕ)) → Together facts p passes published → AreOneRun facts p passes published
-  one_run passes published opened = record {
+  begins_with : (n : ℕ) → IsNumber p n → Has facts p (start loaded) (fresh_pass facts p loaded n)
+  begins_with n number = record {
+    facts_are = refl;
+    passes_are = refl;
+    number = number;
+    history = sym (take_whole (length loaded) (loaded_pairs loaded) (sym (loaded_length loaded)));
+    own = refl;
+    places = refl;
+  }
+
+  one_run : (passes : ℕ → Pass) (published : List (Entry × ℕ)) → IsOpened facts loaded → Together facts p loaded passes published → AreOneRun facts p loaded passes published
+  one_run passes published is opened = record {
     events = [];
-    after = start;
+    after = start loaded;
     runs = refl;
     is_published = refl;
-    holds = reached facts p times [] start refl;
+    holds = reached facts p loaded times is [] (start loaded) refl;
     number = λ n. refl;
-    has = λ n number. record { facts_are = refl; passes_are = refl; number = number; history = refl; own = refl; places = refl };
+    has = begins_with;
   }
-  one_run passes published (looks {passes = old} n met new so_far number call same front) =
-      let run = one_run old published so_far in
+  one_run passes published is (looks {passes = old} n met new so_far number call same front) =
+      let run = one_run old published is so_far in
       let done = call_looks run.after (old n) met new run.holds (run.has n number) call (subst (IsPrefix met) (sym run.is_published) front) same in
       let exact : Done run.after published (old n) new = subst (λ (pairs : List (Entry × ℕ)). Done run.after pairs (old n) new) run.is_published done in
       joined old published published run n new exact
-  one_run passes published (publishes {passes = old} {published = before} n met new so_far number call all) =
-      let run = one_run old before so_far in
+  one_run passes published is (publishes {passes = old} {published = before} n met new so_far number call all) =
+      let run = one_run old before is so_far in
       let done = call_publishes run.after (old n) met new run.holds (run.has n number) call (all ∙ sym run.is_published) in
       joined old before new.history run n new done
 
 pub calls_are_events : TimesNeverFall → CallsAreEvents
-calls_are_events times facts p before s old new met run has call =
-    let h = reached facts p times before s run in
-    (λ front same. call_looks facts p times s old met new h has call front same, λ all. call_publishes facts p times s old met new h has call all)
+calls_are_events times facts p loaded before s old new met is run has call =
+    let h = reached facts p loaded times is before s run in
+    (λ front same. call_looks facts p loaded times s old met new h has call front same, λ all. call_publishes facts p loaded times s old met new h has call all)
 
 pub passes_are_the_machine : TimesNeverFall → PassesAreTheMachine
-passes_are_the_machine times facts p passes published together = one_run facts p times passes published together
+passes_are_the_machine times facts p loaded passes published is together = one_run facts p loaded times passes published is together

@@ -1,17 +1,18 @@
 -- Each event keeps what holds of a state.
-use Rattle.std.proofs.Common.{◌≡◌, ℕ, ◌+◌, ◌≤◌, ◌==◌, Bool, true, false, cond, max, List, [], ◌∷◌, ◌++◌, length, take, Option, Some, None, refl, ap, sym, ◌∙◌, subst, arith, length-append, le_refl, le_trans}
+use Rattle.std.proofs.Common.{◌≡◌, ℕ, zero, suc, ◌+◌, ◌≤◌, ◌==◌, Bool, true, false, cond, max, List, [], ◌∷◌, ◌++◌, length, take, drop, Option, Some, None, refl, ap, sym, ◌∙◌, subst, arith, length-append, length-drop, le_refl, le_trans}
+use Rattle.std.proofs.lemmas.List.{length-map}
 use Rattle.std.proofs.lemmas.Bool.Decides.{nat_tests}
 use Rattle.account_steps.specs.declared.facts.RealmFacts.{RealmFacts}
 use Rattle.account_steps.specs.History.{Entry}
 use Rattle.account_steps.specs.declared.places.Places.{Places}
 use Rattle.account_steps.specs.Places.{no_places}
-use Rattle.account_core.specs.Decide.{decide, IsNext, appended, kept, empty}
-use Rattle.account_core.specs.Fitting.{no_entry}
-use Rattle.account_laws.specs.Laws.{PassGoesOn, no_request, one_more, wants_memory, TimesNeverFall}
+use Rattle.account_core.specs.Decide.{decide, IsNext, appended, kept}
+use Rattle.account_laws.proofs.Histories.{opened_push}
+use Rattle.account_laws.specs.Laws.{IsOpened, PassGoesOn, no_request, one_more, wants_memory, TimesNeverFall}
 use Rattle.account_core.proofs.GoingOn.{same_entry, decide_goes_on}
-use Rattle.published_account.specs.Pairs.{IsHistory, entries_of}
+use Rattle.published_account.specs.Pairs.{entries_of, loaded_pairs}
 use Rattle.pass_laws.specs.Machine.{State, Event, house, change, read, starved, learn, start, made, looked, looked_at, made_any, IsNumber, places_after, Step, Runs, places_of_maker, Holds, Grows, HoldsAlways}
-use Rattle.published_account.proofs.Lists.{history_loaded, history_lawful, history_push, prefix_self, prefix_push, prefix_trans}
+use Rattle.published_account.proofs.Lists.{history_loaded, history_push, history_size, entries_of-loaded, entries_of-push, prefix_self, prefix_push, prefix_trans}
 
 -- ---- own places
 
@@ -36,27 +37,54 @@ cond_at P m n x y false is here else = else
 
 -- ---- what an event does
 
-module _ (facts : RealmFacts) (p : ℕ) (times : TimesNeverFall) where
-  holds_made : (s : State) (n : ℕ) (entry : Entry) → IsNumber p n → IsNext facts (entries_of s.history) entry → Holds facts p s → Holds facts p (made s n entry)
+-- behind the first k
+drop_push : (k : ℕ) (pairs : List (Entry × ℕ)) (pair : Entry × ℕ) → k ≤ length pairs → drop k (pairs ++ pair ∷ []) ≡ drop k pairs ++ pair ∷ []
+drop_push zero pairs pair le = refl
+drop_push (suc k) [] pair le = absurd (omega (arith, le))
+drop_push (suc k) (first ∷ pairs) pair le = drop_push k pairs pair (omega (arith, le))
+
+drop_length : (k : ℕ) (pairs : List (Entry × ℕ)) → k ≤ length pairs → length pairs ≡ k + length (drop k pairs)
+drop_length k pairs le = omega (arith, le, length-drop k pairs)
+
+pub loaded_length : (loaded : List Entry) → length (loaded_pairs loaded) ≡ length loaded
+loaded_length loaded = length-map {B = Entry × ℕ} loaded (λ (entry : Entry). (entry, 0))
+
+drop_loaded : (loaded : List Entry) → drop (length loaded) (loaded_pairs loaded) ≡ []
+drop_loaded [] = refl
+drop_loaded (entry ∷ loaded) = drop_loaded loaded
+
+module _ (facts : RealmFacts) (p : ℕ) (loaded : List Entry) (times : TimesNeverFall) where
+  abbrev first : ℕ
+  first = length loaded
+
+  holds_made : (s : State) (n : ℕ) (entry : Entry) → IsNumber p n → IsNext facts (entries_of s.history) entry → Holds facts p loaded s → Holds facts p loaded (made s n entry)
   holds_made s n entry number next h =
-      let history : IsHistory facts p 0 (s.history ++ (entry, n) ∷ []) = history_push facts p 0 s.history (entry, n) h.history (next, number.0, number.1) in
+      let opened : IsOpened facts (entries_of (s.history ++ (entry, n) ∷ [])) =
+      subst (IsOpened facts) (sym (entries_of-push s.history (entry, n))) (opened_push facts (entries_of s.history) entry h.opened next) in
+      let le : first ≤ length s.history = history_size facts p first s.history h.history in
+      let rest : List (Entry × ℕ) = drop first s.history in
       record {
-        history = history;
-        times = times facts _ (history_lawful facts p _ history);
+        begins = prefix_trans (loaded_pairs loaded) s.history (s.history ++ (entry, n) ∷ []) h.begins (prefix_push s.history (entry, n));
+        history = history_push facts p first s.history (entry, n) h.history (next, number.0, number.1);
+        opened = opened;
+        times = times facts _ opened.held;
         own = λ m. ap (λ (o : List ℕ). cond (m == n) (o ++ length s.history ∷ []) o) (h.own m)
-            ∙ (ap (λ (j : ℕ). cond (m == n) (places_of_maker m 0 s.history ++ j ∷ []) (places_of_maker m 0 s.history)) (omega arith) ∙ sym (places_push m 0 s.history entry n));
+            ∙ ap (λ (j : ℕ). cond (m == n) (places_of_maker m first rest ++ j ∷ []) (places_of_maker m first rest)) (drop_length first s.history le)
+            ∙ sym (places_push m first rest entry n) ∙ ap (places_of_maker m first) (sym (drop_push first s.history (entry, n) le));
         seen = λ m. let grown : length (s.history ++ (entry, n) ∷ []) ≡ length s.history + 1 = length-append s.history ((entry, n) ∷ []) in
             cond_le (m == n) (length s.history + 1) (s.seen m) (length (s.history ++ (entry, n) ∷ [])) (omega (arith, grown)) (omega (arith, grown, h.seen m));
         number = h.number;
       }
 
-  holds_looked : (s : State) (n k : ℕ) → k ≤ length s.history → Holds facts p s → Holds facts p (looked s n k)
+  holds_looked : (s : State) (n k : ℕ) → k ≤ length s.history → Holds facts p loaded s → Holds facts p loaded (looked s n k)
   holds_looked s n k le h =
-      record { history = h.history; times = h.times; own = h.own; seen = λ m. cond_le (m == n) k (s.seen m) (length s.history) le (h.seen m); number = h.number }
+      record { begins = h.begins; history = h.history; opened = h.opened; times = h.times; own = h.own; seen = λ m. cond_le (m == n) k (s.seen m) (length s.history) le (h.seen m); number = h.number }
 
-  holds_looked_at : (s : State) (n k : ℕ) (places : Places) → k ≤ length s.history → places.number ≡ n → Holds facts p s → Holds facts p (looked_at s n k places)
+  holds_looked_at : (s : State) (n k : ℕ) (places : Places) → k ≤ length s.history → places.number ≡ n → Holds facts p loaded s → Holds facts p loaded (looked_at s n k places)
   holds_looked_at s n k places le is h = record {
+    begins = h.begins;
     history = h.history;
+    opened = h.opened;
     times = h.times;
     own = h.own;
     seen = λ m. cond_le (m == n) k (s.seen m) (length s.history) le (h.seen m);
@@ -69,7 +97,7 @@ module _ (facts : RealmFacts) (p : ℕ) (times : TimesNeverFall) where
   sees_more : (f : ℕ → ℕ) (m n k : ℕ) → f n ≤ k → f m ≤ cond (m == n) k (f m)
   sees_more f m n k le = cond_at (λ (i j : ℕ). f i ≤ j) m n k (f m) (m == n) refl le (le_refl (f m))
 
-  grows_made : (s : State) (n : ℕ) (entry : Entry) → Holds facts p s → Grows facts s (made s n entry)
+  grows_made : (s : State) (n : ℕ) (entry : Entry) → Holds facts p loaded s → Grows facts s (made s n entry)
   grows_made s n entry h = record {
     history = prefix_push s.history (entry, n);
     seen = λ m. sees_more s.seen m n (length s.history + 1) (omega (arith, h.seen n));
@@ -87,13 +115,13 @@ module _ (facts : RealmFacts) (p : ℕ) (times : TimesNeverFall) where
   }
 
   abbrev Keeps : State → State → Type 0
-  Keeps s t = Holds facts p t × Grows facts s t
+  Keeps s t = Holds facts p loaded t × Grows facts s t
 
-  changed : (s : State) (n : ℕ) (entry : Option Entry) → IsNumber p n → ((e : Entry) → entry ≡ Some e → IsNext facts (entries_of s.history) e) → Holds facts p s → Keeps s (made_any s n entry)
+  changed : (s : State) (n : ℕ) (entry : Option Entry) → IsNumber p n → ((e : Entry) → entry ≡ Some e → IsNext facts (entries_of s.history) e) → Holds facts p loaded s → Keeps s (made_any s n entry)
   changed s n None number next h = (holds_looked s n (length s.history) (le_refl _) h, grows_looked s n (length s.history) (h.seen n))
   changed s n (Some e) number next h = (holds_made s n e number (next e refl) h, grows_made s n e h)
 
-  stepped : (s : State) (event : Event) (t : State) → Holds facts p s → Step facts p s event t → Keeps s t
+  stepped : (s : State) (event : Event) (t : State) → Holds facts p loaded s → Step facts p s event t → Keeps s t
   stepped s (house n clock) t h done =
       let number = done.0 in let entry = done.2.0 in let due = done.2.1 in let is = done.2.2 in let before = done.1 in
       subst (Keeps s) (sym is) (holds_made s n entry number (kept clock before due) h, grows_made s n entry h)
@@ -136,21 +164,32 @@ module _ (facts : RealmFacts) (p : ℕ) (times : TimesNeverFall) where
     places = λ m. goes_after (s.places m) (t.places m) (u.places m) (a.places m) (b.places m);
   }
 
-  pub ran : (s : State) (events : List Event) (t : State) → Holds facts p s → Runs facts p s events t → Keeps s t
+  pub ran : (s : State) (events : List Event) (t : State) → Holds facts p loaded s → Runs facts p s events t → Keeps s t
   ran s [] t h is = subst (Keeps s) (sym is) (h, grows_self s)
   ran s (event ∷ events) t h (u, step, more) =
       let one = stepped s event u h step in
       let rest = ran u events t one.0 more in
       (rest.0, grows_trans s u t one.1 rest.1)
 
-  holds_start : Holds facts p start
-  holds_start = record { history = history_loaded facts p 0 [] no_entry refl; times = times facts [] empty; own = λ m. refl; seen = λ m. le_refl 0; number = λ m. refl }
+  module _ (opened : IsOpened facts loaded) where
+    holds_start : Holds facts p loaded (start loaded)
+    holds_start =
+        let here : IsOpened facts (entries_of (loaded_pairs loaded)) = subst (IsOpened facts) (sym (entries_of-loaded loaded)) opened in
+        record {
+          begins = prefix_self (loaded_pairs loaded);
+          history = history_loaded facts p first loaded opened.held refl;
+          opened = here;
+          times = times facts _ here.held;
+          own = λ m. ap (places_of_maker m first) (sym (drop_loaded loaded));
+          seen = λ m. omega (arith, loaded_length loaded);
+          number = λ m. refl;
+        }
 
-  pub reached : (before : List Event) (s : State) → Runs facts p start before s → Holds facts p s
-  reached before s run = (ran start before s holds_start run).0
+    pub reached : (before : List Event) (s : State) → Runs facts p (start loaded) before s → Holds facts p loaded s
+    reached before s run = (ran (start loaded) before s holds_start run).0
 
-  pub goes : (before after : List Event) (s t : State) → Runs facts p start before s → Runs facts p s after t → Holds facts p t × Grows facts s t
-  goes before after s t run more = ran s after t (reached before s run) more
+    pub goes : (before after : List Event) (s t : State) → Runs facts p (start loaded) before s → Runs facts p s after t → Holds facts p loaded t × Grows facts s t
+    goes before after s t run more = ran s after t (reached before s run) more
 
 pub always : TimesNeverFall → HoldsAlways
-always times facts p before after s t run more = goes facts p times before after s t run more
+always times facts p loaded before after s t opened run more = goes facts p loaded times opened before after s t run more

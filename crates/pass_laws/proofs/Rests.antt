@@ -8,10 +8,10 @@ use Rattle.publish_pass.specs.Pass.{making_any}
 use Rattle.pass_laws.specs.House.{OwesNothingMore}
 
 pub rests : HouseIsKeptOnce → OwesNothingMore
-rests law s clock lawful = by_entry (housekeeping_of (entries_of s.history) clock) refl
+rests law s clock held = by_entry (housekeeping_of (entries_of s.history) clock) refl
   where
     by_entry : (o : Option Entry) → housekeeping_of (entries_of s.history) clock ≡ o → housekeeping_of (entries_of (making_any s o).history) clock ≡ None
     by_entry None is = is
     by_entry (Some entry) is =
         ap (λ (h : List Entry). housekeeping_of h clock) (map-append (λ (made : Entry × ℕ). made.0) s.history ((entry, s.number) ∷ []))
-        ∙ law s.facts (entries_of s.history) clock entry lawful is
+        ∙ law s.facts (entries_of s.history) clock entry held is

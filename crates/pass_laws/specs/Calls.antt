@@ -11,8 +11,9 @@ use Rattle.account_rows.specs.declared.entries.What.TheVariants as what
 use Rattle.account_rows.specs.History.{replay}
 use Rattle.grant_table.specs.Grants.{grant_with}
 use Rattle.account_core.specs.Decide.{IsProper, IsLawful}
-use Rattle.account_laws.specs.Laws.{Sealing, HasSealed, iv_in}
-use Rattle.published_account.specs.Pairs.{entries_of}
+use Rattle.account_core.specs.Fitting.{IsHeld}
+use Rattle.account_laws.specs.Laws.{IsOpened, Sealing, HasSealed, iv_in}
+use Rattle.published_account.specs.Pairs.{entries_of, loaded_pairs}
 use Rattle.publish_pass.specs.Pass.{Pass, Learns, Reads, Wants, Misses, Changes, WantsChange, Decides, KeepsHouse, WantsHouse, LeavesAtMost, keeping_house, fresh_pass}
 use Rattle.pass_laws.specs.Machine.{IsNumber}
 
@@ -35,16 +36,16 @@ pub data Calls (first : Pass) : Pass → Type 0 where
   no_call : Calls first first
   one_more : {old new : Pass} (met : List (Entry × ℕ)) → Calls first old → Call old met new → Calls first new
 
--- The passes 1 to p of a service, each at a point of its calls, and the history that is published: at first nothing was called, and nothing is
--- published. A call by which nothing is published meets some front of what is; any other meets all of it, and what its pass then holds is published.
-pub data Together (facts : RealmFacts) (p : ℕ) : (ℕ → Pass) → List (Entry × ℕ) → Type 0 where
-  opened : Together facts p (fresh_pass facts p []) []
+-- The passes 1 to p of a service that began with these entries, or with none, each at a point of its calls, and the history that is published: at first nothing was called, and
+-- what was loaded is published. A call by which nothing is published meets some front of what is; any other meets all of it, and what its pass then holds is published.
+pub data Together (facts : RealmFacts) (p : ℕ) (loaded : List Entry) : (ℕ → Pass) → List (Entry × ℕ) → Type 0 where
+  opened : Together facts p loaded (fresh_pass facts p loaded) (loaded_pairs loaded)
   looks : {passes : ℕ → Pass} {published : List (Entry × ℕ)} (n : ℕ) (met : List (Entry × ℕ)) (new : Pass)
-      → Together facts p passes published → IsNumber p n → Call (passes n) met new → new.history ≡ met → IsPrefix met published
-      → Together facts p (λ m. cond (m == n) new (passes m)) published
+      → Together facts p loaded passes published → IsNumber p n → Call (passes n) met new → new.history ≡ met → IsPrefix met published
+      → Together facts p loaded (λ m. cond (m == n) new (passes m)) published
   publishes : {passes : ℕ → Pass} {published : List (Entry × ℕ)} (n : ℕ) (met : List (Entry × ℕ)) (new : Pass)
-      → Together facts p passes published → IsNumber p n → Call (passes n) met new → met ≡ published
-      → Together facts p (λ m. cond (m == n) new (passes m)) new.history
+      → Together facts p loaded passes published → IsNumber p n → Call (passes n) met new → met ≡ published
+      → Together facts p loaded (λ m. cond (m == n) new (passes m)) new.history
 
 -- ---- laws
 
@@ -57,6 +58,11 @@ abbrev pub CallsKeepLawful : Type 0
 CallsKeepLawful =
     (first last : Pass) → Calls first last → IsLawful first.facts (entries_of first.history) → (last.facts ≡ first.facts) × IsLawful last.facts (entries_of last.history)
 
+-- and so does a history that an opened account holds
+abbrev pub CallsKeepOpened : Type 0
+CallsKeepOpened =
+    (first last : Pass) → Calls first last → IsOpened first.facts (entries_of first.history) → (last.facts ≡ first.facts) × IsOpened last.facts (entries_of last.history)
+
 -- a call answers a request at this history
 pub data AnswersAt (old : Pass) (history : List Entry) (new : Pass) : Type 0 where
   at_front : (x : Ask) (reply : Reply) → (is : Reads old x reply new) → history ≡ entries_of is.met.history → AnswersAt old history new
@@ -66,7 +72,7 @@ pub data AnswersAt (old : Pass) (history : List Entry) (new : Pass) : Type 0 whe
 abbrev pub DroppedStaysAwayFromPasses : Type 0
 DroppedStaysAwayFromPasses =
     (first old new : Pass) (history more answered : List Entry) (entry : Entry) (grant : List ℕ)
-    → IsLawful first.facts (entries_of first.history) → entries_of first.history ≡ (history ++ entry ∷ []) ++ more → entry.what ≡ what.GrantDrop grant
+    → IsHeld first.facts (entries_of first.history) → entries_of first.history ≡ (history ++ entry ∷ []) ++ more → entry.what ≡ what.GrantDrop grant
     → Calls first old → (grant_with (replay (entries_of old.history)).grants grant ≡ None)
     × (AnswersAt old answered new → grant_with (replay answered).grants grant ≡ None)
 
@@ -80,18 +86,18 @@ pub record Seals (old new : Pass) (sealing : Sealing) : Type 0 where
 -- two calls of one pass that each sealed a text, with any calls between them, have given them different initialization vectors
 abbrev pub NoVectorOfOnePassTwice : Type 0
 NoVectorOfOnePassTwice =
-    (s t u v : Pass) (one other : Sealing) → IsLawful s.facts (entries_of s.history)
+    (s t u v : Pass) (one other : Sealing) → IsOpened s.facts (entries_of s.history)
     → Seals s t one → Calls t u → Seals u v other → iv_in one.blob ≢ iv_in other.blob
 
 -- and so have two calls of two passes of one service
 abbrev pub NoVectorOfTwoPasses : Type 0
 NoVectorOfTwoPasses =
-    (facts : RealmFacts) (p n m : ℕ) (s t u v : Pass) (one other : Sealing) → n < 2 ^ 16 → m < 2 ^ 16 → n ≢ m
-    → Calls (fresh_pass facts p [] n) s → Seals s t one → Calls (fresh_pass facts p [] m) u → Seals u v other → iv_in one.blob ≢ iv_in other.blob
+    (facts : RealmFacts) (p n m : ℕ) (loaded : List Entry) (s t u v : Pass) (one other : Sealing) → IsOpened facts loaded → n < 2 ^ 16 → m < 2 ^ 16 → n ≢ m
+    → Calls (fresh_pass facts p loaded n) s → Seals s t one → Calls (fresh_pass facts p loaded m) u → Seals u v other → iv_in one.blob ≢ iv_in other.blob
 
 -- and of passes of two services whose boots differ
 abbrev pub NoVectorOfTwoBoots : Type 0
 NoVectorOfTwoBoots =
-    (facts later_facts : RealmFacts) (p q n m : ℕ) (s t u v : Pass) (one other : Sealing)
+    (facts later_facts : RealmFacts) (p q n m : ℕ) (loaded reloaded : List Entry) (s t u v : Pass) (one other : Sealing) → IsOpened facts loaded → IsOpened later_facts reloaded
     → facts.boot < 2 ^ 32 → later_facts.boot < 2 ^ 32 → facts.boot ≢ later_facts.boot
-    → Calls (fresh_pass facts p [] n) s → Seals s t one → Calls (fresh_pass later_facts q [] m) u → Seals u v other → iv_in one.blob ≢ iv_in other.blob
+    → Calls (fresh_pass facts p loaded n) s → Seals s t one → Calls (fresh_pass later_facts q reloaded m) u → Seals u v other → iv_in one.blob ≢ iv_in other.blob

@@ -4,6 +4,7 @@ use mathlib.Core.List.{IsPrefix}
 use Rattle.account_steps.specs.declared.facts.RealmFacts.{RealmFacts}
 use Rattle.account_steps.specs.History.{Entry}
 use Rattle.publish_pass.specs.Pass.{Pass}
+use Rattle.account_laws.specs.Laws.{IsOpened}
 use Rattle.pass_laws.specs.Machine.{State, Event, house, change, read, starved, learn, start, IsNumber, Runs, Holds}
 use Rattle.pass_laws.specs.Calls.{Call, Together}
 
@@ -42,21 +43,23 @@ pub record IsDoneBy (facts : RealmFacts) (p : ℕ) (s : State) (published : List
 -- is published.
 abbrev pub CallsAreEvents : Type 0
 CallsAreEvents =
-    (facts : RealmFacts) (p : ℕ) (before : List Event) (s : State) (old new : Pass) (met : List (Entry × ℕ))
-    → Runs facts p start before s → Has facts p s old → Call old met new
+    (facts : RealmFacts) (p : ℕ) (loaded : List Entry) (before : List Event) (s : State) (old new : Pass) (met : List (Entry × ℕ))
+    → IsOpened facts loaded → Runs facts p (start loaded) before s → Has facts p s old → Call old met new
     → (IsPrefix met s.history → new.history ≡ met → IsDoneBy facts p s s.history old new)
     × (met ≡ s.history → IsDoneBy facts p s new.history old new)
 
 -- the state that some events lead to has what each of these passes holds, this is published there, and what holds of the machine holds
-pub record AreOneRun (facts : RealmFacts) (p : ℕ) (passes : ℕ → Pass) (published : List (Entry × ℕ)) : Type 0 where
+pub record AreOneRun (facts : RealmFacts) (p : ℕ) (loaded : List Entry) (passes : ℕ → Pass) (published : List (Entry × ℕ)) : Type 0 where
   pub events : List Event
   pub after : State
-  pub runs : Runs facts p start events after
+  pub runs : Runs facts p (start loaded) events after
   pub is_published : after.history ≡ published
-  pub holds : Holds facts p after
+  pub holds : Holds facts p loaded after
   pub number : (n : ℕ) → (passes n).number ≡ n
   pub has : (n : ℕ) → IsNumber p n → Has facts p after (passes n)
 
 -- in whatever order the passes of a service make their calls, they are one run of the machine
 abbrev pub PassesAreTheMachine : Type 0
-PassesAreTheMachine = (facts : RealmFacts) (p : ℕ) (passes : ℕ → Pass) (published : List (Entry × ℕ)) → Together facts p passes published → AreOneRun facts p passes published
+PassesAreTheMachine =
+    (facts : RealmFacts) (p : ℕ) (loaded : List Entry) (passes : ℕ → Pass) (published : List (Entry × ℕ)) → IsOpened facts loaded
+    → Together facts p loaded passes published → AreOneRun facts p loaded passes published

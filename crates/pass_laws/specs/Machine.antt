@@ -1,5 +1,5 @@
 -- The machine of events: one history that all passes make, and what each pass has seen, made and used.
-use Rattle.std.specs.Prelude.{◌≡◌, ◌≢◌, ℕ, ◌+◌, ◌^◌, ◌==◌, ◌<◌, ◌≤◌, true, false, cond, max, List, [], ◌∷◌, ◌++◌, length, take, Option, Some, None}
+use Rattle.std.specs.Prelude.{◌≡◌, ◌≢◌, ℕ, ◌+◌, ◌^◌, ◌==◌, ◌<◌, ◌≤◌, true, false, cond, max, List, [], ◌∷◌, ◌++◌, length, take, drop, Option, Some, None}
 use Rattle.kms_names.specs.Moment.{year_10000}
 use Rattle.std.specs.List.Sorted.{IsNonDecreasingBy}
 use mathlib.Core.List.{IsPrefix}
@@ -17,8 +17,8 @@ use Rattle.account_rows.specs.declared.entries.What.TheVariants as what
 use Rattle.account_rows.specs.History.{replay}
 use Rattle.account_steps.specs.History.{housekeeping_of}
 use Rattle.account_core.specs.Decide.{decide, IsProper}
-use Rattle.account_laws.specs.Laws.{Sealing, HasSealed, AsksToOpen, reply_to, iv_in, PassGoesOn, exception_of, unless_excepted}
-use Rattle.published_account.specs.Pairs.{IsHistory, entries_of}
+use Rattle.account_laws.specs.Laws.{IsOpened, Sealing, HasSealed, AsksToOpen, reply_to, iv_in, PassGoesOn, exception_of, unless_excepted}
+use Rattle.published_account.specs.Pairs.{IsHistory, entries_of, loaded_pairs}
 
 -- the published history, each entry with the number of the pass that made it; and of the pass of each number how many entries it has
 -- seen, the places of its own, and what it has used of its random stream and of its initialization vectors
@@ -37,9 +37,9 @@ pub data Event : Type 0 where
   starved : ℕ → Ask → ℕ → Places → Event
   learn : ℕ → ℕ → Event
 
--- nothing was made, seen or used
-abbrev pub start : State
-start = record { history = []; seen = λ m. 0; own = λ m. []; places = λ m. record { number = m; words = 0; ivs = 0 } }
+-- these entries were loaded, of which none is a pass's own. Each pass has seen them, and nothing was made or used
+abbrev pub start : List Entry → State
+start loaded = record { history = loaded_pairs loaded; seen = λ m. length loaded; own = λ m. []; places = λ m. record { number = m; words = 0; ivs = 0 } }
 
 -- the entry is appended by the pass, which then has seen all
 abbrev pub made : State → ℕ → Entry → State
@@ -98,12 +98,15 @@ abbrev pub places_of_maker : ℕ → ℕ → List (Entry × ℕ) → List ℕ
 places_of_maker n k [] = []
 places_of_maker n k (pair ∷ pairs) = cond (n == pair.1) (k ∷ places_of_maker n (k + 1) pairs) (places_of_maker n (k + 1) pairs)
 
--- what holds of a state of a service that began with an empty history: the history is lawful and its makers are the passes, its times never fall, a pass's own places are exactly
--- those of its number, no pass has seen more than there is, and a pass's places bear its number
-pub record Holds (facts : RealmFacts) (p : ℕ) (s : State) : Type 0 where
-  pub history : IsHistory facts p 0 s.history
+-- what holds of a state of a service that began with these entries, or with none: they begin the history, each entry behind them may come next after those before it, and its
+-- maker is one of the passes; so it is a history that an opened account holds. Its times never fall, a pass's own places are exactly those of its number behind what was
+-- loaded, no pass has seen more than there is, and a pass's places bear its number
+pub record Holds (facts : RealmFacts) (p : ℕ) (loaded : List Entry) (s : State) : Type 0 where
+  pub begins : IsPrefix (loaded_pairs loaded) s.history
+  pub history : IsHistory facts p (length loaded) s.history
+  pub opened : IsOpened facts (entries_of s.history)
   pub times : IsNonDecreasingBy (λ entry. entry.time) (entries_of s.history)
-  pub own : (m : ℕ) → s.own m ≡ places_of_maker m 0 s.history
+  pub own : (m : ℕ) → s.own m ≡ places_of_maker m (length loaded) (drop (length loaded) s.history)
   pub seen : (m : ℕ) → s.seen m ≤ length s.history
   pub number : (m : ℕ) → (s.places m).number ≡ m
 
@@ -115,14 +118,16 @@ pub record Grows (facts : RealmFacts) (s t : State) : Type 0 where
 
 -- at each moment of each run, and from each to each later one
 abbrev pub HoldsAlways : Type 0
-HoldsAlways = (facts : RealmFacts) (p : ℕ) (before after : List Event) (s t : State) → Runs facts p start before s → Runs facts p s after t → Holds facts p t × Grows facts s t
+HoldsAlways =
+    (facts : RealmFacts) (p : ℕ) (loaded : List Entry) (before after : List Event) (s t : State)
+    → IsOpened facts loaded → Runs facts p (start loaded) before s → Runs facts p s after t → Holds facts p loaded t × Grows facts s t
 
 -- what a request sealed at the first k entries is what Decrypt answers for its blob at the first j entries, then or later, where k
 -- are no more than j
 abbrev pub SealedStaysReadable : Type 0
 SealedStaysReadable =
-    (facts : RealmFacts) (p : ℕ) (before after : List Event) (s t : State) (k j : ℕ) (x y : Ask) (places others : Places) (sealing : Sealing)
-    → Runs facts p start before s → Runs facts p s after t → k ≤ length s.history → k ≤ j → j ≤ length t.history
+    (facts : RealmFacts) (p : ℕ) (loaded : List Entry) (before after : List Event) (s t : State) (k j : ℕ) (x y : Ask) (places others : Places) (sealing : Sealing)
+    → IsOpened facts loaded → Runs facts p (start loaded) before s → Runs facts p s after t → k ≤ length s.history → k ≤ j → j ≤ length t.history
     → IsProper facts x → HasSealed facts (entries_of (take k s.history)) x places sealing
     → AreIdentityPolicies (callers_policies facts.identities y.caller) → (asks : AsksToOpen facts (entries_of (take j t.history)) y others sealing.blob sealing.context)
     → reply_to facts (entries_of (take j t.history)) y others ≡ unless_excepted (exception_of sealing.arn asks.held.stored) (Decrypted sealing.plaintext sealing.arn)
@@ -131,8 +136,8 @@ SealedStaysReadable =
 -- has its id
 abbrev pub DroppedStaysAway : Type 0
 DroppedStaysAway =
-    (facts : RealmFacts) (p n j : ℕ) (before after : List Event) (s t : State) (history more : List Entry) (entry : Entry) (grant : List ℕ)
-    → Runs facts p start before s → Runs facts p s after t
+    (facts : RealmFacts) (p n j : ℕ) (loaded : List Entry) (before after : List Event) (s t : State) (history more : List Entry) (entry : Entry) (grant : List ℕ)
+    → IsOpened facts loaded → Runs facts p (start loaded) before s → Runs facts p s after t
     → entries_of (take (s.seen n) s.history) ≡ (history ++ entry ∷ []) ++ more → entry.what ≡ what.GrantDrop grant
     → t.seen n ≤ j → j ≤ length t.history
     → grant_with (replay (entries_of (take j t.history))).grants grant ≡ None
@@ -140,24 +145,24 @@ DroppedStaysAway =
 -- two requests of one pass that each sealed a text have given them different initialization vectors
 abbrev pub NoVectorTwice : Type 0
 NoVectorTwice =
-    (facts : RealmFacts) (p n k j : ℕ) (before between : List Event) (s t u v : State) (x y : Ask) (one other : Sealing)
-    → Runs facts p start before s → Step facts p s (read n x k) t → Runs facts p t between u → Step facts p u (read n y j) v
+    (facts : RealmFacts) (p n k j : ℕ) (loaded : List Entry) (before between : List Event) (s t u v : State) (x y : Ask) (one other : Sealing)
+    → IsOpened facts loaded → Runs facts p (start loaded) before s → Step facts p s (read n x k) t → Runs facts p t between u → Step facts p u (read n y j) v
     → HasSealed facts (entries_of (take k s.history)) x (s.places n) one → HasSealed facts (entries_of (take j u.history)) y (u.places n) other
     → iv_in one.blob ≢ iv_in other.blob
 
 -- two requests of two passes that each sealed a text, at any moments of a run, have given them different initialization vectors
 abbrev pub NoVectorShared : Type 0
 NoVectorShared =
-    (facts : RealmFacts) (p n m k j : ℕ) (before between : List Event) (s u : State) (x y : Ask) (one other : Sealing)
-    → Runs facts p start before s → Runs facts p s between u → n < 2 ^ 16 → m < 2 ^ 16 → n ≢ m
+    (facts : RealmFacts) (p n m k j : ℕ) (loaded : List Entry) (before between : List Event) (s u : State) (x y : Ask) (one other : Sealing)
+    → IsOpened facts loaded → Runs facts p (start loaded) before s → Runs facts p s between u → n < 2 ^ 16 → m < 2 ^ 16 → n ≢ m
     → HasSealed facts (entries_of (take k s.history)) x (s.places n) one → HasSealed facts (entries_of (take j u.history)) y (u.places m) other
     → iv_in one.blob ≢ iv_in other.blob
 
 -- two requests that each sealed a text, in two runs of services at different boots, have given them different initialization vectors
 abbrev pub NoVectorOverBoots : Type 0
 NoVectorOverBoots =
-    (facts later_facts : RealmFacts) (p q n m k j : ℕ) (before later : List Event) (s u : State) (x y : Ask) (one other : Sealing)
-    → Runs facts p start before s → Runs later_facts q start later u
+    (facts later_facts : RealmFacts) (p q n m k j : ℕ) (loaded reloaded : List Entry) (before later : List Event) (s u : State) (x y : Ask) (one other : Sealing)
+    → IsOpened facts loaded → IsOpened later_facts reloaded → Runs facts p (start loaded) before s → Runs later_facts q (start reloaded) later u
     → facts.boot < 2 ^ 32 → later_facts.boot < 2 ^ 32 → facts.boot ≢ later_facts.boot
     → HasSealed facts (entries_of (take k s.history)) x (s.places n) one → HasSealed later_facts (entries_of (take j u.history)) y (u.places m) other
     → iv_in one.blob ≢ iv_in other.blob

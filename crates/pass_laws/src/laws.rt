@@ -1,6 +1,6 @@
 //! What holds of every run of events, of which each call of a pass is one or more.
 
-ghost use Rattle.pass_laws.specs.Calls.{FrontsNeverFall, CallsKeepLawful, DroppedStaysAwayFromPasses, NoVectorOfOnePassTwice, NoVectorOfTwoPasses, NoVectorOfTwoBoots};
+ghost use Rattle.pass_laws.specs.Calls.{FrontsNeverFall, CallsKeepLawful, CallsKeepOpened, DroppedStaysAwayFromPasses, NoVectorOfOnePassTwice, NoVectorOfTwoPasses, NoVectorOfTwoBoots};
 ghost use Rattle.pass_laws.specs.Events.{CallsAreEvents, PassesAreTheMachine};
 ghost use Rattle.pass_laws.specs.House.{OwesNothingMore};
 ghost use Rattle.pass_laws.specs.Machine.{HoldsAlways, SealedStaysReadable, DroppedStaysAway, NoVectorTwice, NoVectorShared, NoVectorOverBoots};
@@ -10,15 +10,16 @@ use account_laws::{
     passes_share_no_iv, sealed_is_decrypted_again, times_never_fall,
 };
 
-/// For every number of passes and every list of events: housekeeping, changes, reads, reads for which
-/// memory lacks, and learning.
+/// For every number of passes, every list of entries that were loaded at the start (or none) and every list
+/// of events: housekeeping, changes, reads, reads for which memory lacks, and learning.
 ///
-/// The history only grows. It is lawful, its makers are the passes, and its times never fall. What a pass
-/// has seen never falls, the places of its own entries are exactly those of its number, and what it has used
-/// only goes on. What a request sealed, Decrypt answers at every history that goes on from there, while its
-/// key is enabled. A grant that a pass has seen retired or revoked is at no history that the pass is answered
-/// at from then on. Two texts that passes sealed, one pass or two, have different initialization vectors; and so have two
-/// texts of two services whose boots differ.
+/// The history only grows. What was loaded begins it; each entry behind is one that may come next after
+/// those before it, its maker is one of the passes, and times never fall. What a pass has seen never falls,
+/// the places of its own entries are exactly those of its number behind what was loaded, and what it has
+/// used only goes on. What a request sealed, Decrypt answers at every history that goes on from there, while
+/// its key is enabled. A grant that a pass has seen retired or revoked is at no history that the pass is
+/// answered at from then on. Two texts that passes sealed, one pass or two, have different initialization
+/// vectors; and so have two texts of two services whose boots differ.
 pub fn machine_law()
     ensures holds { HoldsAlways }
     ensures readable { SealedStaysReadable }
@@ -48,12 +49,13 @@ pub fn calls_are_events()
 }
 
 /// Of passes, whatever calls they make: the number of entries that a pass holds never falls, and its history
-/// stays lawful. A pass that holds the drop of a grant is answered at no history where a grant has its id. Two
+/// stays lawful, or stays one that an opened account holds. A pass that holds the drop of a grant is answered at no history where a grant has its id. Two
 /// texts that passes of one service sealed, one pass or two, have different initialization vectors; and so have
 /// two texts of two services whose boots differ.
 pub fn passes_law()
     ensures fronts { FrontsNeverFall }
     ensures lawful { CallsKeepLawful }
+    ensures opened { CallsKeepOpened }
     ensures dropped { DroppedStaysAwayFromPasses }
     ensures vectors { NoVectorOfOnePassTwice }
     ensures shared { NoVectorOfTwoPasses }

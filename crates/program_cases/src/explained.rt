@@ -1,7 +1,7 @@
 // What `explain` tells of sessions, line by line.
 ghost use Rattle.std.specs.Prelude.{◌≡◌, IfOk, vec_len};
 
-use crate::scenes::{Failure, clocks, words_of};
+use crate::scenes::{BEGIN, Failure, clocks, words_of};
 use kms_io::{Clock, MemoryClock, MemoryDoor, MemoryFiles, MemoryLink, NoGate};
 use kms_names::NoMemory;
 use kms_program::kms_main;
@@ -111,7 +111,7 @@ fn show<W: rt::Runtime<A = Global> + Threads + Wait + Sync, C: Clock + Send + Dr
 /// All sessions.
 pub fn show_all<W: rt::Runtime<A = Global> + Threads + Wait + Sync>(rt: &W) -> Result<(), Failure> {
     for session in SESSIONS {
-        show(rt, session, &mut clocks(rt.alloc())?)?;
+        show(rt, session, &mut clocks(rt.alloc(), BEGIN)?)?;
     }
     show(rt, &HOUSE, &mut later_clocks(rt.alloc())?)
 }

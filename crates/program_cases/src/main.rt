@@ -3,7 +3,10 @@
 #![tactic(auto)]
 
 mod explained;
+mod journals;
+mod long_files;
 mod scenes;
+mod scripts;
 
 use scenes::Failure;
 use std::alloc::Global;
@@ -12,10 +15,11 @@ use std::sync::Wait;
 use std::thread::Threads;
 use std::{io, rt};
 
-// The scenes, and then the sessions that are explained.
+// The scenes, then the sessions that are explained, and then the runs over journals.
 fn show_all<W: rt::Runtime<A = Global> + Threads + Wait + Sync>(rt: &W) -> Result<(), Failure> {
     scenes::show_all(rt)?;
-    explained::show_all(rt)
+    explained::show_all(rt)?;
+    journals::show_all(rt)
 }
 
 fn main(rt: HostRuntime) -> io::Result<ExitCode> {

@@ -4,7 +4,7 @@ ghost use Rattle.std.specs.Prelude.{◌≡◌, IfOk, vec_len};
 use kms_io::{MemoryDoor, MemoryFiles, MemoryLink, NoGate, StepClock};
 use kms_names::NoMemory;
 use kms_program::kms_main;
-use std::alloc::{AllocError, Global};
+use std::alloc::{AllocError, AllocFailed, Global};
 use std::sync::Wait;
 use std::thread::Threads;
 use std::{fs, io, rt};
@@ -17,6 +17,12 @@ pub enum Failure {
 
 impl From<AllocError> for Failure {
     fn from(_e: AllocError) -> Failure {
+        Failure::Workshop(io::ErrorKind::OutOfMemory)
+    }
+}
+
+impl<T: Drop> From<AllocFailed<T>> for Failure {
+    fn from(_e: AllocFailed<T>) -> Failure {
         Failure::Workshop(io::ErrorKind::OutOfMemory)
     }
 }
@@ -34,7 +40,7 @@ impl From<io::Error> for Failure {
 }
 
 // The clock's first answer.
-const BEGIN: u64 = 1_700_000_000;
+pub(crate) const BEGIN: u32 = 1_700_000_000;
 
 // A session of the root of account 111122223333, with a root secret of zeros.
 const RUN: &[&str] = &[
@@ -209,13 +215,13 @@ fn link_of(alloc: Global, exchange: &Exchange, scene: &Scene<'_>) -> Result<Memo
     Ok(MemoryLink::new(alloc, input, pieces, reads, writes))
 }
 
-// 64 clocks, each a second later at each call.
-pub(crate) fn clocks(alloc: Global) -> Result<Vec<StepClock>, NoMemory>
+// 64 clocks with this first answer, each a second later at each call.
+pub(crate) fn clocks(alloc: Global, begin: u32) -> Result<Vec<StepClock>, NoMemory>
     ensures { IfOk result (λ clocks. vec_len clocks ≡ 64) }
 {
     let mut clocks = Vec::with_capacity(alloc, 64)?;
     while clocks.len() < 64 {
-        clocks.push(StepClock::new(BEGIN))?;
+        clocks.push(StepClock::new(u64::from(begin)))?;
     }
     Ok(clocks)
 }
@@ -241,7 +247,7 @@ fn show<W: rt::Runtime<A = Global> + Threads + Wait + Sync>(
     let alloc = rt.alloc();
     let words = words_of(alloc, scene.words)?;
     let mut link = link_of(alloc, exchange, scene)?;
-    let mut clocks = clocks(alloc)?;
+    let mut clocks = clocks(alloc, BEGIN)?;
     let mut files = MemoryFiles::new(alloc, Vec::new(alloc), Vec::new(alloc));
     let mut door = MemoryDoor::new(alloc, Vec::new(alloc), Vec::new(alloc));
     let status = kms_main(

@@ -14,7 +14,7 @@ use Rattle.http_front.specs.Message.{Message}
 use Rattle.published_account.specs.Answers.{Answer}
 use Rattle.publish_pass.specs.Pass.{Pass, Learns, Meets, fresh_pass, fresh_passes}
 use Rattle.pass_laws.specs.Calls.{Call, read, wanted_to_read, changed, wanted_to_change, wanted_to_keep_house, missed, learnt, Calls, no_call, one_more}
-use Rattle.pass_laws.proofs.CallFacts.{calls_facts, calls_append, calls_lawful, not_twice}
+use Rattle.pass_laws.proofs.CallFacts.{calls_facts, calls_append, calls_lawful, calls_opened, not_twice}
 use Rattle.session_front.specs.declared.trust.Trust.{Trust}
 use Rattle.session_front.specs.declared.ends.SessionEnd.TheVariants.{Ended, Closed, CutOff, ReadFault, WriteFault, NoMemory}
 use Rattle.session_front.specs.Callers.{IsOfAccount}
@@ -29,7 +29,7 @@ use Rattle.kms_server.specs.Work.{WorkerState, Attends, TakesOne, WorkerRun, beg
 use Rattle.kms_server.specs.declared.crew.Kept.{Kept}
 use Rattle.kms_server.specs.Crew.{Pairwise, none, both, Settles, KeepsOf, keeps_nothing, keeps_whole, lacks_memory, Keeps}
 use Rattle.session_laws.specs.Calls.{TurnsAreCalls, RunsAreCalls, SessionsAreCalls, WorkersAreCalls, ServersAreCalls}
-use Rattle.session_laws.specs.Laws.{RunsKeepLawful, OneSessionRepeatsNoIv}
+use Rattle.session_laws.specs.Laws.{RunsKeepLawful, RunsKeepOpened, OneSessionRepeatsNoIv}
 
 -- ---- a request of a session is proper
 
@@ -191,10 +191,13 @@ servers_are_calls first trust wanted served kept old new of is =
 pub keeps_lawful : RunsKeepLawful
 keeps_lawful trust start end items clocks text run of lawful = calls_lawful start end (run_calls trust start end items clocks text of run) lawful
 
+pub keeps_opened : RunsKeepOpened
+keeps_opened trust start end items clocks text run of opened = calls_opened start end (run_calls trust start end items clocks text of run) opened
+
 pub no_iv_again : OneSessionRepeatsNoIv
-no_iv_again trust s t u v first second c d items clocks text one other of lawful seals run again =
+no_iv_again trust s t u v first second c d items clocks text one other of opened seals run again =
     let facts_are : t.facts ≡ s.facts = ap (λ (p : Pass). p.facts) seals.reads.used ∙ ap (λ (p : Pass). p.facts) seals.reads.seen.others in
-    not_twice account_law s t u v one other lawful
+    not_twice account_law s t u v one other opened
     (record { request = seals.request; reply = seals.reply; reads = seals.reads; sealed = seals.sealed })
     (run_calls trust t u items clocks text (still_of trust s t of facts_are) run)
     (record { request = again.request; reply = again.reply; reads = again.reads; sealed = again.sealed })

@@ -6,7 +6,7 @@ use Rattle.session_front.specs.declared.trust.Trust.{Trust}
 use Rattle.kms_json.specs.declared.asks.Ask.{Ask}
 use Rattle.kms_json.specs.declared.replies.Reply.{Reply}
 use Rattle.account_core.specs.Decide.{IsLawful}
-use Rattle.account_laws.specs.Laws.{Sealing, HasSealed, iv_in}
+use Rattle.account_laws.specs.Laws.{IsOpened, Sealing, HasSealed, iv_in}
 use Rattle.published_account.specs.Answers.{Answer}
 use Rattle.published_account.specs.Pairs.{entries_of}
 use Rattle.kms_session.specs.Answers.{IsReplyText}
@@ -44,6 +44,13 @@ RunsKeepLawful =
     → IsOfAccount start.facts.account trust → IsLawful start.facts (entries_of start.history)
     → (end.facts ≡ start.facts) × IsLawful end.facts (entries_of end.history)
 
+-- and so it does one that an opened account holds
+abbrev pub RunsKeepOpened : Type 0
+RunsKeepOpened =
+    (trust : Trust) (start end : Pass) (items : List Item) (clocks text : List ℕ) → SessionRun start trust end items clocks text
+    → IsOfAccount start.facts.account trust → IsOpened start.facts (entries_of start.history)
+    → (end.facts ≡ start.facts) × IsOpened end.facts (entries_of end.history)
+
 -- A turn, and a run of turns, leave a history that begins with the one before. The number of entries that a reply names is the
 -- length of the history after its turn, so along a session it never falls
 abbrev pub TurnsGoOn : Type 0
@@ -65,7 +72,7 @@ pub record SealsAt (trust : Trust) (item : Item) (c : ℕ) (s t : Pass) (sealing
 abbrev pub OneSessionRepeatsNoIv : Type 0
 OneSessionRepeatsNoIv =
     (trust : Trust) (s t u v : Pass) (first second : Item) (c d : ℕ) (items : List Item) (clocks text : List ℕ) (one other : Sealing)
-    → IsOfAccount s.facts.account trust → IsLawful s.facts (entries_of s.history)
+    → IsOfAccount s.facts.account trust → IsOpened s.facts (entries_of s.history)
     → SealsAt trust first c s t one → SessionRun t trust u items clocks text → SealsAt trust second d u v other
     → iv_in one.blob ≢ iv_in other.blob
 

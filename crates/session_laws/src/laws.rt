@@ -1,6 +1,6 @@
 // What follows from the definitions alone.
 ghost use Rattle.session_laws.specs.Calls.{TurnsAreCalls, RunsAreCalls, SessionsAreCalls, WorkersAreCalls, ServersAreCalls};
-ghost use Rattle.session_laws.specs.Laws.{OneCut, OneEnd, OneReplyText, EachMessageIsAnswered, RunsKeepLawful, TurnsGoOn, RunsGoOn, OneSessionRepeatsNoIv};
+ghost use Rattle.session_laws.specs.Laws.{OneCut, OneEnd, OneReplyText, EachMessageIsAnswered, RunsKeepLawful, RunsKeepOpened, TurnsGoOn, RunsGoOn, OneSessionRepeatsNoIv};
 
 /// A stream is cut into messages in one way: two cuts into as many items have the same rest and the same items,
 /// but that bytes of which no head can come may bear another fault.
@@ -29,10 +29,12 @@ pub fn each_message_is_answered()
     ensures { EachMessageIsAnswered }
 {}
 
-/// A run of turns keeps the facts and a lawful history lawful. So the laws of lawful histories hold of
-/// whatever history a session leaves.
+/// A run of turns keeps the facts, keeps a lawful history lawful, and one that an opened account holds such a
+/// one. So the laws of histories hold of whatever history a session leaves, whether it began with nothing or with
+/// what was loaded.
 pub fn runs_keep_lawful()
-    ensures { RunsKeepLawful }
+    ensures lawful { RunsKeepLawful }
+    ensures opened { RunsKeepOpened }
 {}
 
 /// A turn and a run of turns only add to what the pass has seen. So the numbers of entries that the replies

@@ -1,4 +1,4 @@
 use Rattle.access_explain.proofs.grants.next_grant.Goals as goal
 
 pub returns-clause-order : goal.returns-clause-order
-returns-clause-order c = c.held_grants_stand_in_order.ensures c.args.account.now.facts c.args.account.now.entries c.entries-entries.ensures.held
+returns-clause-order c = (c.rows_stand_in_order.ensures c.args.account.now.facts c.args.account.now.entries c.entries-entries.ensures.held).grants

@@ -12,8 +12,8 @@ returns-clause-in_order c = λ view. record {
   rotations = λ row. whole_of _ _;
 }
 
-pub returns-clause-lawful : goal.returns-clause-lawful
-returns-clause-lawful c = lists_are_whole
+pub returns-clause-lists : goal.returns-clause-lists
+returns-clause-lists c = lists_are_whole
 
 pub returns-clause-tags : goal.returns-clause-tags
 returns-clause-tags c = tags_are_whole

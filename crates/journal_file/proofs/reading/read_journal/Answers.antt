@@ -55,6 +55,9 @@ returns-clause-ok c =
     ok_is _ _ c.read_lines.result (λ a read. journal_is facts c.args.bytes.now c.in-Some.boot c.in-Some.rest.now head.0 head.1 a
     (subst (λ (f : RealmFacts). IsReadOf f c.in-Some.boot c.in-Some.rest.now a) same read)) c.read_lines.ensures.ok
 
+pub returns-clause-read : goal.returns-clause-read
+returns-clause-read c = ok_is _ _ c.read_lines.result (λ a read. read.read) c.read_lines.ensures.ok
+
 pub returns-clause-fault : goal.returns-clause-fault
 returns-clause-fault c =
     let facts = c.args.facts in

@@ -1,4 +1,4 @@
-use Rattle.pass_laws.proofs.CallFacts.{fronts, calls_lawful, stays_away, not_twice, not_of_two, not_over_boots}
+use Rattle.pass_laws.proofs.CallFacts.{fronts, calls_lawful, calls_opened, stays_away, not_twice, not_of_two, not_over_boots}
 use Rattle.pass_laws.proofs.laws.passes_law.Goals as goal
 
 pub returns-clause-fronts : goal.returns-clause-fronts
@@ -6,6 +6,9 @@ returns-clause-fronts c = fronts
 
 pub returns-clause-lawful : goal.returns-clause-lawful
 returns-clause-lawful c = calls_lawful
+
+pub returns-clause-opened : goal.returns-clause-opened
+returns-clause-opened c = calls_opened
 
 pub returns-clause-dropped : goal.returns-clause-dropped
 returns-clause-dropped c = stays_away c.dropped_grants_stay_away.ensures
