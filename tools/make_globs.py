@@ -11,6 +11,8 @@ matches itself. A text is written as it is, and the empty one as `''`.
 glob | pattern | text | whether it matches
 pattern | pattern | text | the same, of the pattern read once
 glob_nocase | pattern | text | the same, with ASCII letters in lower case on both sides
+compiled | pattern | text | as `glob`, of `glob_patterns`
+compiled_nocase | pattern | text | as `glob_nocase`, of `glob_patterns`
 size_of_steps | the size in bytes of a counter of comparisons
 
 Made by tools/make_globs.py. The answers by hand are compared there with those of Python's `re` for the pattern
@@ -119,6 +121,9 @@ MORE_NOCASE = [
 ]
 
 
+COMPILED = {"glob": "compiled", "pattern": "compiled", "glob_nocase": "compiled_nocase"}
+
+
 def lowered(text):
     return "".join(chr(ord(c) + 32) if "A" <= c <= "Z" else c for c in text)
 
@@ -138,6 +143,7 @@ def main():
         file.case(call, pattern or "''", text or "''", str(answer).lower())
         if call == "glob":
             file.case("pattern", pattern or "''", text or "''", str(answer).lower())
+        file.case(COMPILED[call], pattern or "''", text or "''", str(answer).lower())
 
     file.note("The earlier tests.")
     for pattern, text, want in EXACT:
@@ -146,7 +152,7 @@ def main():
         case("glob_nocase", pattern, text, want)
 
     file.note("200 stars in a pattern, and 400 characters: the answers come soon.")
-    for call in ["glob", "pattern", "glob_nocase"]:
+    for call in ["glob", "pattern", "glob_nocase", "compiled", "compiled_nocase"]:
         file.case(call, "a*" * 200 + "b", "aa" * 200, "false")
         file.case(call, "a*" * 200, "aa" * 200, "true")
         file.case(call, "*a" * 200 + "?", "a" * 400, "true")
@@ -175,6 +181,15 @@ def main():
         if file.random.random() < 0.3:
             pattern[file.random.randrange(len(pattern))] = "B"
         case(call, "".join(pattern), text)
+    file.note("Texts of more characters than are looked at together, and parts of patterns as long.")
+    for call in ["glob"] * 60 + ["glob_nocase"] * 30:
+        letters = file.random.choice(["a", "ab", "aé"])
+        text = [file.random.choice(letters) for _ in range(file.random.choice([255, 256, 257, 300, 511, 512, 513, 600]))]
+        place = file.random.choice([0, 1, 254, 255, 256, 257, 510, 511, 512])
+        text[place:place] = file.random.choice(["b", "bb", "É", "€"])
+        part = file.random.choice(["b", "b?b", "a?B", "é", "?É", "€", "x", "a" * 30 + "b", "a" * 250 + "b", "a" * 256, "?" * 257 + "b"])
+        pattern = file.random.choice(["*{}*", "*{}", "{}*", "*{}*a*", "a*{}*?", "*?{}*{}"]).replace("{}", part)
+        case(call, pattern, "".join(text))
     file.write()
 
 

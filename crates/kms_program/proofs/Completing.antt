@@ -31,6 +31,7 @@ begun_before old met (Some name) facts account same is = record {
   holds = subst (λ (content : List ℕ → Option (List ℕ)). IfSome (content name) (λ (all : List ℕ). is.bytes ≡ all)) same is.holds;
   facts_are = is.facts_are;
   is = is.is;
+  read = is.read;
 }
 
 same_content : (source : Source) (old met : Shelf) → AsksSource source old met → met.content ≡ old.content

@@ -3,6 +3,7 @@
 ghost use Rattle.std.specs.Prelude.{◌≡◌, ◌<◌};
 
 use crate::cases::Case;
+use glob_patterns::{Letters, Pattern as CompiledPattern, matches_nocase};
 use kms_names::{Pattern, Steps, glob, glob_nocase};
 use std::marker::Brand;
 use std::sync::ledger::{Blank, Ledger};
@@ -21,6 +22,10 @@ pub fn globs(case: &mut Case<'_>) {
         match call {
             "glob" | "glob_nocase" => case.put_truth(matches(&question)),
             "pattern" => prepared(case, &question),
+            "compiled" => compiled(case, &question),
+            "compiled_nocase" => {
+                case.put_truth(matches_nocase(case.alloc, question.pattern, question.text));
+            }
             _ => case.lose(),
         }
     }
@@ -40,6 +45,21 @@ fn prepared(case: &mut Case<'_>, question: &Question<'_>) {
     if let Some(pattern) = case.kept(made) {
         let copied = case.kept_or(pattern.copy(), pattern);
         case.put_truth(copied.matches(question.text));
+    }
+}
+
+/// What a copy of a compiled pattern answers, of the text and of its characters read once.
+fn compiled(case: &mut Case<'_>, question: &Question<'_>) {
+    let made = CompiledPattern::new(case.alloc, question.pattern);
+    if let Some(pattern) = case.kept(made) {
+        let copied = case.kept_or(pattern.copy(), pattern);
+        let answer = copied.matches(question.text);
+        let read = Letters::of(case.alloc, question.text);
+        if answer == copied.matches_read(question.text, &read) {
+            case.put_truth(answer);
+        } else {
+            case.lose();
+        }
     }
 }
 

@@ -3,6 +3,7 @@
 /// Calls each promise.
 pub fn all() {
     kms_names::names_cross_threads();
+    glob_patterns::patterns_cross_threads();
     enc_context::contexts_cross_threads();
     cond_ops::conditions_cross_threads();
     policy_doc::policies_cross_threads();

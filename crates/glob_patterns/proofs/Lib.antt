@@ -1,0 +1,4 @@
+pub mod FitFacts
+pub mod MarkFacts
+pub mod LetterFacts
+pub mod PartFacts

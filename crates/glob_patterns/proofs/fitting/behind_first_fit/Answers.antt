@@ -1,0 +1,20 @@
+-- A part fits nowhere behind the last place that has room for it.
+use Rattle.std.proofs.Common.{arith}
+use Rattle.glob_patterns.specs.Letters.{letters, read_as}
+use Rattle.glob_patterns.proofs.LetterFacts.{letters_long, read_long}
+use Rattle.glob_patterns.proofs.PartFacts.{nowhere_short, nowhere}
+use Rattle.glob_patterns.proofs.fitting.behind_first_fit.Goals as goal
+
+pub returns-then-len-count : goal.returns-then-len-count
+returns-then-len-count c =
+    nowhere_short (letters c.args.case c.args.segment.now) (read_as c.args.case c.args.units)
+    (omega (arith, letters_long c.args.case c.args.segment.now, read_long c.args.case c.args.units))
+
+pub returns-in-None : goal.returns-in-None
+returns-in-None c =
+    let part = letters c.args.case c.args.segment.now in
+    let text = read_as c.args.case c.args.units in
+    let counted = letters_long c.args.case c.args.segment.now in
+    let measured = read_long c.args.case c.args.units in
+    nowhere part text (omega (arith, counted, measured))
+    (λ k within. c.in-None.ensures k (omega (arith, counted, measured, within)))
