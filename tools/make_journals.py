@@ -661,6 +661,7 @@ def limits():
     yield behind("ten rotations", Lines(10, 1, on_key("RotateNow")))
     yield behind("eleven rotations", Lines(11, 1, on_key("RotateNow")))
     yield behind("ten rotations of each of two keys", created(1), Lines(10, 2, on_key("RotateNow")), Lines(10, 12, on_key("RotateNow", START, KEY[1])))
+    yield behind("100,000 entries that disable a key", Lines(100_000, 1, on_key("Disable")))
     yield Case("10,000 keys", HEAD_TEXT, Lines(10_000, 0, key))
     yield Case("10,001 keys", HEAD_TEXT, Lines(10_001, 0, key))
     yield behind("10,000 aliases, and one that is there put again", Lines(10_000, 1, alias), odd(alias, "~", base64_of("alias/" + "0" * 11 + "1")))
