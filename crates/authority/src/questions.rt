@@ -56,7 +56,7 @@ fn own_allow(caller: &Principal, policies: &[Compiled], request: &RequestFacts) 
     }
 }
 
-// On a key whose policy gives this verdict.
+// On a key whose policy gives this verdict. Where that policy denies it, no other is asked.
 fn standing_on_key(
     caller: &Principal,
     policies: &[Compiled],
@@ -65,11 +65,9 @@ fn standing_on_key(
 ) -> Standing
     ensures { result ≡ key_standing verdict (some_deny policies.now request.now) (identity_allows caller.now policies.now request.now) }
 {
-    if some_deny(policies, request) {
-        return Standing::Denied;
-    }
     match verdict {
         Verdict::Deny => Standing::Denied,
+        _ if some_deny(policies, request) => Standing::Denied,
         Verdict::Direct => Standing::Allowed,
         Verdict::ByRoot if own_allow(caller, policies, request) => Standing::Allowed,
         Verdict::ByRoot | Verdict::Silent => Standing::IfGranted,

@@ -1,13 +1,10 @@
 -- ARNs are cut in one way, and are like patterns part by part.
-use Rattle.std.proofs.Common.{◌≡◌, ℕ, zero, suc, List, [], ◌∷◌, refl, sym, ◌∙◌, ap, subst, Bool}
-use Rattle.std.specs.Prelude.{◌↔◌, IsTrue, Any}
+use Rattle.std.proofs.Common.{◌≡◌, ℕ, zero, suc, List, [], ◌∷◌, refl, sym, ◌∙◌, ap, subst}
 use Rattle.std.specs.List.{AllZip}
 use Rattle.cond_ops.specs.Arn.{IsCutInto}
 use Rattle.cond_ops.specs.Cut.{IsCutAt}
-use Rattle.cond_ops.specs.Reading.{AreRead}
 use Rattle.cond_ops.specs.Relation.{IsLike, PartsAreLike}
 use Rattle.cond_ops.proofs.CutFacts.{same_cut}
-use Rattle.cond_ops.proofs.ReadFacts.{some_read, some_item}
 
 pub one_cut_into : (n : ℕ) (text : List ℕ) (ps qs : List (List ℕ)) → IsCutInto n text ps → IsCutInto n text qs → ps ≡ qs
 one_cut_into zero text [] qs here there = absurd here
@@ -59,15 +56,3 @@ of_parts (suc n) text pattern [] qs cut cut' zip = absurd cut
 of_parts (suc n) text pattern (p ∷ ps) [] cut cut' zip = absurd cut'
 of_parts (suc n) text pattern (p ∷ ps) (q ∷ qs) (rest, cut, more) (others, cut', more') zip =
     (p, rest, q, others, cut.0, cut'.0, cut.1, cut'.1, zip.0, of_parts n rest others ps qs more more' zip.1)
-
--- a text with these parts is like some of the patterns that were read
-module _ (n : ℕ) (value : List ℕ) (texts : List (List ℕ)) (items : List (List (List ℕ))) (are : AreRead (IsCutInto n) texts items) where
-  pub some_like : (ps : List (List ℕ)) → IsCutInto n value ps → (r : Bool) → IsTrue r ↔ Any (AllZip IsLike ps) items → IsTrue r ↔ Any (PartsAreLike n value) texts
-  some_like ps cut r says = (
-    λ t. let a = some_read (IsCutInto n) (AllZip IsLike ps) texts items are (says.0 t) in
-        (a.0, a.1, a.2, a.3, of_parts n value a.1 ps a.4.0 cut a.4.1 a.4.2),
-    λ any. says.1 (some_item (IsCutInto n) (AllZip IsLike ps) texts items are (any.0, any.1, any.2, any.3, by_parts n value any.1 ps cut any.4)),
-  )
-
-  pub none_like : ((ps : List (List ℕ)) → ¬ (IsCutInto n value ps)) → ¬ (Any (PartsAreLike n value) texts)
-  none_like none any = let parts = parts_of_like n value any.1 any.4 in none parts.0 parts.1

@@ -1,11 +1,12 @@
 pub mod CutFacts
-pub mod PatternFacts
+pub mod ColonFacts
 pub mod NumberFacts
 pub mod OperatorFacts
 pub mod MomentFacts
 pub mod SecondFacts
 pub mod ReadingFacts
 pub mod MatchingFacts
-pub mod ReadFacts
+pub mod RelatedFacts
+pub mod CompiledFacts
 pub mod ArnFacts
 pub mod FormFacts

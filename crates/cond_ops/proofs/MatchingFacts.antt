@@ -16,10 +16,10 @@ module _ {X : Type 0} (P : X → Type 0) where
   pub any_here : (x : X) (xs : List X) → P x → Any P (x ∷ xs)
   any_here x xs h = (0, x, omega arith, refl, h)
 
-  any_there : (x : X) (xs : List X) → Any P xs → Any P (x ∷ xs)
+  pub any_there : (x : X) (xs : List X) → Any P xs → Any P (x ∷ xs)
   any_there x xs (k, y, lt, at, h) = (suc k, y, omega arith, at, h)
 
-  any_of : (x : X) (xs : List X) → Any P (x ∷ xs) → P x ⊎ Any P xs
+  pub any_of : (x : X) (xs : List X) → Any P (x ∷ xs) → P x ⊎ Any P xs
   any_of x xs (zero, y, lt, at, h) = inl (subst P (sym at) h)
   any_of x xs (suc k, y, lt, at, h) = inr (k, y, omega arith, at, h)
 

@@ -70,30 +70,6 @@ one_moment text x y (inr (inr here)) (inl there) = absurd (time_and_seconds text
 one_moment text x y (inr (inr here)) (inr (inl there)) = absurd (day_and_seconds text y x there here)
 one_moment text x y (inr (inr here)) (inr (inr there)) = both_seconds text x y here there
 
--- what a form whose numbers are one reads of two texts is compared as the relation of the texts says
-module _ (Reads : List ℕ → ℤ → Type 0) (one : (text : List ℕ) (x y : ℤ) → Reads text x → Reads text y → x ≡ y) (C : ℤ → ℤ → Type 0) (a b : List ℕ) where
-  to_relation : (l r : Option ℤ) → MatchOption l ((z : ℤ) → ¬ (Reads a z)) (Reads a) → MatchOption r ((z : ℤ) → ¬ (Reads b z)) (Reads b)
-      → (x y : ℤ) → l ≡ Some x → r ≡ Some y → Reads a x × Reads b y
-  to_relation (Some v) (Some w) read_a read_b x y at bt =
-      let here : v ≡ x = cc in let there : w ≡ y = cc in (subst (Reads a) here read_a, subst (Reads b) there read_b)
-  to_relation None r read_a read_b x y at bt = cc
-  to_relation (Some v) None read_a read_b x y at bt = cc
-
-  from_relation : (l r : Option ℤ) → MatchOption l ((z : ℤ) → ¬ (Reads a z)) (Reads a) → MatchOption r ((z : ℤ) → ¬ (Reads b z)) (Reads b)
-      → (x y : ℤ) → Reads a x → Reads b y → (l ≡ Some x) × (r ≡ Some y)
-  from_relation (Some v) (Some w) read_a read_b x y at bt = (ap Some (one a v x read_a at), ap Some (one b w y read_b bt))
-  from_relation None r read_a read_b x y at bt = absurd (read_a x at)
-  from_relation (Some v) None read_a read_b x y at bt = absurd (read_b y bt)
-
-  pub compares_read : (l r : Option ℤ) → MatchOption l ((z : ℤ) → ¬ (Reads a z)) (Reads a) → MatchOption r ((z : ℤ) → ¬ (Reads b z)) (Reads b)
-      → (t : Bool) → IsTrue t ↔ ((x : ℤ) × (y : ℤ) × (l ≡ Some x) × (r ≡ Some y) × C x y) → IsTrue t ↔ ((x : ℤ) × (y : ℤ) × Reads a x × Reads b y × C x y)
-  compares_read l r read_a read_b t says = (
-    λ holds.
-        let (x, y, at, bt, so) = says.0 holds in
-        let both = to_relation l r read_a read_b x y at bt in (x, y, both.0, both.1, so),
-    λ (x, y, at, bt, so). let both = from_relation l r read_a read_b x y at bt in says.1 (x, y, both.0, both.1, so),
-  )
-
 -- a form is read of a text where some number is
 pub some_read : (Reads : ℤ → Type 0) (r : Option ℤ) → MatchOption r ((z : ℤ) → ¬ (Reads z)) Reads → (t : Bool) → t ≡ is_some r → IsTrue t ↔ ((z : ℤ) × Reads z)
 some_read Reads None none t e = (λ holds. cc, λ read. absurd (none read.0 read.1))

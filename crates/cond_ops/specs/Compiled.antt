@@ -1,21 +1,33 @@
--- Values of conditions that are read once.
-use Rattle.std.specs.Prelude.{◌≡◌, ⊤}
+-- Conditions whose texts stand in one piece of memory.
+use Rattle.std.specs.Prelude.{ℕ, List, [], ◌∷◌, length, take, drop}
 use Rattle.cond_ops.specs.declared.conditions.Condition.{Condition}
-use Rattle.cond_ops.specs.declared.operators.Kind.TheVariants as kind
-use Rattle.cond_ops.specs.declared.read_values.ReadValues.{ReadValues}
-use Rattle.cond_ops.specs.declared.read_values.ReadValues.TheVariants.{Written, Patterns, Numbers, Dates, Truths, Arns}
-use Rattle.cond_ops.specs.Arn.{IsCutInto}
-use Rattle.cond_ops.specs.Moment.{IsMoment}
-use Rattle.cond_ops.specs.Number.{IsNumber}
-use Rattle.cond_ops.specs.Operator.{kind_of}
-use Rattle.cond_ops.specs.Reading.{AreRead}
-use Rattle.cond_ops.specs.Value.{IsTruth}
+use Rattle.cond_ops.specs.declared.heads.ConditionHead.{ConditionHead}
 
--- the values of a condition, read as its operator compares them
-abbrev pub AreValuesOf : Condition → ReadValues → Type 0
-AreValuesOf condition Written = ⊤
-AreValuesOf condition (Patterns patterns) = (kind_of condition.operator ≡ kind.Pattern) × (patterns.items ≡ condition.values)
-AreValuesOf condition (Numbers order numbers) = (kind_of condition.operator ≡ kind.Number order) × AreRead IsNumber condition.values numbers.items
-AreValuesOf condition (Dates order moments) = (kind_of condition.operator ≡ kind.Date order) × AreRead IsMoment condition.values moments.items
-AreValuesOf condition (Truths truths) = (kind_of condition.operator ≡ kind.Truth) × AreRead IsTruth condition.values truths.items
-AreValuesOf condition (Arns arns) = (kind_of condition.operator ≡ kind.Arn) × AreRead (IsCutInto 5) condition.values arns.items
+-- the texts of a condition: its key, and then its values
+abbrev pub texts_of : Condition → List (List ℕ)
+texts_of condition = condition.key ∷ condition.values
+
+-- what is kept of it beside them
+abbrev pub head_of : Condition → ConditionHead
+head_of condition = record {
+  operator = condition.operator;
+  qualifier = condition.qualifier;
+  if_exists = condition.if_exists;
+  count = length condition.values;
+}
+
+-- the condition of a head, a key and values
+abbrev pub condition_at : ConditionHead → List ℕ → List (List ℕ) → Condition
+condition_at head key values = record {
+  operator = head.operator;
+  qualifier = head.qualifier;
+  if_exists = head.if_exists;
+  key = key;
+  values = values;
+}
+
+-- the conditions of these heads, with their texts one behind another
+abbrev pub conditions_of : List ConditionHead → List (List ℕ) → List Condition
+conditions_of [] texts = []
+conditions_of (head ∷ heads) [] = []
+conditions_of (head ∷ heads) (key ∷ texts) = condition_at head key (take head.count texts) ∷ conditions_of heads (drop head.count texts)

@@ -7,8 +7,8 @@ pub mod Fields
 pub mod Value
 pub mod Relation
 pub mod Arn
-pub mod ArnPattern
 pub mod Reading
+pub mod Asked
 pub mod Compiled
 pub mod Holds
 pub mod Matching

@@ -1,14 +1,13 @@
 //! ARNs by their parts (IAM User Guide, "Amazon Resource Names").
 
-ghost use Rattle.std.specs.Prelude.{◌≡◌, ◌↔◌, ◌<◌, ℕ, List, IsTrue, IfOk, MatchOption};
+ghost use Rattle.std.specs.Prelude.{◌≡◌, ◌↔◌, ◌<◌, ℕ, List, IsTrue, MatchOption};
 ghost use Rattle.std.specs.List.{AllZip};
-ghost use Rattle.cond_ops.specs.Arn.{IsCutInto, parts_of};
+ghost use Rattle.cond_ops.specs.Arn.{IsCutInto, parts_of, read_parts_of};
 ghost use Rattle.cond_ops.specs.Relation.{IsLike};
 
 use crate::cuts::cut_at;
-use kms_names::{NoMemory, Pattern};
+use crate::read_texts::ReadText;
 use std::alloc::Global;
-use std::marker::Model;
 
 /// The parts of an ARN: what stands before each of its first five colons, and all that follows them.
 #[derive(Clone, Copy)]
@@ -40,97 +39,41 @@ pub fn read_arn(text: &str) -> Option<Arn<'_>>
     })
 }
 
-/// The parts of a pattern of ARNs, each a pattern. Contracts see it as the list of their texts.
+/// The parts of an ARN whose characters were read.
 #[derive(Drop)]
-pub struct ArnPattern {
-    front: FrontPattern,
-    back: BackPattern,
+pub struct ReadArn<'a> {
+    scheme: ReadText<'a>,
+    partition: ReadText<'a>,
+    service: ReadText<'a>,
+    region: ReadText<'a>,
+    account: ReadText<'a>,
+    resource: ReadText<'a>,
 }
 
-// The first three parts.
-#[derive(Drop)]
-struct FrontPattern {
-    scheme: Pattern,
-    partition: Pattern,
-    service: Pattern,
-}
-
-// The last three parts.
-#[derive(Drop)]
-struct BackPattern {
-    region: Pattern,
-    account: Pattern,
-    resource: Pattern,
-}
-
-impl Model for ArnPattern {
-    ghost use Rattle.std.specs.Prelude.{List, ℕ};
-
-    ghost Value = { List (List ℕ) };
-
-    ghost use Rattle.cond_ops.specs.ArnPattern.{patterns_of};
-
-    ghost view = { patterns_of };
-}
-
-impl ArnPattern {
-    /// The parts of a text as patterns, where it has five colons or more.
-    pub fn read(alloc: Global, text: &str) -> Result<Option<ArnPattern>, NoMemory>
-        ensures { IfOk result (λ read. MatchOption read ((parts : List (List ℕ)) → ¬ (IsCutInto 5 text.now parts)) (IsCutInto 5 text.now)) }
+impl<'a> ReadArn<'a> {
+    /// Those of an ARN.
+    pub fn of(alloc: Global, arn: &Arn<'a>) -> ReadArn<'a>
+        ensures { read_parts_of result ≡ parts_of arn.now }
     {
-        match read_arn(text) {
-            Some(arn) => Ok(Some(ArnPattern::of(alloc, arn)?)),
-            None => Ok(None),
+        ReadArn {
+            scheme: ReadText::of(alloc, arn.scheme),
+            partition: ReadText::of(alloc, arn.partition),
+            service: ReadText::of(alloc, arn.service),
+            region: ReadText::of(alloc, arn.region),
+            account: ReadText::of(alloc, arn.account),
+            resource: ReadText::of(alloc, arn.resource),
         }
     }
 
-    /// Each part as a pattern.
-    fn of(alloc: Global, arn: Arn<'_>) -> Result<ArnPattern, NoMemory>
-        ensures { IfOk result (λ pattern. pattern ≡ parts_of arn.entry) }
+    /// Whether each part matches the pattern of its place.
+    pub fn is_like(&self, pattern: &Arn<'_>) -> bool
+        ensures { IsTrue result ↔ AllZip IsLike (read_parts_of self.now) (parts_of pattern.now) }
     {
-        Ok(ArnPattern {
-            front: FrontPattern::of(alloc, arn)?,
-            back: BackPattern::of(alloc, arn)?,
-        })
-    }
-
-    /// Whether each part matches the part of its place.
-    pub fn matches(&self, arn: &Arn<'_>) -> bool
-        ensures { IsTrue result ↔ AllZip IsLike (parts_of arn.now) self.now }
-    {
-        self.front.scheme.matches(arn.scheme)
-            && self.front.partition.matches(arn.partition)
-            && self.front.service.matches(arn.service)
-            && self.back.region.matches(arn.region)
-            && self.back.account.matches(arn.account)
-            && self.back.resource.matches(arn.resource)
-    }
-}
-
-impl FrontPattern {
-    fn of(alloc: Global, arn: Arn<'_>) -> Result<FrontPattern, NoMemory>
-        ensures scheme { IfOk result (λ front. front.scheme ≡ arn.entry.scheme.now) }
-        ensures partition { IfOk result (λ front. front.partition ≡ arn.entry.partition.now) }
-        ensures service { IfOk result (λ front. front.service ≡ arn.entry.service.now) }
-    {
-        Ok(FrontPattern {
-            scheme: Pattern::new(alloc, arn.scheme)?,
-            partition: Pattern::new(alloc, arn.partition)?,
-            service: Pattern::new(alloc, arn.service)?,
-        })
-    }
-}
-
-impl BackPattern {
-    fn of(alloc: Global, arn: Arn<'_>) -> Result<BackPattern, NoMemory>
-        ensures region { IfOk result (λ back. back.region ≡ arn.entry.region.now) }
-        ensures account { IfOk result (λ back. back.account ≡ arn.entry.account.now) }
-        ensures resource { IfOk result (λ back. back.resource ≡ arn.entry.resource.now) }
-    {
-        Ok(BackPattern {
-            region: Pattern::new(alloc, arn.region)?,
-            account: Pattern::new(alloc, arn.account)?,
-            resource: Pattern::new(alloc, arn.resource)?,
-        })
+        self.scheme.is_like(pattern.scheme)
+            && self.partition.is_like(pattern.partition)
+            && self.service.is_like(pattern.service)
+            && self.region.is_like(pattern.region)
+            && self.account.is_like(pattern.account)
+            && self.resource.is_like(pattern.resource)
     }
 }

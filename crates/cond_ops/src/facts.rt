@@ -1,6 +1,7 @@
 //! Facts of a request.
 
 use kms_names::{Action, NoMemory, Principal, Text, TextList};
+use std::alloc::Global;
 use std::marker::Model;
 
 /// A condition key of a request with its values.
@@ -56,6 +57,11 @@ impl FactList {
         ensures { result.now ≡ self.now }
     {
         self.items.as_slice()
+    }
+
+    /// The memory that the list is kept in.
+    pub(crate) fn alloc(&self) -> Global {
+        *self.items.allocator()
     }
 
     /// A copy that equals its source.

@@ -2,23 +2,27 @@
 #![tactic(auto)]
 
 mod arns;
+mod asked;
+mod colons;
 mod compiled;
 mod conditions;
 mod cuts;
 mod evaluation;
 mod facts;
+mod forms;
+mod heads;
 mod laws;
 mod moments;
 mod numbers;
 mod operators;
-mod patterns;
 mod qualified;
+mod read_texts;
 mod read_values;
 mod threads;
 mod truths;
 mod values;
 
-pub use compiled::CompiledCondition;
+pub use compiled::CompiledConditions;
 pub use conditions::{Condition, ConditionList};
 pub use evaluation::holds;
 pub use facts::{Fact, FactList, RequestFacts};

@@ -1,6 +1,6 @@
 //! What threads may share.
 
-use crate::compiled::CompiledCondition;
+use crate::compiled::CompiledConditions;
 use crate::conditions::ConditionList;
 use crate::facts::RequestFacts;
 
@@ -9,6 +9,6 @@ fn crosses_threads<T: Send + Sync>() {}
 /// Conditions, as read and as compiled, and the facts of a request may be sent to threads and shared by them. Nothing is done.
 pub fn conditions_cross_threads() {
     crosses_threads::<ConditionList>();
-    crosses_threads::<CompiledCondition>();
+    crosses_threads::<CompiledConditions>();
     crosses_threads::<RequestFacts>()
 }

@@ -1,13 +1,13 @@
 //! The forms of values, and how they are compared.
 
-ghost use Rattle.std.specs.Prelude.{◌≡◌, ◌↔◌, ℤ, IsTrue};
-ghost use Rattle.cond_ops.specs.Relation.{Compares, RelatesAs};
+ghost use Rattle.std.specs.Prelude.{◌≡◌, ◌↔◌, IsTrue};
+ghost use Rattle.cond_ops.specs.Relation.{Compares};
 ghost use Rattle.cond_ops.specs.Value.{IsValue};
 
+use crate::colons::has_colons;
 use crate::moments::read_moment;
 use crate::numbers::read_number;
 use crate::operators::{Kind, Operator, Order};
-use crate::patterns::{has_colons, is_like, parts_are_like};
 use crate::truths::read_truth;
 
 /// How many colons an ARN has at least.
@@ -42,34 +42,5 @@ impl Order {
             Order::Greater => left > right,
             Order::GreaterOrEqual => left >= right,
         }
-    }
-
-    /// Whether both numbers are there, and the left one is so to the right one.
-    fn compares_read(self, left: Option<i64>, right: Option<i64>) -> bool
-        ensures { IsTrue result ↔ ((x : ℤ) × (y : ℤ) × (left ≡ Some x) × (right ≡ Some y) × Compares self x y) }
-    {
-        match (left, right) {
-            (Some(left), Some(right)) => self.compares(left, right),
-            _ => false,
-        }
-    }
-}
-
-/// Whether a request's value stands in the relation to a policy's.
-pub fn relates(kind: Kind, request: &str, policy: &str) -> bool
-    ensures { IsTrue result ↔ RelatesAs kind request.now policy.now }
-{
-    match kind {
-        Kind::Text => request == policy,
-        Kind::TextIgnoringCase => request.eq_ignore_ascii_case(policy),
-        Kind::Pattern => is_like(request, policy),
-        Kind::Number(order) => order.compares_read(read_number(request), read_number(policy)),
-        Kind::Date(order) => order.compares_read(read_moment(request), read_moment(policy)),
-        Kind::Truth => match (read_truth(request), read_truth(policy)) {
-            (Some(left), Some(right)) => left == right,
-            _ => false,
-        },
-        Kind::Arn => parts_are_like(request, policy, ARN_COLONS),
-        Kind::Absence => false,
     }
 }

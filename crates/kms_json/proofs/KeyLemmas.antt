@@ -1,34 +1,15 @@
--- The members of a key's description, put in one after another.
-use Rattle.std.proofs.Common.{◌≡◌, ℕ, List, codes, Bool, false, Option, Some, None, refl, ap, ◌∙◌}
+-- The members of a key's description.
+use Rattle.std.proofs.Common.{◌≡◌, ℕ, List, codes, Bool, false, Option, ap, ◌∙◌}
 use Rattle.std.specs.Option.{option_map}
-use Rattle.serde_json.specs.Data.{Members, member, no_members, object, string, boolean, put}
+use Rattle.serde_json.specs.Data.{Members, member, no_members, object, boolean}
 use Rattle.hmac_keys.specs.Kind.{usage_text, spec_text}
 use Rattle.kms_json.specs.declared.replies.KeyMetadata.{KeyMetadata}
 use Rattle.kms_json.specs.States.{state_name, is_enabled, deletion_date}
-use Rattle.kms_json.specs.Objects.{with_text, with_any, put_any, number_data, one_text}
+use Rattle.kms_json.specs.Objects.{with_text, with_any, number_data, one_text}
 use Rattle.kms_json.specs.KeyReplies.{encryption_algorithm, mac_algorithm, described_as}
 
 module _ (account arn id description name usage spec : List ℕ) (created : ℕ) (enabled : Bool) where
-  abbrev pub puts : Option ℕ → Option (List ℕ) → Option (List ℕ) → Members
-  puts date encrypts makes =
-      put (codes "Origin") (string (codes "AWS_KMS"))
-      (put (codes "MultiRegion") (boolean false)
-      (put_any (codes "MacAlgorithms") (option_map one_text makes)
-      (put (codes "KeyUsage") (string usage)
-      (put (codes "KeyState") (string name)
-      (put (codes "KeySpec") (string spec)
-      (put (codes "KeyManager") (string (codes "CUSTOMER"))
-      (put (codes "KeyId") (string id)
-      (put_any (codes "EncryptionAlgorithms") (option_map one_text encrypts)
-      (put (codes "Enabled") (boolean enabled)
-      (put (codes "Description") (string description)
-      (put_any (codes "DeletionDate") (option_map number_data date)
-      (put (codes "CustomerMasterKeySpec") (string spec)
-      (put (codes "CreationDate") (number_data created)
-      (put (codes "Arn") (string arn)
-      (put (codes "AWSAccountId") (string account) no_members)))))))))))))))
-
-  abbrev in_order : Option ℕ → Option (List ℕ) → Option (List ℕ) → Members
+  abbrev pub in_order : Option ℕ → Option (List ℕ) → Option (List ℕ) → Members
   in_order date encrypts makes =
       with_text (codes "AWSAccountId") account
       (with_text (codes "Arn") arn
@@ -47,25 +28,14 @@ module _ (account arn id description name usage spec : List ℕ) (created : ℕ)
       (member (codes "MultiRegion") (boolean false)
       (with_text (codes "Origin") (codes "AWS_KMS") no_members)))))))))))))))
 
-  puts_in_order : (date : Option ℕ) (encrypts makes : Option (List ℕ)) → puts date encrypts makes ≡ in_order date encrypts makes
-  puts_in_order None None None = refl
-  puts_in_order None None (Some makes) = refl
-  puts_in_order None (Some encrypts) None = refl
-  puts_in_order None (Some encrypts) (Some makes) = refl
-  puts_in_order (Some date) None None = refl
-  puts_in_order (Some date) None (Some makes) = refl
-  puts_in_order (Some date) (Some encrypts) None = refl
-  puts_in_order (Some date) (Some encrypts) (Some makes) = refl
-
 -- they are those of the key
 pub described_is : (account arn id description name usage spec : List ℕ) (enabled : Bool) (date : Option ℕ) (encrypts makes : Option (List ℕ)) (key : KeyMetadata)
     → description ≡ key.description → name ≡ state_name key.state → enabled ≡ is_enabled key.state → date ≡ deletion_date key.state
     → usage ≡ usage_text key.kind → spec ≡ spec_text key.kind → encrypts ≡ encryption_algorithm key.kind → makes ≡ mac_algorithm key.kind
-    → object (puts account arn id description name usage spec key.created enabled date encrypts makes) ≡ described_as account arn key id
+    → object (in_order account arn id description name usage spec key.created enabled date encrypts makes) ≡ described_as account arn key id
 described_is account arn id description name usage spec enabled date encrypts makes key described named able dated used specified encrypting making =
     ap object
-    (puts_in_order account arn id description name usage spec key.created enabled date encrypts makes
-    ∙ ap (λ (t : List ℕ). in_order account arn id t name usage spec key.created enabled date encrypts makes) described
+    (ap (λ (t : List ℕ). in_order account arn id t name usage spec key.created enabled date encrypts makes) described
     ∙ ap (λ (t : List ℕ). in_order account arn id key.description t usage spec key.created enabled date encrypts makes) named
     ∙ ap (λ (t : List ℕ). in_order account arn id key.description (state_name key.state) t spec key.created enabled date encrypts makes) used
     ∙ ap (λ (t : List ℕ). in_order account arn id key.description (state_name key.state) (usage_text key.kind) t key.created enabled date encrypts makes) specified

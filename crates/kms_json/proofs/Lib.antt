@@ -2,8 +2,9 @@ mod BodyLemmas
 mod ContextLemmas
 mod ValueLemmas
 mod BuildLemmas
+mod TextLemmas
+mod ContextTexts
 mod KeyLemmas
-mod FloatLemmas
 mod ReadFacts
 mod KindFacts
 pub mod Sizes

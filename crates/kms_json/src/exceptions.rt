@@ -1,19 +1,29 @@
 // Exceptions' names, texts and bodies.
 ghost use Rattle.std.specs.Prelude.{◌≡◌, IfOk, string_bytes};
-ghost use Rattle.serde_json.specs.View.{view};
 ghost use Rattle.kms_json.specs.declared.refusals.Refusal.TheVariants as refusal;
 ghost use Rattle.kms_json.specs.Exceptions.{exception, exception_text, fixed_text, flaw_text, missing_word, limit_word, unsupported_name, refusal_data};
+ghost use Rattle.kms_json.specs.Texts.{Writes};
 
+use crate::objects::{Item, Member, write_object};
 use crate::refusals::{Limit, Missing, PolicyFlaw, Refusal, Unsupported};
 use crate::states::KeyState;
+use crate::texts::JsonText;
 use kms_names::{Action, NoMemory, Principal, write_principal};
-use serde_json::{Value, json};
 use std::alloc::Global;
 
-fn exception_value(alloc: Global, name: &str, text: &str) -> Result<Value, NoMemory>
-    ensures { IfOk result (λ v. view v ≡ exception name.now text.now) }
+fn write_exception<'a>(
+    alloc: Global,
+    text: &mut JsonText,
+    name: &'a str,
+    message: &'a str,
+) -> Result<(), NoMemory>
+    ensures { Writes result text.old text.new (exception name.now message.now) }
 {
-    Ok(json!(in alloc; {"__type": name, "message": text})?)
+    let members = [
+        Member("__type", Item::Text(name)),
+        Member("message", Item::Text(message)),
+    ];
+    write_object(alloc, text, &members)
 }
 
 fn word_of_missing(what: Missing) -> &'static str
@@ -181,9 +191,9 @@ fn text_of(alloc: Global, refusal: &Refusal) -> Result<String, NoMemory>
 }
 
 /// The body of a reply that refuses.
-pub fn refusal_value(alloc: Global, refusal: &Refusal) -> Result<Value, NoMemory>
-    ensures { IfOk result (λ v. view v ≡ refusal_data refusal.now) }
+pub fn write_refusal(alloc: Global, text: &mut JsonText, refusal: &Refusal) -> Result<(), NoMemory>
+    ensures { Writes result text.old text.new (refusal_data refusal.now) }
 {
-    let text = text_of(alloc, refusal)?;
-    exception_value(alloc, refusal.exception(), text.as_str())
+    let message = text_of(alloc, refusal)?;
+    write_exception(alloc, text, refusal.exception(), message.as_str())
 }

@@ -18,6 +18,7 @@ mod replies;
 mod states;
 mod tables;
 mod tags;
+mod texts;
 mod threads;
 mod writing;
 

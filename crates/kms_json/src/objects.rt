@@ -1,12 +1,12 @@
-// JSON objects from lists of members.
-ghost use Rattle.std.specs.Prelude.{◌≡◌, IfOk, OnOk, option_map, string_bytes};
-ghost use Rattle.serde_json.specs.Data.{Data, object, no_members};
-ghost use Rattle.serde_json.specs.View.{view, members_view};
-ghost use Rattle.kms_json.specs.Objects.{base64_text, item_data, put_any, put_members, list_data};
+// JSON objects and lists, written member by member and row by row.
+ghost use Rattle.std.specs.Prelude.{◌≡◌, ◌++◌, IfOk, OnOk, Some, option_map, string_bytes};
+ghost use Rattle.serde_json.specs.Data.{Data, object, no_members, string, boolean};
+ghost use Rattle.kms_json.specs.Objects.{base64_text, item_data, number_data, one_text, list_data};
+ghost use Rattle.kms_json.specs.Texts.{member_tokens, listed, Adds, Writes};
 
+use crate::texts::JsonText;
 use base64::engine::general_purpose::STANDARD;
-use kms_names::{Bytes, NoMemory};
-use serde_json::{Map, Value};
+use kms_names::{Bytes, NoMemory, Text};
 use std::alloc::Global;
 
 /// What a member of a reply holds.
@@ -31,65 +31,111 @@ pub enum Item<'a> {
 #[derive(Clone, Copy)]
 pub struct Member<'a>(pub &'static str, pub Item<'a>);
 
+/// Writes a member that is a text.
+pub fn write_text(text: &mut JsonText, name: &str, value: &str) -> Result<(), NoMemory>
+    ensures { OnOk result (text.new ≡ text.old ++ member_tokens name.now (Some (string value.now))) }
+{
+    text.key(name)?;
+    text.string(value)
+}
+
+/// Writes a member that is a text, if there is one.
+pub fn write_text_if(text: &mut JsonText, name: &str, value: &Option<Text>) -> Result<(), NoMemory>
+    ensures { OnOk result (text.new ≡ text.old ++ member_tokens name.now (option_map string value.now)) }
+{
+    match value {
+        Some(value) => write_text(text, name, value.as_str()),
+        None => Ok(()),
+    }
+}
+
 // Bytes as the text of their base64.
 #[tactic(auto, unfolding(crate::specs::Objects::base64_text))]
-fn base64(alloc: Global, bytes: &Bytes) -> Result<String, NoMemory>
-    ensures { IfOk result (λ t. string_bytes t ≡ base64_text bytes.now) }
-{
-    Ok(STANDARD.encode(alloc, bytes.as_slice())?)
-}
-
-fn item_value(alloc: Global, item: Item<'_>) -> Result<Option<Value>, NoMemory>
-    ensures { IfOk result (λ value. option_map (λ v. view v) value ≡ item_data item.entry) }
-{
-    let value = match item {
-        Item::Text(text) => Some(Value::try_from_str(alloc, text)?),
-        Item::Base64(bytes) => Some(Value::String(base64(alloc, bytes)?)),
-        Item::Number(number) => Some(Value::from(number)),
-        Item::Flag(flag) => Some(Value::Bool(flag)),
-        Item::OneText(text) => Some(serde_json::json!(in alloc; [text])?),
-        Item::OneTextIfAny(Some(text)) => Some(serde_json::json!(in alloc; [text])?),
-        Item::OneTextIfAny(None) => None,
-        Item::NumberIfAny(number) => number.map(Value::from),
-        Item::TextIfAny(Some(text)) => Some(Value::try_from_str(alloc, text)?),
-        Item::TextIfAny(None) => None,
-    };
-    Ok(value)
-}
-
-/// These members, but for those that hold nothing. The last of equal names stays.
-pub fn members_of(alloc: Global, members: &[Member<'_>]) -> Result<Map<String, Value>, NoMemory>
-    ensures { IfOk result (λ map. members_view map.entries ≡ put_members members.now no_members) }
-{
-    let mut map = Map::new(alloc);
-    for member in members {
-        if let Some(value) = item_value(alloc, member.1)? {
-            serde_json::put(&mut map, alloc, member.0, value)?;
-        }
-    }
-    Ok(map)
-}
-
-/// The object of these members, but for those that hold nothing. The last of equal names stays.
-pub fn object_of(alloc: Global, members: &[Member<'_>]) -> Result<Value, NoMemory>
-    ensures { IfOk result (λ v. view v ≡ object (put_members members.now no_members)) }
-{
-    Ok(Value::Object(members_of(alloc, members)?))
-}
-
-/// Puts a value into members, if there is one.
-pub fn put_if_any(
+fn write_base64(
     alloc: Global,
-    members: &mut Map<String, Value>,
+    text: &mut JsonText,
     name: &str,
-    value: Option<Value>,
+    bytes: &Bytes,
 ) -> Result<(), NoMemory>
-    ensures { OnOk result (members_view members.new.entries ≡ put_any name.now (option_map (λ v. view v) value) (members_view members.old.entries)) }
+    ensures { OnOk result (text.new ≡ text.old ++ member_tokens name.now (Some (string (base64_text bytes.now)))) }
 {
-    if let Some(value) = value {
-        serde_json::put(members, alloc, name, value)?;
+    let encoded = STANDARD.encode(alloc, bytes.as_slice())?;
+    write_text(text, name, encoded.as_str())
+}
+
+fn write_number(text: &mut JsonText, name: &str, number: u64) -> Result<(), NoMemory>
+    ensures { OnOk result (text.new ≡ text.old ++ member_tokens name.now (Some (number_data number))) }
+{
+    text.key(name)?;
+    text.number(number)
+}
+
+/// Writes a member that is `true` or `false`.
+pub fn write_flag(text: &mut JsonText, name: &str, flag: bool) -> Result<(), NoMemory>
+    ensures { OnOk result (text.new ≡ text.old ++ member_tokens name.now (Some (boolean flag))) }
+{
+    text.key(name)?;
+    text.boolean(flag)
+}
+
+// A list of one text.
+fn write_one_text(text: &mut JsonText, name: &str, value: &str) -> Result<(), NoMemory>
+    ensures { OnOk result (text.new ≡ text.old ++ member_tokens name.now (Some (one_text value.now))) }
+{
+    text.key(name)?;
+    text.begin_array()?;
+    text.string(value)?;
+    text.end_array()
+}
+
+fn write_item(
+    alloc: Global,
+    text: &mut JsonText,
+    name: &str,
+    item: Item<'_>,
+) -> Result<(), NoMemory>
+    ensures { OnOk result (text.new ≡ text.old ++ member_tokens name.now (item_data item.entry)) }
+{
+    match item {
+        Item::Text(value) => write_text(text, name, value),
+        Item::Base64(bytes) => write_base64(alloc, text, name, bytes),
+        Item::Number(number) => write_number(text, name, number),
+        Item::Flag(flag) => write_flag(text, name, flag),
+        Item::OneText(value) => write_one_text(text, name, value),
+        Item::OneTextIfAny(Some(value)) => write_one_text(text, name, value),
+        Item::OneTextIfAny(None) => Ok(()),
+        Item::NumberIfAny(Some(number)) => write_number(text, name, number),
+        Item::NumberIfAny(None) => Ok(()),
+        Item::TextIfAny(Some(value)) => write_text(text, name, value),
+        Item::TextIfAny(None) => Ok(()),
+    }
+}
+
+/// Writes these members in their order, but for those that hold nothing.
+pub fn write_members(
+    alloc: Global,
+    text: &mut JsonText,
+    members: &[Member<'_>],
+) -> Result<(), NoMemory>
+    ensures { Adds result text.old text.new (listed members.now) }
+{
+    for member in members {
+        write_item(alloc, text, member.0, member.1)?;
     }
     Ok(())
+}
+
+/// Writes the object of these members in their order, but for those that hold nothing.
+pub fn write_object(
+    alloc: Global,
+    text: &mut JsonText,
+    members: &[Member<'_>],
+) -> Result<(), NoMemory>
+    ensures { Writes result text.old text.new (object (listed members.now no_members)) }
+{
+    text.begin_object()?;
+    write_members(alloc, text, members)?;
+    text.end_object()
 }
 
 /// How the rows of a list are written.
@@ -99,18 +145,30 @@ pub trait RowWriter {
 
     ghost row_data: { Self → Self.Row → Data };
 
-    /// The value of a row.
-    fn row(&self, alloc: Global, row: &Self::Row) -> Result<Value, NoMemory>
-        ensures { IfOk result (λ v. view v ≡ row_data self.now row.now) };
+    /// Writes a row. What the room holds is of no account.
+    fn write_row(
+        &self,
+        alloc: Global,
+        room: &mut String,
+        text: &mut JsonText,
+        row: &Self::Row,
+    ) -> Result<(), NoMemory>
+        ensures { Writes result text.old text.new (row_data self.now row.now) };
 }
 
-/// The list of these rows.
-pub fn list_of<R: RowWriter>(alloc: Global, writer: &R, rows: &[R::Row]) -> Result<Value, NoMemory>
-    ensures { IfOk result (λ v. view v ≡ list_data (R.row_data writer.now) rows.now) }
+/// Writes the list of these rows.
+pub fn write_list<R: RowWriter>(
+    alloc: Global,
+    text: &mut JsonText,
+    writer: &R,
+    rows: &[R::Row],
+) -> Result<(), NoMemory>
+    ensures { Writes result text.old text.new (list_data (R.row_data writer.now) rows.now) }
 {
-    let mut values = Vec::new(alloc);
+    let mut room = String::new(alloc);
+    text.begin_array()?;
     for row in rows {
-        values.push(writer.row(alloc, row)?)?;
+        writer.write_row(alloc, &mut room, text, row)?;
     }
-    Ok(Value::Array(values))
+    text.end_array()
 }

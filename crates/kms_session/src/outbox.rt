@@ -7,8 +7,8 @@ use http_front::write_head;
 use kms_io::Link;
 use session_front::send;
 
-// How many bytes a reply has at most that is written at once.
-const ROOM: usize = 8192;
+/// How many bytes a reply has at most that is written at once.
+pub const ROOM: usize = 8192;
 
 // Puts both texts at the front of the room, where they fit, and answers how many bytes they have.
 fn join(room: &mut [u8], first: &[u8], second: &[u8]) -> Option<usize>
@@ -23,9 +23,10 @@ fn join(room: &mut [u8], first: &[u8], second: &[u8]) -> Option<usize>
     Some(size + second.len())
 }
 
-/// Writes a reply, its head and then its body, at once where both fit a room, or answers false where the
-/// link failed. It takes no memory.
+/// Writes a reply, its head and then its body, at once where both fit the room, or answers false where the
+/// link failed. What the room held doesn't count. It takes no memory.
 pub fn send_reply<L: Link>(
+    room: &mut [u8],
     link: &mut L,
     status: u16,
     body: &[u8],
@@ -39,8 +40,7 @@ pub fn send_reply<L: Link>(
         (SendsReplyShort (record { status = status; body = body.now }) second front closes (L.shows link.old) (L.shows link.new)) }
 {
     let head = write_head(status, body.len(), second, front, closes);
-    let mut room = [0; ROOM];
-    if let Some(size) = join(&mut room, head.bytes(), body) {
+    if let Some(size) = join(room, head.bytes(), body) {
         return send(link, &room[..size]);
     }
     if !send(link, head.bytes()) {

@@ -15,7 +15,7 @@ ghost use Rattle.session_front.specs.Session.{outside};
 ghost use Rattle.kms_session.specs.Session.{Outside, Responds, RespondsShort, Serves, EndsBy, GoesOn};
 ghost use Rattle.kms_session.specs.Complete.{TellsTaken, IsOneEnd, IsComplete};
 
-use crate::outbox::send_reply;
+use crate::outbox::{ROOM, send_reply};
 use http_front::{Cut, HttpFault};
 use kms_io::{Clock, Gate, Link, Point};
 use kms_json::{Ask, Refusal, Reply};
@@ -39,6 +39,14 @@ struct Facilities<'a, W: Wait, R: Realm, G: Gate> {
     service: &'a Service<R>,
     trust: &'a Trust,
     gate: &'a G,
+}
+
+// What a session keeps from one message to the next. No answer depends on it.
+#[derive(Drop)]
+struct Kept {
+    key: KeptKey,
+    // Where a reply is put together.
+    room: [u8; ROOM],
 }
 
 // The region of the service whose pass this is.
@@ -155,7 +163,7 @@ fn answer_message<W: Wait, R: Realm, G: Gate>(
 // Answers a message on the link. It is false where the link failed.
 fn respond<W: Wait, R: Realm, L: Link, G: Gate>(
     host: &Facilities<'_, W, R, G>,
-    kept: &mut KeptKey,
+    kept: &mut Kept,
     pass: &mut Pass<R>,
     link: &mut L,
     cut: &Cut,
@@ -170,14 +178,23 @@ fn respond<W: Wait, R: Realm, L: Link, G: Gate>(
         (Responds pass.old (plan_of host.now.trust.now pass.old.facts.region (whole m) now) now closes (L.shows link.old) (L.shows link.new) pass.new)
         (RespondsShort pass.old (plan_of host.now.trust.now pass.old.facts.region (whole m) now) now closes (L.shows link.old) (L.shows link.new) pass.new) }
 {
-    match answer_message(host, kept, pass, cut, buffer, now) {
-        Ok(a) => send_reply(link, a.status, a.body.as_slice(), now, a.front, closes),
+    match answer_message(host, &mut kept.key, pass, cut, buffer, now) {
+        Ok(a) => send_reply(
+            &mut kept.room,
+            link,
+            a.status,
+            a.body.as_slice(),
+            now,
+            a.front,
+            closes,
+        ),
         Err(NoMemory) => send(link, FIVE_HUNDRED),
     }
 }
 
 // Answers bytes that are refused. It is false where the link failed.
 fn respond_fault<R: Realm, L: Link>(
+    room: &mut [u8],
     pass: &Pass<R>,
     link: &mut L,
     fault: HttpFault,
@@ -189,6 +206,7 @@ fn respond_fault<R: Realm, L: Link>(
         (RespondsShort pass.now (answered (fault_answer fault)) now true (L.shows link.old) (L.shows link.new) pass.now) }
 {
     send_reply(
+        room,
         link,
         fault_status(fault),
         fault_body(fault),
@@ -201,7 +219,7 @@ fn respond_fault<R: Realm, L: Link>(
 // Awaits one message and answers it.
 fn serve_one<W: Wait, R: Realm, L: Link, C: Clock, G: Gate>(
     host: &Facilities<'_, W, R, G>,
-    kept: &mut KeptKey,
+    kept: &mut Kept,
     pass: &mut Pass<R>,
     clock: &mut C,
     link: &mut L,
@@ -231,7 +249,7 @@ fn serve_one<W: Wait, R: Realm, L: Link, C: Clock, G: Gate>(
         }
         Awaited::Bad(fault) => {
             let now = clock.now();
-            if respond_fault(pass, link, fault, now) {
+            if respond_fault(&mut kept.room, pass, link, fault, now) {
                 host.gate.at(Point::AfterReply);
                 Some(SessionEnd::Closed)
             } else {
@@ -269,7 +287,10 @@ fn serve_messages<W: Wait, R: Realm, L: Link, C: Clock, G: Gate>(
         trust,
         gate,
     };
-    let mut kept = KeptKey::new();
+    let mut kept = Kept {
+        key: KeptKey::new(),
+        room: [0; ROOM],
+    };
     for number in 0..MESSAGES {
         match serve_one(&host, &mut kept, pass, clock, link, &mut inbox, number) {
             Some(end) => return end,

@@ -2,7 +2,7 @@
 
 use crate::cases::Case;
 use cond_ops::{
-    CompiledCondition, Condition, ConditionList, Fact, FactList, Operator, QualifiedOperator,
+    CompiledConditions, Condition, ConditionList, Fact, FactList, Operator, QualifiedOperator,
     Qualifier, RequestFacts, holds, is_value, read_operator, write_operator,
 };
 use kms_names::{AccountNumber, Action, Principal, Text, TextList};
@@ -131,24 +131,24 @@ pub fn read_facts(case: &mut Case<'_>) -> FactList {
 /// Whether a condition holds of a request of the account's root with some facts.
 fn asked(case: &mut Case<'_>) {
     if let Some(account) = case.found(AccountNumber::read("111122223333")) {
-        let condition = read_condition(case);
+        let conditions = [read_condition(case)];
         let request = RequestFacts {
             caller: Principal::Root(account),
             action: Action::Decrypt,
             resource: case.owned("arn:aws:kms:eu-west-1:111122223333:key/1"),
             facts: read_facts(case),
         };
-        put_holds(case, &condition, &request);
+        put_holds(case, &conditions, &request);
     }
 }
 
 /// Whether a condition holds, or that it is answered otherwise where it is made ready to be asked.
-fn put_holds(case: &mut Case<'_>, condition: &Condition, request: &RequestFacts) {
-    let answer = holds(condition, request);
-    let made = CompiledCondition::new(case.alloc, condition);
+fn put_holds(case: &mut Case<'_>, conditions: &[Condition; 1], request: &RequestFacts) {
+    let answer = holds(&conditions[0], request);
+    let made = CompiledConditions::new(case.alloc, conditions);
     if let Some(compiled) = case.kept(made) {
         let copied = case.kept_or(compiled.copy(), compiled);
-        if copied.holds(request) == answer {
+        if copied.all_hold(request) == answer {
             case.put_truth(answer);
         } else {
             case.put("otherwise compiled");

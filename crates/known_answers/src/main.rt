@@ -19,6 +19,7 @@ mod laws;
 mod macs;
 mod maps;
 mod names;
+mod packed;
 mod parts;
 mod policies;
 mod report;

@@ -3,7 +3,7 @@
 use crate::cases::Case;
 use crate::{
     blobs, ciphers, conditions, configs, contexts, draws, globs, groups, keys, macs, maps, names,
-    policies, signatures, tags, verdicts,
+    packed, policies, signatures, tags, verdicts,
 };
 
 /// A part, with a file of cases.
@@ -19,6 +19,7 @@ pub enum Part {
     Blobs,
     Names,
     Globs,
+    PackedTexts,
     Conditions,
     Policies,
     Verdicts,
@@ -32,7 +33,7 @@ pub enum Part {
 
 impl Part {
     /// All parts.
-    pub const ALL: [Part; 19] = [
+    pub const ALL: [Part; 20] = [
         Part::Aes256,
         Part::Ghash,
         Part::Gcm,
@@ -43,6 +44,7 @@ impl Part {
         Part::Blobs,
         Part::Names,
         Part::Globs,
+        Part::PackedTexts,
         Part::Conditions,
         Part::Policies,
         Part::Verdicts,
@@ -67,6 +69,7 @@ impl Part {
             Part::Blobs => "blobs.txt",
             Part::Names => "names.txt",
             Part::Globs => "globs.txt",
+            Part::PackedTexts => "packed_texts.txt",
             Part::Conditions => "conditions.txt",
             Part::Policies => "policies.txt",
             Part::Verdicts => "verdicts.txt",
@@ -92,6 +95,7 @@ impl Part {
             Part::Blobs => blobs::blobs(case),
             Part::Names => names::names(case),
             Part::Globs => globs::globs(case),
+            Part::PackedTexts => packed::packed(case),
             Part::Conditions => conditions::conditions(case),
             Part::Policies => policies::policies(case),
             Part::Verdicts => verdicts::verdicts(case),

@@ -4,6 +4,7 @@
 pub fn all() {
     kms_names::names_cross_threads();
     glob_patterns::patterns_cross_threads();
+    packed_texts::packed_texts_cross_threads();
     enc_context::contexts_cross_threads();
     cond_ops::conditions_cross_threads();
     policy_doc::policies_cross_threads();

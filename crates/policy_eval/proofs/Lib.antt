@@ -1,7 +1,8 @@
 pub mod AnyFacts
 pub mod MatchingFacts
+pub mod HitFacts
+pub mod AllowedFacts
 pub mod GroupFacts
-pub mod OrderFacts
 pub mod AskingFacts
 pub mod VerdictFacts
 pub mod CeilingFacts

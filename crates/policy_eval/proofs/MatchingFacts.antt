@@ -1,8 +1,9 @@
 -- An element and its Not-form.
-use Rattle.std.proofs.Common.{◌≡◌, ◌≢◌, ℕ, Bool, true, false, not, ◌==◌, List, [], ◌∷◌, length, get_or, refl, subst, sym, ◌∙◌, ap, arith}
+use Rattle.std.proofs.Common.{◌≡◌, ◌≢◌, inl, inr, ℕ, Bool, true, false, not, ◌==◌, List, [], ◌∷◌, length, get_or, refl, subst, sym, ◌∙◌, ap, arith}
 use Rattle.std.specs.Prelude.{◌↔◌, IsTrue, Any}
 use Rattle.std.proofs.lemmas.Bool.{eqb-true}
 use Rattle.std.proofs.lemmas.List.{get_or_default}
+use Rattle.kms_names.proofs.Decisions.{any_of, any_there}
 use Rattle.policy_eval.specs.Matching.{ElementMatches}
 
 module _ (P : List ℕ → Type 0) (texts : List (List ℕ)) where
@@ -29,3 +30,10 @@ pub some_given : {X : Type 0} (xs slice : List X) (b : Bool) → slice ≡ xs �
 some_given xs slice b same is some none =
     let empty : (length slice == 0) ≡ true = ap (λ s. length s == 0) (same ∙ none) in
     let bad : true ≡ false = sym empty ∙ (sym is ∙ some) in cc
+
+-- the first of those that are left doesn't
+pub none_first : {X : Type 0} (P : X → Type 0) (all left rest : List X) (x : X) → left ≡ x ∷ rest → ¬ (P x) → Any P all ↔ Any P left → Any P all ↔ Any P rest
+none_first P all left rest x is not says = (
+  λ any. elim (any_of P x rest (subst (Any P) is (says.0 any))) [ inl h ↦ absurd (not h) | inr later ↦ later ],
+  λ later. says.1 (subst (Any P) (sym is) (any_there P x rest later)),
+)

@@ -9,12 +9,12 @@ use Rattle.policy_eval.specs.Matching.{ActionMatches}
 abbrev pub statement_of : Inside → Statement
 statement_of s = record {
   allow = s.allow;
-  principals = s.principals;
-  actions = s.actions;
-  not_actions = s.not_actions;
-  resources = s.resources.items;
-  not_resources = s.not_resources.items;
-  conditions = s.conditions.items;
+  principals = s.names.items;
+  actions = s.texts.actions;
+  not_actions = s.texts.not_actions;
+  resources = s.texts.resources;
+  not_resources = s.texts.not_resources;
+  conditions = s.conditions;
 }
 
 -- the set has the actions that its Action or NotAction matches

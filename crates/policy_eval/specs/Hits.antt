@@ -1,5 +1,5 @@
--- What a statement of a known effect is asked.
-use Rattle.std.specs.Prelude.{◌⊎◌, List, Any, ⊤}
+-- What a statement is asked.
+use Rattle.std.specs.Prelude.{◌≡◌, ◌⊎◌, Bool, List, Any, ⊤}
 use Rattle.cond_ops.specs.declared.facts.RequestFacts.{RequestFacts}
 use Rattle.kms_names.specs.declared.principals.Principal.{Principal}
 use Rattle.policy_doc.specs.declared.policies.Named.{Named}
@@ -16,9 +16,9 @@ IsNamed Caller names caller = NamesCaller names caller
 IsNamed Account names caller = NamesAccount names caller
 IsNamed CallerOrAccount names caller = NamesCaller names caller ⊎ NamesAccount names caller
 
--- the statement matches, and names whom is asked for
-unfoldable pub Hits : Naming → Statement → RequestFacts → Type 0
-Hits naming s request = Matches s request × IsNamed naming s.principals request.caller
+-- the statement is an Allow statement or a Deny statement, as is asked for, matches, and names whom is asked for
+unfoldable pub Hits : Bool → Naming → Statement → RequestFacts → Type 0
+Hits allow naming s request = (s.allow ≡ allow) × Matches s request × IsNamed naming s.principals request.caller
 
-abbrev pub SomeHits : Naming → List Statement → RequestFacts → Type 0
-SomeHits naming statements request = Any (λ s. Hits naming s request) statements
+abbrev pub SomeHits : Bool → Naming → List Statement → RequestFacts → Type 0
+SomeHits allow naming statements request = Any (λ s. Hits allow naming s request) statements

@@ -46,7 +46,7 @@ fn is_under(documents: &[Compiled], facts: &RequestFacts) -> bool
 /// Whether the documents that bound an account let a request pass: where there are none, or where no Deny statement of
 /// theirs matches and an Allow statement of one does (AWS Organizations User Guide, "SCP evaluation"). They bound every
 /// principal of the account, and allow nothing by themselves. Whom a statement names doesn't count, nor of which kind a
-/// document is. No memory is taken.
+/// document is. Memory is taken as by `Compiled::verdict`.
 pub fn ceiling(documents: &[Compiled], facts: &RequestFacts) -> CeilingVerdict
     ensures passes { (result ≡ Passes) ↔ Under documents.now facts.now }
     ensures one { result ≡ ceiling_of documents.now facts.now }

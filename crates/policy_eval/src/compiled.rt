@@ -1,11 +1,13 @@
 //! Policies made ready to be asked.
 
 ghost use Rattle.std.specs.Prelude.{◌≡◌, ◌↔◌, IsTrue, Any, IfOk, false, codes};
-ghost use Rattle.policy_eval.specs.Verdict.{IsAllow, IsDeny, SomeDenies, SomeAllowsCaller, SomeAllowsAccount, IsKeyVerdict, IsIdentityVerdict, IsVerdict, SomeHasConditions, HasConditions, GoesByQuestion};
+ghost use Rattle.policy_eval.specs.Verdict.{IsAllow, IsDeny, SomeDenies, IsKeyVerdict, IsIdentityVerdict, IsVerdict, SomeHasConditions, HasConditions, GoesByQuestion};
+ghost use Rattle.policy_eval.specs.Allowed.{AllowsWhom};
 ghost use Rattle.policy_eval.specs.Laws.{HasOneVerdictByQuestion};
 ghost use Rattle.policy_eval.specs.VerdictOf.{verdict_of};
 ghost use Rattle.policy_eval.specs.Asking.{AsksFor, GoesWithout, HasOneVerdictWithout};
 
+use crate::allowed::Allowed;
 use crate::asking::some_ask_for;
 use crate::groups::Group;
 use crate::naming::Naming;
@@ -20,9 +22,7 @@ use std::marker::Model;
 /// A policy made ready to be asked about many requests. Contracts see it as the policy that it was made of.
 pub struct Compiled {
     kind: PolicyKind,
-    effects: Vec<bool>,
-    denies: Group,
-    allows: Group,
+    statements: Group,
     asks_aliases: bool,
 }
 
@@ -31,9 +31,7 @@ impl Drop for Compiled {
     fn drop(self) {
         let Compiled {
             kind: _,
-            effects: _,
-            denies: _,
-            allows: _,
+            statements: _,
             asks_aliases: _,
         } = self;
     }
@@ -42,14 +40,13 @@ impl Drop for Compiled {
 impl Model for Compiled {
     ghost use Rattle.policy_doc.specs.declared.policies.Policy.{Policy as PolicyValue};
     ghost use Rattle.std.specs.Prelude.{◌↔◌, IsTrue, codes};
-    ghost use Rattle.policy_eval.specs.Order.{in_order, AreApart};
     ghost use Rattle.policy_eval.specs.Asking.{SomeAskFor};
 
     ghost Value = { PolicyValue };
 
-    ghost view = { λ c. record { kind = c.kind; statements = in_order c.effects.items c.denies c.allows } };
+    ghost view = { λ c. record { kind = c.kind; statements = c.statements } };
 
-    ghost invariant = { λ c. AreApart (in_order c.effects.items c.denies c.allows) c.denies c.allows × (IsTrue c.asks_aliases ↔ SomeAskFor (codes "kms:ResourceAliases") (in_order c.effects.items c.denies c.allows)) };
+    ghost invariant = { λ c. IsTrue c.asks_aliases ↔ SomeAskFor (codes "kms:ResourceAliases") c.statements };
 }
 
 impl Compiled {
@@ -57,57 +54,43 @@ impl Compiled {
     pub fn new(alloc: Global, policy: &Policy) -> Result<Compiled, NoMemory>
         ensures { IfOk result (λ compiled. compiled ≡ policy.now) }
     {
-        let mut effects = Vec::new(alloc);
-        let mut denies = Group::new(alloc);
-        let mut allows = Group::new(alloc);
-        for statement in policy.statements.as_slice() {
-            let compiled = CompiledStatement::new(alloc, statement)?;
-            effects.push(statement.allow)?;
-            if statement.allow {
-                allows.push(compiled)?;
-            } else {
-                denies.push(compiled)?;
-            }
+        let statements = policy.statements.as_slice();
+        let mut group = Group::with_capacity(alloc, statements.len())?;
+        for statement in statements {
+            group.push(CompiledStatement::new(alloc, statement)?)?;
         }
         Ok(Compiled {
             kind: policy.kind,
-            effects,
-            denies,
-            allows,
-            asks_aliases: some_ask_for(policy.statements.as_slice(), "kms:ResourceAliases"),
+            statements: group,
+            asks_aliases: some_ask_for(statements, "kms:ResourceAliases"),
         })
     }
 
     fn some_denies(&self, facts: &RequestFacts) -> bool
         ensures { IsTrue result ↔ SomeDenies self.now.statements facts.now }
     {
-        self.denies.hits(Naming::CallerOrAccount, facts)
+        self.statements.hits(false, Naming::CallerOrAccount, facts)
     }
 
-    fn some_allows_caller(&self, facts: &RequestFacts) -> bool
-        ensures { IsTrue result ↔ SomeAllowsCaller self.now.statements facts.now }
+    // Whom the Allow statements allow. Each is asked once.
+    fn allowed(&self, facts: &RequestFacts) -> Allowed
+        ensures { AllowsWhom self.now.statements facts.now result }
     {
-        self.allows.hits(Naming::Caller, facts)
-    }
-
-    fn some_allows_account(&self, facts: &RequestFacts) -> bool
-        ensures { IsTrue result ↔ SomeAllowsAccount self.now.statements facts.now }
-    {
-        self.allows.hits(Naming::Account, facts)
+        self.statements.allowed(facts)
     }
 
     // Whether some Deny statement matches, whomever it names.
     pub(crate) fn some_denies_anyone(&self, facts: &RequestFacts) -> bool
         ensures { IsTrue result ↔ Any (λ s. IsDeny s facts.now) self.now.statements }
     {
-        self.denies.hits(Naming::Anyone, facts)
+        self.statements.hits(false, Naming::Anyone, facts)
     }
 
     // Whether some Allow statement matches, whomever it names.
     pub(crate) fn some_allows_anyone(&self, facts: &RequestFacts) -> bool
         ensures { IsTrue result ↔ Any (λ s. IsAllow s facts.now) self.now.statements }
     {
-        self.allows.hits(Naming::Anyone, facts)
+        self.statements.hits(true, Naming::Anyone, facts)
     }
 
     /// The verdict of a key policy.
@@ -115,13 +98,12 @@ impl Compiled {
         ensures { IsKeyVerdict self.now.statements facts.now result }
     {
         if self.some_denies(facts) {
-            Verdict::Deny
-        } else if self.some_allows_caller(facts) {
-            Verdict::Direct
-        } else if self.some_allows_account(facts) {
-            Verdict::ByRoot
-        } else {
-            Verdict::Silent
+            return Verdict::Deny;
+        }
+        match self.allowed(facts) {
+            Allowed::TheCaller => Verdict::Direct,
+            Allowed::TheAccount => Verdict::ByRoot,
+            Allowed::Nobody => Verdict::Silent,
         }
     }
 
@@ -153,7 +135,9 @@ impl Compiled {
     /// caller or everyone gives `Direct`; else one that matches and names the root of the caller's account gives
     /// `ByRoot`; else the verdict is `Silent`. In an identity policy, whose statements are about the caller, a Deny
     /// statement that matches gives `Deny`; else an Allow statement that matches gives `Direct`; else it is `Silent`.
-    /// A statement matches where its action part, its resource part and all its conditions do. No memory is taken.
+    /// A statement matches where its action part, its resource part and all its conditions do. Each Allow statement is
+    /// asked once. Texts of the request that are matched with patterns and aren't ASCII are read into memory for the time
+    /// of the match; where there is none, the answer is the same.
     /// (IAM User Guide, "Policy evaluation logic"; AWS KMS Developer Guide, "Key policies".)
     pub fn verdict(&self, facts: &RequestFacts) -> Verdict
         ensures is { IsVerdict self.now facts.now result }
@@ -165,7 +149,7 @@ impl Compiled {
     fn has_conditions(&self) -> bool
         ensures { IsTrue result ↔ SomeHasConditions self.now.statements }
     {
-        self.denies.has_conditions() || self.allows.has_conditions()
+        self.statements.has_conditions()
     }
 
     /// Whether some statement has a condition. Where none has, requests with the same caller, action and resource
@@ -201,9 +185,7 @@ impl Compiled {
     {
         Ok(Compiled {
             kind: self.kind,
-            effects: self.effects.clone()?,
-            denies: self.denies.copy()?,
-            allows: self.allows.copy()?,
+            statements: self.statements.copy()?,
             asks_aliases: self.asks_aliases,
         })
     }

@@ -2,13 +2,17 @@
 //! policies").
 #![tactic(auto)]
 
+mod allowed;
 mod asking;
 mod ceilings;
 mod compiled;
+mod element_texts;
 mod elements;
 mod groups;
+mod kept_conditions;
 mod laws;
 mod masks;
+mod names;
 mod naming;
 mod statements;
 mod threads;

@@ -1,12 +1,11 @@
 //! Whom statements of key policies name.
 
-ghost use Rattle.std.specs.Prelude.{◌≡◌, ◌⊎◌, ◌↔◌, IsTrue};
-ghost use Rattle.policy_doc.specs.declared.policies.Named.TheVariants.{Everyone, One};
+ghost use Rattle.std.specs.Prelude.{◌↔◌, IsTrue};
 ghost use Rattle.policy_eval.specs.Hits.{IsNamed};
-ghost use Rattle.policy_eval.specs.Naming.{root_of, NamesCaller, NamesAccount};
+ghost use Rattle.policy_eval.specs.Naming.{NamesCaller, NamesAccount};
 
+use crate::names::KeptName;
 use kms_names::Principal;
-use policy_doc::Named;
 
 /// Whom a statement is to name.
 #[derive(Clone, Copy)]
@@ -21,44 +20,24 @@ pub enum Naming {
     CallerOrAccount,
 }
 
-/// Whether everyone is named, or this caller.
-fn is_caller(named: &Named, caller: &Principal) -> bool
-    ensures { IsTrue result ↔ ((named.now ≡ Everyone) ⊎ (named.now ≡ One caller.now)) }
-{
-    match named {
-        Named::Everyone => true,
-        Named::One(principal) => principal == caller,
-    }
-}
-
-/// Whether the root of the caller's account is named.
-fn is_account(named: &Named, caller: &Principal) -> bool
-    ensures { IsTrue result ↔ (named.now ≡ One (root_of caller.now)) }
-{
-    match named {
-        Named::One(Principal::Root(account)) => *account == caller.account(),
-        _ => false,
-    }
-}
-
 /// Whether some of these is everyone or the caller.
-fn names_caller(names: &[Named], caller: &Principal) -> bool
+fn names_caller(names: &[KeptName], caller: &Principal) -> bool
     ensures { IsTrue result ↔ NamesCaller names.now caller.now }
 {
-    names.iter().any(|named| is_caller(named, caller))
+    names.iter().any(|named| named.is_caller(caller))
 }
 
 /// Whether some of these is the root of the caller's account.
-fn names_account(names: &[Named], caller: &Principal) -> bool
+fn names_account(names: &[KeptName], caller: &Principal) -> bool
     ensures { IsTrue result ↔ NamesAccount names.now caller.now }
 {
-    names.iter().any(|named| is_account(named, caller))
+    names.iter().any(|named| named.is_account(caller))
 }
 
 impl Naming {
     /// Whether some of these is whom is asked for.
     #[tactic(auto, unfolding(crate::specs::Hits::IsNamed))]
-    pub fn is_named(self, names: &[Named], caller: &Principal) -> bool
+    pub fn is_named(self, names: &[KeptName], caller: &Principal) -> bool
         ensures { IsTrue result ↔ IsNamed self names.now caller.now }
     {
         match self {

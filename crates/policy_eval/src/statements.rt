@@ -1,27 +1,24 @@
 //! Statements made ready to be asked.
 
-use crate::elements::{
-    all_hold, copy_conditions, copy_patterns, matched_actions, read_conditions, read_patterns,
-    resource_matches,
-};
+use crate::element_texts::ElementTexts;
+use crate::elements::matched_actions;
+use crate::kept_conditions::KeptConditions;
+use crate::names::{KeptName, copy_names, keep_names};
 use crate::naming::Naming;
-use cond_ops::{CompiledCondition, RequestFacts};
-use kms_names::{ActionSet, NoMemory, Pattern, TextList};
-use policy_doc::{NamedList, Statement};
+use cond_ops::RequestFacts;
+use kms_names::{ActionSet, NoMemory, Principal};
+use policy_doc::Statement;
 use std::alloc::Global;
 use std::marker::Model;
 
-/// A statement made ready to be asked. Contracts see it as the statement that it was made of.
+/// A statement made ready to be asked, in little memory. Contracts see it as the statement that it was made of.
 #[derive(Drop)]
 pub struct CompiledStatement {
     allow: bool,
-    principals: NamedList,
-    actions: TextList,
-    not_actions: TextList,
+    names: Vec<KeptName>,
     matched: ActionSet,
-    resources: Vec<Pattern>,
-    not_resources: Vec<Pattern>,
-    conditions: Vec<CompiledCondition>,
+    texts: ElementTexts,
+    conditions: KeptConditions,
 }
 
 impl Model for CompiledStatement {
@@ -40,8 +37,8 @@ impl CompiledStatement {
     ghost use Rattle.std.specs.Prelude.{◌≡◌, ◌≢◌, ◌↔◌, [], IfOk, IsTrue};
     ghost use Rattle.kms_names.specs.ActionSet.{has_action};
     ghost use Rattle.kms_names.specs.declared.actions.Action.{Action as ActionValue};
-    ghost use Rattle.policy_eval.specs.Hits.{Hits};
-    ghost use Rattle.policy_eval.specs.Matching.{ActionMatches};
+    ghost use Rattle.policy_eval.specs.Hits.{Hits, IsNamed};
+    ghost use Rattle.policy_eval.specs.Matching.{ActionMatches, ResourceMatches};
 
     /// A statement made ready to be asked.
     pub fn new(alloc: Global, statement: &Statement) -> Result<CompiledStatement, NoMemory>
@@ -49,13 +46,10 @@ impl CompiledStatement {
     {
         Ok(CompiledStatement {
             allow: statement.allow,
-            principals: statement.principals.copy()?,
-            actions: statement.actions.copy()?,
-            not_actions: statement.not_actions.copy()?,
+            names: keep_names(alloc, statement.principals.as_slice())?,
             matched: matched_actions(statement),
-            resources: read_patterns(alloc, statement.resources.as_slice())?,
-            not_resources: read_patterns(alloc, statement.not_resources.as_slice())?,
-            conditions: read_conditions(alloc, statement.conditions.as_slice())?,
+            texts: ElementTexts::new(alloc, statement)?,
+            conditions: KeptConditions::new(alloc, statement.conditions.as_slice())?,
         })
     }
 
@@ -66,20 +60,40 @@ impl CompiledStatement {
         self.matched
     }
 
-    /// Whether it matches a request and names whom is asked for. It is asked for the action first, then whom it
-    /// names, then the resource, and its conditions last.
-    #[tactic(auto, unfolding(crate::specs::Hits::Hits, crate::specs::Matching::Matches, crate::specs::Matching::ResourceMatches, crate::specs::Matching::ConditionsHold))]
-    pub fn hits(&self, naming: Naming, facts: &RequestFacts) -> bool
-        ensures { IsTrue result ↔ Hits naming self.now facts.now }
+    /// Whether it names whom is asked for.
+    pub fn names(&self, naming: Naming, caller: &Principal) -> bool
+        ensures { IsTrue result ↔ IsNamed naming self.now.principals caller.now }
     {
-        self.matched.contains(facts.action)
-            && naming.is_named(self.principals.as_slice(), &facts.caller)
-            && resource_matches(
-                self.resources.as_slice(),
-                self.not_resources.as_slice(),
-                facts.resource.as_str(),
-            )
-            && all_hold(self.conditions.as_slice(), facts)
+        naming.is_named(self.names.as_slice(), caller)
+    }
+
+    // Whether its resource part matches.
+    #[tactic(auto, unfolding(crate::specs::Matching::ResourceMatches))]
+    fn resource_matches(&self, resource: &str) -> bool
+        ensures { IsTrue result ↔ ResourceMatches self.now resource.now }
+    {
+        self.texts
+            .resource_matches(*self.names.allocator(), resource)
+    }
+
+    /// Whether its effect is Allow.
+    pub fn is_allow(&self) -> bool
+        ensures { result ≡ self.now.allow }
+    {
+        self.allow
+    }
+
+    /// Whether it has an effect, matches a request and names whom is asked for. It is asked for the effect and the action
+    /// first, then whom it names, then the resource, and its conditions last.
+    #[tactic(auto, unfolding(crate::specs::Hits::Hits, crate::specs::Matching::Matches, crate::specs::Matching::ConditionsHold))]
+    pub fn hits(&self, allow: bool, naming: Naming, facts: &RequestFacts) -> bool
+        ensures { IsTrue result ↔ Hits allow naming self.now facts.now }
+    {
+        self.allow == allow
+            && self.matched.contains(facts.action)
+            && naming.is_named(self.names.as_slice(), &facts.caller)
+            && self.resource_matches(facts.resource.as_str())
+            && self.conditions.all_hold(facts)
     }
 
     /// Whether it has a condition.
@@ -93,16 +107,13 @@ impl CompiledStatement {
     pub fn copy(&self) -> Result<CompiledStatement, NoMemory>
         ensures { IfOk result (λ compiled. compiled ≡ self.now) }
     {
-        let alloc = *self.resources.allocator();
+        let alloc = *self.names.allocator();
         Ok(CompiledStatement {
             allow: self.allow,
-            principals: self.principals.copy()?,
-            actions: self.actions.copy()?,
-            not_actions: self.not_actions.copy()?,
+            names: copy_names(alloc, self.names.as_slice())?,
             matched: self.matched,
-            resources: copy_patterns(alloc, self.resources.as_slice())?,
-            not_resources: copy_patterns(alloc, self.not_resources.as_slice())?,
-            conditions: copy_conditions(alloc, self.conditions.as_slice())?,
+            texts: self.texts.copy()?,
+            conditions: self.conditions.copy(alloc)?,
         })
     }
 }

@@ -1,22 +1,24 @@
 // What the operations on aliases answer.
-ghost use Rattle.std.specs.Prelude.{◌≡◌, IfOk};
-ghost use Rattle.serde_json.specs.View.{view};
+ghost use Rattle.std.specs.Prelude.{◌≡◌, OnOk, string_bytes};
+ghost use Rattle.kms_names.specs.Reference.{alias_arn_text};
 ghost use Rattle.kms_json.specs.AliasReplies as answered;
+ghost use Rattle.kms_json.specs.Texts.{Writes};
 
-use super::pages::page;
-use crate::objects::{Item, Member, RowWriter, list_of, object_of};
+use super::pages::write_page;
+use crate::objects::{Item, Member, RowWriter, write_object};
 use crate::replies::{AliasPage, ListedAlias};
-use kms_names::{AccountNumber, NoMemory, alias_arn, key_text};
-use serde_json::Value;
+use crate::texts::JsonText;
+use kms_names::{AccountNumber, AliasName, NoMemory, key_text_into};
 use std::alloc::Global;
 
 fn alias_by<'a>(
     alloc: Global,
+    text: &mut JsonText,
     arn: &'a str,
     alias: &'a ListedAlias,
     key: &'a str,
-) -> Result<Value, NoMemory>
-    ensures { IfOk result (λ v. view v ≡ answered.alias_by arn.now alias.now key.now) }
+) -> Result<(), NoMemory>
+    ensures { Writes result text.old text.new (answered.alias_by arn.now alias.now key.now) }
 {
     let members = [
         Member("AliasArn", Item::Text(arn)),
@@ -25,7 +27,26 @@ fn alias_by<'a>(
         Member("LastUpdatedDate", Item::Number(alias.updated)),
         Member("TargetKeyId", Item::Text(key)),
     ];
-    object_of(alloc, &members)
+    write_object(alloc, text, &members)
+}
+
+// Puts the ARN of an alias into a room, in place of what it holds.
+fn put_alias_arn(
+    room: &mut String,
+    account: &AccountNumber,
+    region: &str,
+    name: &AliasName,
+) -> Result<(), NoMemory>
+    ensures { OnOk result (string_bytes room.new ≡ alias_arn_text account.now region.now name.now) }
+{
+    room.clear();
+    room.push_str("arn:aws:kms:")?;
+    room.push_str(region)?;
+    room.push_str(":")?;
+    room.push_str(account.as_str())?;
+    room.push_str(":")?;
+    room.push_str(name.as_str())?;
+    Ok(())
 }
 
 // The aliases of an account and a region.
@@ -40,21 +61,34 @@ impl RowWriter for AliasRows<'_> {
 
     ghost row_data = { λ rows alias. answered.alias_data rows.account.now rows.region.now alias };
 
-    fn row(&self, alloc: Global, alias: &ListedAlias) -> Result<Value, NoMemory> {
-        let arn = alias_arn(alloc, self.account, self.region, &alias.name)?;
-        let key = key_text(alloc, &alias.key)?;
-        alias_by(alloc, arn.as_str(), alias, key.as_str())
+    fn write_row(
+        &self,
+        alloc: Global,
+        room: &mut String,
+        text: &mut JsonText,
+        alias: &ListedAlias,
+    ) -> Result<(), NoMemory> {
+        put_alias_arn(room, self.account, self.region, &alias.name)?;
+        let mut digits = [0; 36];
+        let key = key_text_into(&alias.key, &mut digits);
+        alias_by(alloc, text, room.as_str(), alias, key)
     }
 }
 
 /// What ListAliases answers.
-pub fn alias_list(alloc: Global, list: &AliasPage) -> Result<Value, NoMemory>
-    ensures { IfOk result (λ v. view v ≡ answered.aliases_data list.now) }
+pub fn alias_list(alloc: Global, text: &mut JsonText, list: &AliasPage) -> Result<(), NoMemory>
+    ensures { Writes result text.old text.new (answered.aliases_data list.now) }
 {
     let writer = AliasRows {
         account: &list.account,
         region: list.region.as_str(),
     };
-    let rows = list_of(alloc, &writer, list.aliases.as_slice())?;
-    page(alloc, "Aliases", rows, list.next)
+    write_page(
+        alloc,
+        text,
+        "Aliases",
+        &writer,
+        list.aliases.as_slice(),
+        list.next,
+    )
 }

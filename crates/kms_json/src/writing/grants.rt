@@ -1,82 +1,91 @@
 // What the operations on grants answer.
-ghost use Rattle.std.specs.Prelude.{◌≡◌, filter, IfOk, option_map};
-ghost use Rattle.serde_json.specs.Data.{string};
-ghost use Rattle.serde_json.specs.View.{view};
+ghost use Rattle.std.specs.Prelude.{◌≡◌, ◌++◌, OnOk, IfOk, codes, filter, option_map, string_bytes, Some};
+ghost use Rattle.serde_json.specs.Data.{string, object, member, no_members};
 ghost use Rattle.kms_names.specs.GrantOps.{contains, grant_op_name};
 ghost use Rattle.kms_names.specs.Principal.{principal_text};
+ghost use Rattle.kms_names.specs.declared.principals.Principal.TheVariants.{Root};
 ghost use Rattle.kms_json.specs.Objects.{list_data};
 ghost use Rattle.kms_json.specs.GrantReplies as answered;
+ghost use Rattle.kms_json.specs.Texts.{Writes, member_tokens};
 
-use super::pages::page;
+use super::keys::put_key_arn;
+use super::pages::write_page;
 use crate::asks::GrantConstraint;
-use crate::objects::{Item, Member, RowWriter, list_of, members_of, object_of, put_if_any};
+use crate::objects::{Item, Member, RowWriter, write_members, write_object, write_text_if};
 use crate::replies::{GrantPage, ListedGrant};
+use crate::texts::JsonText;
 use enc_context::Context;
 use kms_names::{
-    AccountNumber, GrantId, GrantOp, GrantOps, NoMemory, Principal, Text, grant_text, key_arn,
-    write_principal,
+    AccountNumber, GrantId, GrantOp, GrantOps, NoMemory, Principal, Text, grant_text_into,
+    key_text_into, write_principal,
 };
-use serde_json::{Map, Value, json};
 use std::alloc::Global;
 
 /// What CreateGrant answers.
-pub fn granted(alloc: Global, grant: &GrantId) -> Result<Value, NoMemory>
-    ensures { IfOk result (λ v. view v ≡ answered.granted_data grant.now) }
+pub fn granted(alloc: Global, text: &mut JsonText, grant: &GrantId) -> Result<(), NoMemory>
+    ensures { Writes result text.old text.new (answered.granted_data grant.now) }
 {
-    let id = grant_text(alloc, grant)?;
+    let mut digits = [0; 64];
+    let id = grant_text_into(grant, &mut digits);
     let members = [
-        Member("GrantId", Item::Text(id.as_str())),
-        Member("GrantToken", Item::Text(id.as_str())),
+        Member("GrantId", Item::Text(id)),
+        Member("GrantToken", Item::Text(id)),
     ];
-    object_of(alloc, &members)
+    write_object(alloc, text, &members)
 }
 
-fn context(alloc: Global, context: &Context) -> Result<Value, NoMemory>
-    ensures { IfOk result (λ v. view v ≡ answered.context_data context.now) }
+fn context(text: &mut JsonText, context: &Context) -> Result<(), NoMemory>
+    ensures { Writes result text.old text.new (answered.context_data context.now) }
 {
-    let mut members = Map::new(alloc);
+    text.begin_object()?;
     for pair in context.pairs() {
-        let value = Value::try_from_str(alloc, pair.value.as_str())?;
-        serde_json::put(&mut members, alloc, pair.key.as_str(), value)?;
+        text.key(pair.key.as_str())?;
+        text.string(pair.value.as_str())?;
     }
-    Ok(Value::Object(members))
+    text.end_object()
+}
+
+// What a grant asks of contexts by pairs, under the name of how it does.
+fn constraint_by(text: &mut JsonText, name: &str, pairs: &Context) -> Result<(), NoMemory>
+    ensures { OnOk result (text.new ≡ text.old ++ member_tokens (codes "Constraints") (Some (object (member name.now (answered.context_data pairs.now) no_members)))) }
+{
+    text.key("Constraints")?;
+    text.begin_object()?;
+    text.key(name)?;
+    context(text, pairs)?;
+    text.end_object()
 }
 
 // What a grant asks of contexts, if it is anything.
-fn constraint(alloc: Global, constraint: &GrantConstraint) -> Result<Option<Value>, NoMemory>
-    ensures { IfOk result (λ value. option_map (λ v. view v) value ≡ answered.constraint_data constraint.now) }
+fn constraint(text: &mut JsonText, constraint: &GrantConstraint) -> Result<(), NoMemory>
+    ensures { OnOk result (text.new ≡ text.old ++ member_tokens (codes "Constraints") (answered.constraint_data constraint.now)) }
 {
     match constraint {
-        GrantConstraint::Free => Ok(None),
-        GrantConstraint::Equals(pairs) => {
-            let pairs = context(alloc, pairs)?;
-            Ok(Some(json!(in alloc; {"EncryptionContextEquals": pairs})?))
-        }
-        GrantConstraint::Subset(pairs) => {
-            let pairs = context(alloc, pairs)?;
-            Ok(Some(json!(in alloc; {"EncryptionContextSubset": pairs})?))
-        }
+        GrantConstraint::Free => Ok(()),
+        GrantConstraint::Equals(pairs) => constraint_by(text, "EncryptionContextEquals", pairs),
+        GrantConstraint::Subset(pairs) => constraint_by(text, "EncryptionContextSubset", pairs),
     }
 }
 
 // The names of those of these operations that are in a set.
-fn names_in(alloc: Global, operations: &GrantOps, all: &[GrantOp]) -> Result<Value, NoMemory>
-    ensures { IfOk result (λ v. view v ≡ list_data (λ op. string (grant_op_name op)) (filter (contains operations.now) all.now)) }
+fn names_in(text: &mut JsonText, operations: &GrantOps, all: &[GrantOp]) -> Result<(), NoMemory>
+    ensures { Writes result text.old text.new (list_data (λ op. string (grant_op_name op)) (filter (contains operations.now) all.now)) }
 {
-    let mut names = Vec::new(alloc);
+    text.begin_array()?;
     for op in all {
         if operations.contains(*op) {
-            names.push(Value::try_from_str(alloc, op.name())?)?;
+            text.string(op.name())?;
         }
     }
-    Ok(Value::Array(names))
+    text.end_array()
 }
 
 // The names of a set of operations, in their order.
-fn operations(alloc: Global, operations: &GrantOps) -> Result<Value, NoMemory>
-    ensures { IfOk result (λ v. view v ≡ answered.operations_data operations.now) }
+fn operations(text: &mut JsonText, operations: &GrantOps) -> Result<(), NoMemory>
+    ensures { OnOk result (text.new ≡ text.old ++ member_tokens (codes "Operations") (Some (answered.operations_data operations.now))) }
 {
-    names_in(alloc, operations, &GrantOp::ALL)
+    text.key("Operations")?;
+    names_in(text, operations, &GrantOp::ALL)
 }
 
 // The ARN of a principal, if there is one.
@@ -98,66 +107,57 @@ fn str_if(text: &Option<Text>) -> Option<&str>
     }
 }
 
-// The texts of a grant.
-#[derive(Clone, Copy)]
-struct GrantTexts<'a> {
-    id: &'a str,
-    grantee: &'a str,
-    issuer: &'a str,
-    arn: &'a str,
-    name: Option<&'a str>,
-    retiring: Option<&'a str>,
+// The ARNs of those whom a grant names.
+#[derive(Drop)]
+struct GrantParties {
+    grantee: Text,
+    issuer: Text,
+    retiring: Option<Text>,
 }
 
-impl<'a> GrantTexts<'a> {
+impl GrantParties {
+    // Those of a grant that the root of an account issued.
     fn new(
-        id: &'a Text,
-        grantee: &'a Text,
-        issuer: &'a Text,
-        arn: &'a Text,
-        name: &'a Option<Text>,
-        retiring: &'a Option<Text>,
-    ) -> GrantTexts<'a>
-        ensures id { result.id.now ≡ id.now }
-        ensures grantee { result.grantee.now ≡ grantee.now }
-        ensures issuer { result.issuer.now ≡ issuer.now }
-        ensures arn { result.arn.now ≡ arn.now }
-        ensures name { option_map (λ t. t.now) result.name ≡ name.now }
-        ensures retiring { option_map (λ t. t.now) result.retiring ≡ retiring.now }
+        alloc: Global,
+        account: &AccountNumber,
+        grant: &ListedGrant,
+    ) -> Result<GrantParties, NoMemory>
+        ensures grantee { IfOk result (λ parties. parties.grantee ≡ principal_text grant.now.grantee) }
+        ensures issuer { IfOk result (λ parties. parties.issuer ≡ principal_text (Root account.now)) }
+        ensures retiring { IfOk result (λ parties. parties.retiring ≡ option_map principal_text grant.now.retiring) }
     {
-        GrantTexts {
-            id: id.as_str(),
-            grantee: grantee.as_str(),
-            issuer: issuer.as_str(),
-            arn: arn.as_str(),
-            name: str_if(name),
-            retiring: str_if(retiring),
-        }
+        Ok(GrantParties {
+            grantee: write_principal(alloc, &grant.grantee)?,
+            issuer: write_principal(alloc, &Principal::Root(*account))?,
+            retiring: principal_if(alloc, &grant.retiring)?,
+        })
     }
 }
 
-fn grant_by(
+fn grant_by<'a>(
     alloc: Global,
-    created: u64,
-    texts: GrantTexts<'_>,
-    constraint: Option<Value>,
-    operations: Value,
-) -> Result<Value, NoMemory>
-    ensures { IfOk result (λ v. view v ≡ answered.grant_by created texts.entry.id.now texts.entry.grantee.now texts.entry.issuer.now texts.entry.arn.now (option_map (λ t. t.now) texts.entry.name) (option_map (λ t. t.now) texts.entry.retiring) (option_map (λ v. view v) constraint) (view operations)) }
+    text: &mut JsonText,
+    grant: &'a ListedGrant,
+    id: &'a str,
+    arn: &'a str,
+    parties: &'a GrantParties,
+) -> Result<(), NoMemory>
+    ensures { Writes result text.old text.new (answered.grant_by grant.now.created id.now parties.now.grantee parties.now.issuer arn.now grant.now.name parties.now.retiring (answered.constraint_data grant.now.constraint) (answered.operations_data grant.now.operations)) }
 {
     let members = [
-        Member("CreationDate", Item::Number(created)),
-        Member("GrantId", Item::Text(texts.id)),
-        Member("GranteePrincipal", Item::Text(texts.grantee)),
-        Member("IssuingAccount", Item::Text(texts.issuer)),
-        Member("KeyId", Item::Text(texts.arn)),
-        Member("Name", Item::TextIfAny(texts.name)),
-        Member("RetiringPrincipal", Item::TextIfAny(texts.retiring)),
+        Member("CreationDate", Item::Number(grant.created)),
+        Member("GrantId", Item::Text(id)),
+        Member("GranteePrincipal", Item::Text(parties.grantee.as_str())),
+        Member("IssuingAccount", Item::Text(parties.issuer.as_str())),
+        Member("KeyId", Item::Text(arn)),
+        Member("Name", Item::TextIfAny(str_if(&grant.name))),
     ];
-    let mut members = members_of(alloc, &members)?;
-    put_if_any(alloc, &mut members, "Constraints", constraint)?;
-    serde_json::put(&mut members, alloc, "Operations", operations)?;
-    Ok(Value::Object(members))
+    text.begin_object()?;
+    constraint(text, &grant.constraint)?;
+    write_members(alloc, text, &members)?;
+    operations(text, &grant.operations)?;
+    write_text_if(text, "RetiringPrincipal", &parties.retiring)?;
+    text.end_object()
 }
 
 // The grants of an account and a region.
@@ -172,27 +172,37 @@ impl RowWriter for GrantRows<'_> {
 
     ghost row_data = { λ rows grant. answered.grant_data rows.account.now rows.region.now grant };
 
-    fn row(&self, alloc: Global, grant: &ListedGrant) -> Result<Value, NoMemory> {
-        let id = grant_text(alloc, &grant.grant)?;
-        let grantee = write_principal(alloc, &grant.grantee)?;
-        let issuer = write_principal(alloc, &Principal::Root(*self.account))?;
-        let arn = key_arn(alloc, self.account, self.region, &grant.key)?;
-        let retiring = principal_if(alloc, &grant.retiring)?;
-        let texts = GrantTexts::new(&id, &grantee, &issuer, &arn, &grant.name, &retiring);
-        let constraint = constraint(alloc, &grant.constraint)?;
-        let operations = operations(alloc, &grant.operations)?;
-        grant_by(alloc, grant.created, texts, constraint, operations)
+    fn write_row(
+        &self,
+        alloc: Global,
+        room: &mut String,
+        text: &mut JsonText,
+        grant: &ListedGrant,
+    ) -> Result<(), NoMemory> {
+        let mut key_digits = [0; 36];
+        let key = key_text_into(&grant.key, &mut key_digits);
+        put_key_arn(room, self.account, self.region, key)?;
+        let mut digits = [0; 64];
+        let id = grant_text_into(&grant.grant, &mut digits);
+        let parties = GrantParties::new(alloc, self.account, grant)?;
+        grant_by(alloc, text, grant, id, room.as_str(), &parties)
     }
 }
 
 /// What ListGrants and ListRetirableGrants answer.
-pub fn grant_list(alloc: Global, list: &GrantPage) -> Result<Value, NoMemory>
-    ensures { IfOk result (λ v. view v ≡ answered.grants_data list.now) }
+pub fn grant_list(alloc: Global, text: &mut JsonText, list: &GrantPage) -> Result<(), NoMemory>
+    ensures { Writes result text.old text.new (answered.grants_data list.now) }
 {
     let writer = GrantRows {
         account: &list.account,
         region: list.region.as_str(),
     };
-    let rows = list_of(alloc, &writer, list.grants.as_slice())?;
-    page(alloc, "Grants", rows, list.next)
+    write_page(
+        alloc,
+        text,
+        "Grants",
+        &writer,
+        list.grants.as_slice(),
+        list.next,
+    )
 }

@@ -1,14 +1,14 @@
 // What the operations on keys answer.
-ghost use Rattle.std.specs.Prelude.{◌≡◌, IfOk, option_map};
-ghost use Rattle.serde_json.specs.View.{view};
+ghost use Rattle.std.specs.Prelude.{◌≡◌, ◌++◌, OnOk, codes, option_map, string_bytes};
 ghost use Rattle.kms_json.specs.KeyReplies as answered;
+ghost use Rattle.kms_json.specs.Texts.{Writes};
 
-use super::pages::page;
-use crate::objects::{Item, Member, RowWriter, list_of, object_of};
+use super::pages::write_page;
+use crate::objects::{Item, Member, RowWriter, write_object};
 use crate::replies::{HMAC_SHA_256, KeyMetadata, KeyPage, SYMMETRIC_DEFAULT};
+use crate::texts::JsonText;
 use hmac_keys::KeyKind;
-use kms_names::{AccountNumber, KeyId, NoMemory, key_arn, key_text};
-use serde_json::{Value, json};
+use kms_names::{AccountNumber, KeyId, NoMemory, key_arn, key_text_into};
 use std::alloc::Global;
 
 // The algorithm by which keys of a kind encrypt, where they do.
@@ -34,12 +34,13 @@ fn mac_algorithm(kind: KeyKind) -> Option<&'static str>
 // The members of a key's description.
 fn described<'a>(
     alloc: Global,
+    text: &mut JsonText,
     account: &'a str,
     arn: &'a str,
     key: &'a KeyMetadata,
     id: &'a str,
-) -> Result<Value, NoMemory>
-    ensures { IfOk result (λ v. view v ≡ answered.described_as account.now arn.now key.now id.now) }
+) -> Result<(), NoMemory>
+    ensures { Writes result text.old text.new (answered.described_as account.now arn.now key.now id.now) }
 {
     let state = key.state;
     let spec = key.kind.spec_text();
@@ -64,28 +65,49 @@ fn described<'a>(
         Member("MultiRegion", Item::Flag(false)),
         Member("Origin", Item::Text("AWS_KMS")),
     ];
-    object_of(alloc, &members)
+    write_object(alloc, text, &members)
 }
 
 /// What DescribeKey and CreateKey answer.
-pub fn metadata(alloc: Global, key: &KeyMetadata) -> Result<Value, NoMemory>
-    ensures { IfOk result (λ v. view v ≡ answered.metadata_data key.now) }
+pub fn metadata(alloc: Global, text: &mut JsonText, key: &KeyMetadata) -> Result<(), NoMemory>
+    ensures { Writes result text.old text.new (answered.metadata_data key.now) }
 {
-    let id = key_text(alloc, &key.key)?;
+    let mut digits = [0; 36];
+    let id = key_text_into(&key.key, &mut digits);
     let arn = key_arn(alloc, &key.account, key.region.as_str(), &key.key)?;
-    let account = key.account.as_str();
-    let members = described(alloc, account, arn.as_str(), key, id.as_str())?;
-    Ok(json!(in alloc; {"KeyMetadata": members})?)
+    text.begin_object()?;
+    text.key("KeyMetadata")?;
+    described(alloc, text, key.account.as_str(), arn.as_str(), key, id)?;
+    text.end_object()
 }
 
-fn key_by<'a>(alloc: Global, arn: &'a str, id: &'a str) -> Result<Value, NoMemory>
-    ensures { IfOk result (λ v. view v ≡ answered.key_by arn.now id.now) }
+fn key_by<'a>(alloc: Global, text: &mut JsonText, arn: &'a str, id: &'a str) -> Result<(), NoMemory>
+    ensures { Writes result text.old text.new (answered.key_by arn.now id.now) }
 {
     let members = [
         Member("KeyArn", Item::Text(arn)),
         Member("KeyId", Item::Text(id)),
     ];
-    object_of(alloc, &members)
+    write_object(alloc, text, &members)
+}
+
+/// Puts the ARN of the key of a printed id into a room, in place of what it holds.
+pub fn put_key_arn(
+    room: &mut String,
+    account: &AccountNumber,
+    region: &str,
+    id: &str,
+) -> Result<(), NoMemory>
+    ensures { OnOk result (string_bytes room.new ≡ codes "arn:aws:kms:" ++ (region.now ++ (codes ":" ++ (account.now ++ (codes ":key/" ++ id.now))))) }
+{
+    room.clear();
+    room.push_str("arn:aws:kms:")?;
+    room.push_str(region)?;
+    room.push_str(":")?;
+    room.push_str(account.as_str())?;
+    room.push_str(":key/")?;
+    room.push_str(id)?;
+    Ok(())
 }
 
 // The keys of an account and a region.
@@ -100,21 +122,34 @@ impl RowWriter for KeyRows<'_> {
 
     ghost row_data = { λ rows key. answered.key_data rows.account.now rows.region.now key };
 
-    fn row(&self, alloc: Global, key: &KeyId) -> Result<Value, NoMemory> {
-        let id = key_text(alloc, key)?;
-        let arn = key_arn(alloc, self.account, self.region, key)?;
-        key_by(alloc, arn.as_str(), id.as_str())
+    fn write_row(
+        &self,
+        alloc: Global,
+        room: &mut String,
+        text: &mut JsonText,
+        key: &KeyId,
+    ) -> Result<(), NoMemory> {
+        let mut digits = [0; 36];
+        let id = key_text_into(key, &mut digits);
+        put_key_arn(room, self.account, self.region, id)?;
+        key_by(alloc, text, room.as_str(), id)
     }
 }
 
 /// What ListKeys answers.
-pub fn key_list(alloc: Global, list: &KeyPage) -> Result<Value, NoMemory>
-    ensures { IfOk result (λ v. view v ≡ answered.keys_data list.now) }
+pub fn key_list(alloc: Global, text: &mut JsonText, list: &KeyPage) -> Result<(), NoMemory>
+    ensures { Writes result text.old text.new (answered.keys_data list.now) }
 {
     let writer = KeyRows {
         account: &list.account,
         region: list.region.as_str(),
     };
-    let rows = list_of(alloc, &writer, list.keys.as_slice())?;
-    page(alloc, "Keys", rows, list.next)
+    write_page(
+        alloc,
+        text,
+        "Keys",
+        &writer,
+        list.keys.as_slice(),
+        list.next,
+    )
 }

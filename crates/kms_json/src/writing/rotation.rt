@@ -1,33 +1,35 @@
 // What the operations on the rotation of keys answer.
-ghost use Rattle.std.specs.Prelude.{◌≡◌, IfOk};
-ghost use Rattle.serde_json.specs.View.{view};
+ghost use Rattle.std.specs.Prelude.{◌≡◌};
 ghost use Rattle.kms_json.specs.RotationReplies as answered;
+ghost use Rattle.kms_json.specs.Texts.{Writes};
 
-use super::pages::page;
-use crate::objects::{Item, Member, RowWriter, list_of, object_of};
+use super::pages::{write_marker, write_truncated};
+use crate::objects::{Item, Member, RowWriter, write_list, write_object};
 use crate::replies::{AutomaticRotation, Rotation, RotationPage};
-use kms_names::{KeyId, NoMemory, key_text};
-use serde_json::Value;
+use crate::texts::JsonText;
+use kms_names::{KeyId, NoMemory, key_text_into};
 use std::alloc::Global;
 
 /// What RotateKeyOnDemand answers.
-pub fn rotated(alloc: Global, key: &KeyId) -> Result<Value, NoMemory>
-    ensures { IfOk result (λ v. view v ≡ answered.rotated_data key.now) }
+pub fn rotated(alloc: Global, text: &mut JsonText, key: &KeyId) -> Result<(), NoMemory>
+    ensures { Writes result text.old text.new (answered.rotated_data key.now) }
 {
-    let id = key_text(alloc, key)?;
-    object_of(alloc, &[Member("KeyId", Item::Text(id.as_str()))])
+    let mut digits = [0; 36];
+    let id = key_text_into(key, &mut digits);
+    write_object(alloc, text, &[Member("KeyId", Item::Text(id))])
 }
 
 /// What GetKeyRotationStatus answers.
 pub fn rotation(
     alloc: Global,
+    text: &mut JsonText,
     key: &KeyId,
     rotation: Option<AutomaticRotation>,
-) -> Result<Value, NoMemory>
-    ensures { IfOk result (λ v. view v ≡ answered.rotation_data key.now rotation) }
+) -> Result<(), NoMemory>
+    ensures { Writes result text.old text.new (answered.rotation_data key.now rotation) }
 {
-    let id = key_text(alloc, key)?;
-    let id = Member("KeyId", Item::Text(id.as_str()));
+    let mut digits = [0; 36];
+    let id = Member("KeyId", Item::Text(key_text_into(key, &mut digits)));
     match rotation {
         Some(AutomaticRotation { next, period }) => {
             let members = [
@@ -36,11 +38,11 @@ pub fn rotation(
                 Member("NextRotationDate", Item::Number(next)),
                 Member("RotationPeriodInDays", Item::Number(u64::from(period))),
             ];
-            object_of(alloc, &members)
+            write_object(alloc, text, &members)
         }
         None => {
             let members = [id, Member("KeyRotationEnabled", Item::Flag(false))];
-            object_of(alloc, &members)
+            write_object(alloc, text, &members)
         }
     }
 }
@@ -62,7 +64,13 @@ impl RowWriter for RotationRows<'_> {
 
     ghost row_data = { λ rows rotation. answered.one_rotation_data rows.id.now rotation };
 
-    fn row(&self, alloc: Global, rotation: &Rotation) -> Result<Value, NoMemory> {
+    fn write_row(
+        &self,
+        alloc: Global,
+        _room: &mut String,
+        text: &mut JsonText,
+        rotation: &Rotation,
+    ) -> Result<(), NoMemory> {
         let members = [
             Member("KeyId", Item::Text(self.id)),
             Member("RotationDate", Item::Number(rotation.date)),
@@ -71,19 +79,25 @@ impl RowWriter for RotationRows<'_> {
                 Item::Text(rotation_type(rotation.on_demand)),
             ),
         ];
-        object_of(alloc, &members)
+        write_object(alloc, text, &members)
     }
 }
 
 /// What ListKeyRotations answers.
-pub fn rotation_list(alloc: Global, list: &RotationPage) -> Result<Value, NoMemory>
-    ensures { IfOk result (λ v. view v ≡ answered.rotations_data list.now) }
+pub fn rotation_list(
+    alloc: Global,
+    text: &mut JsonText,
+    list: &RotationPage,
+) -> Result<(), NoMemory>
+    ensures { Writes result text.old text.new (answered.rotations_data list.now) }
 {
-    let id = key_text(alloc, &list.key)?;
-    let rows = list_of(
-        alloc,
-        &RotationRows { id: id.as_str() },
-        list.rotations.as_slice(),
-    )?;
-    page(alloc, "Rotations", rows, list.next)
+    let mut digits = [0; 36];
+    let writer = RotationRows {
+        id: key_text_into(&list.key, &mut digits),
+    };
+    text.begin_object()?;
+    write_marker(text, list.next)?;
+    text.key("Rotations")?;
+    write_list(alloc, text, &writer, list.rotations.as_slice())?;
+    write_truncated(text, list.next.is_some())
 }

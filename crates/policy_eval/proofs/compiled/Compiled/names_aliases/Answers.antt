@@ -7,4 +7,4 @@ use Rattle.policy_eval.proofs.compiled.Compiled.names_aliases.Goals as goal
 pub returns : goal.returns
 returns c =
     let kept = c.self.inside in
-    subst (λ (p : Policy). IsTrue kept.asks_aliases ↔ AsksFor (codes "kms:ResourceAliases") p) c.self.view_is c.self.invariant.1
+    subst (λ (p : Policy). IsTrue kept.asks_aliases ↔ AsksFor (codes "kms:ResourceAliases") p) c.self.view_is c.self.invariant

@@ -1,6 +1,5 @@
-use Rattle.policy_eval.proofs.OrderFacts.{Kept}
+use Rattle.std.proofs.Common.{◌≡◌, take}
 use Rattle.policy_eval.proofs.compiled.Compiled.new.Given as goal
 
--- the statements so far are kept
 abbrev pub invariant-loop-statement : goal.invariant-loop-statement
-invariant-loop-statement l = Kept l.statement-items l.statement-index l.effects.items l.denies l.allows
+invariant-loop-statement l = l.group ≡ take l.statement-index l.statements

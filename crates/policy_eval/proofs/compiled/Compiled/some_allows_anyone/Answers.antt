@@ -1,13 +1,11 @@
 use Rattle.std.proofs.Common.{subst}
 use Rattle.std.specs.Prelude.{◌↔◌, IsTrue, Any}
 use Rattle.policy_doc.specs.declared.policies.Policy.{Policy}
-use Rattle.policy_eval.specs.Order.{in_order}
 use Rattle.policy_eval.specs.Verdict.{IsAllow}
-use Rattle.policy_eval.proofs.OrderFacts.{allows_anyone}
+use Rattle.policy_eval.proofs.HitFacts.{allows_anyone}
 use Rattle.policy_eval.proofs.compiled.Compiled.some_allows_anyone.Goals as goal
 
 pub returns : goal.returns
 returns c =
-    let kept = c.self.inside in
     subst (λ (p : Policy). IsTrue c.hits.result ↔ Any (λ s. IsAllow s c.args.facts.now) p.statements) c.self.view_is
-    (allows_anyone (in_order kept.effects.items kept.denies kept.allows) kept.denies kept.allows c.self.invariant.0 c.args.facts.now c.hits.result c.hits.ensures)
+    (allows_anyone c.self.inside.statements c.args.facts.now c.hits.result c.hits.ensures)

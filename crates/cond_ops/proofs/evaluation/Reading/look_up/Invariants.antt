@@ -1,6 +1,0 @@
-use Rattle.cond_ops.proofs.MatchingFacts.{LookedUp}
-use Rattle.cond_ops.proofs.evaluation.Reading.look_up.Given as goal
-
--- no fact so far has such a value, and the key is present where some fact so far has its name
-abbrev pub invariant-loop-fact : goal.invariant-loop-fact
-invariant-loop-fact l = LookedUp l.self.condition.now l.wanted l.facts l.fact-index l.is_present
