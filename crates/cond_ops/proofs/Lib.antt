@@ -7,6 +7,7 @@ pub mod SecondFacts
 pub mod ReadingFacts
 pub mod MatchingFacts
 pub mod RelatedFacts
+pub mod IntegerFacts
 pub mod CompiledFacts
 pub mod ArnFacts
 pub mod FormFacts

@@ -8,6 +8,7 @@ pub mod Value
 pub mod Relation
 pub mod Arn
 pub mod Reading
+pub mod Integers
 pub mod Asked
 pub mod Compiled
 pub mod Holds

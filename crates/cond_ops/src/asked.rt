@@ -1,10 +1,12 @@
 //! Conditions as they are asked.
 
-ghost use Rattle.std.specs.Prelude.{◌≡◌, ◌↔◌, Any, Contains, IsTrue, ℕ, List};
+ghost use Rattle.std.specs.Prelude.{◌≡◌, ◌↔◌, Any, Contains, IfSome, IsTrue, ℕ, List};
 ghost use Rattle.cond_ops.specs.Asked.{condition_of, values_of};
 ghost use Rattle.cond_ops.specs.Relation.{RelatesAs};
 
 use crate::conditions::Condition;
+use crate::facts::{Fact, count_of};
+use crate::integers::{ReadTexts, reading_of};
 use crate::operators::Operator;
 use crate::qualified::Qualifier;
 use crate::read_values::ReadValue;
@@ -19,6 +21,8 @@ pub enum PolicyValues<'a> {
     Listed(&'a [Text]),
     /// One behind another.
     Packed(TextSlice<'a>),
+    /// The same, each read once.
+    Read(ReadTexts<'a>),
 }
 
 /// A condition as it is asked.
@@ -38,8 +42,8 @@ pub struct Asked<'a> {
     pub values: PolicyValues<'a>,
 }
 
-// Whether a value is related to some of a run of texts.
-fn some_packed(read: &ReadValue<'_>, texts: &TextSlice<'_>) -> bool
+/// Whether a value is related to some of a run of texts.
+pub fn some_packed(read: &ReadValue<'_>, texts: &TextSlice<'_>) -> bool
     ensures { IsTrue result ↔ Any (RelatesAs read.now.0 read.now.1) texts.now }
 {
     let mut rest = texts.copy();
@@ -74,6 +78,7 @@ impl PolicyValues<'_> {
         match self {
             PolicyValues::Listed(texts) => texts.iter().any(|text| read.relates(text.as_str())),
             PolicyValues::Packed(texts) => some_packed(read, texts),
+            PolicyValues::Read(texts) => texts.some_relates(read),
         }
     }
 
@@ -84,7 +89,33 @@ impl PolicyValues<'_> {
         match self {
             PolicyValues::Listed(texts) => texts.iter().any(|value| value.as_str() == text),
             PolicyValues::Packed(texts) => is_packed(text, texts),
+            PolicyValues::Read(texts) => is_packed(text, texts.texts()),
         }
+    }
+}
+
+impl<'a> Asked<'a> {
+    /// The condition with its values read once, where they are numbers or dates that several values of the request are
+    /// compared with, and there is memory for them.
+    pub fn read(&self, facts: &[Fact]) -> Option<Asked<'a>>
+        ensures { IfSome result (λ read. condition_of read ≡ condition_of self.now) }
+    {
+        let PolicyValues::Packed(texts) = &self.values else {
+            return None;
+        };
+        let reading = reading_of(self.operator.kind())?;
+        if count_of(facts, self.key) < 2 {
+            return None;
+        }
+        let values = ReadTexts::of(self.alloc, reading, texts).ok()?;
+        Some(Asked {
+            alloc: self.alloc,
+            operator: self.operator,
+            qualifier: self.qualifier,
+            if_exists: self.if_exists,
+            key: self.key,
+            values: PolicyValues::Read(values),
+        })
     }
 }
 

@@ -77,9 +77,10 @@ impl CompiledConditions {
     }
 
     /// Whether all of them hold of a request, each exactly as `holds` says. For each condition each value of the request
-    /// is read once, and the policy's values are read as they are compared with it. The characters of a value that is
-    /// matched with patterns are read into memory for the time of the call, where it isn't ASCII; where that memory is
-    /// refused, the answer is the same.
+    /// is read once. So are the policy's values where they are numbers or dates that several values of the request are
+    /// compared with; others are read as they are compared. What is so read of the policy, and the characters of a value
+    /// of the request that is matched with patterns and isn't ASCII, stand in memory for the time of the call; where that
+    /// memory is refused, the answer is the same.
     #[tactic(auto, unfolding(crate::specs::Holds::Holds))]
     pub fn all_hold(&self, facts: &RequestFacts) -> bool
         ensures { IsTrue result ↔ All (λ condition. Holds condition facts.now) self.now }

@@ -3,7 +3,7 @@
 ghost use Rattle.std.specs.Prelude.{◌≡◌, ◌↔◌, ℕ, List, IsTrue, not};
 ghost use Rattle.std.specs.Bool.{MatchBool};
 ghost use Rattle.cond_ops.specs.Asked.{condition_of};
-ghost use Rattle.cond_ops.specs.Holds.{ValueMatches, HoldsOfValues, HoldsPresent, HoldsMissing, Holds, HoldsOf, has_name};
+ghost use Rattle.cond_ops.specs.Holds.{ValueMatches, HoldsOfValues, HoldsPresent, HoldsMissing, Holds, HoldsOf};
 ghost use Rattle.cond_ops.specs.Matching.{IsMatch, SomeMatch, IsLookUp, wanted_of};
 ghost use Rattle.cond_ops.specs.Operator.{is_negated};
 
@@ -14,15 +14,6 @@ use crate::operators::Operator;
 use crate::qualified::Qualifier;
 use crate::read_values::ReadValue;
 use kms_names::Text;
-
-impl Fact {
-    /// Whether the fact has a name, without ASCII case.
-    fn has_name(&self, key: &str) -> bool
-        ensures { result ≡ has_name key.now self.now }
-    {
-        self.key.as_str().eq_ignore_ascii_case(key)
-    }
-}
 
 impl Asked<'_> {
     /// Whether a value of a request stands in the operator's relation to some value of the condition. It is read once.
@@ -113,13 +104,23 @@ impl Asked<'_> {
             }
     }
 
-    /// Whether the condition holds of the facts of a request.
-    pub fn holds(&self, facts: &[Fact]) -> bool
+    /// Whether the condition holds of the facts of a request, its values taken as they are.
+    fn holds_as_it_is(&self, facts: &[Fact]) -> bool
         ensures { IsTrue result ↔ HoldsOf (condition_of self.now) facts.now }
     {
         match self.look_up(facts, self.wanted()) {
             Some(found) => self.holds_present(found),
             None => self.holds_missing(),
+        }
+    }
+
+    /// Whether the condition holds of the facts of a request.
+    pub fn holds(&self, facts: &[Fact]) -> bool
+        ensures { IsTrue result ↔ HoldsOf (condition_of self.now) facts.now }
+    {
+        match self.read(facts) {
+            Some(read) => read.holds_as_it_is(facts),
+            None => self.holds_as_it_is(facts),
         }
     }
 }

@@ -15,6 +15,7 @@ pub struct Fact {
 
 impl Fact {
     ghost use Rattle.std.specs.Prelude.{◌≡◌, IfOk};
+    ghost use Rattle.cond_ops.specs.Holds.{has_name};
 
     /// A copy that equals its source.
     pub fn copy(&self) -> Result<Fact, NoMemory>
@@ -25,6 +26,24 @@ impl Fact {
             values: self.values.copy()?,
         })
     }
+
+    /// Whether the fact has a name, without ASCII case.
+    pub(crate) fn has_name(&self, key: &str) -> bool
+        ensures { result ≡ has_name key.now self.now }
+    {
+        self.key.as_str().eq_ignore_ascii_case(key)
+    }
+}
+
+/// How many values facts of this name have.
+pub(crate) fn count_of(facts: &[Fact], key: &str) -> usize {
+    let mut count: usize = 0;
+    for fact in facts {
+        if fact.has_name(key) {
+            count = count.saturating_add(fact.values.as_slice().len());
+        }
+    }
+    count
 }
 
 /// A list of facts.

@@ -11,6 +11,7 @@ mod evaluation;
 mod facts;
 mod forms;
 mod heads;
+mod integers;
 mod laws;
 mod moments;
 mod numbers;

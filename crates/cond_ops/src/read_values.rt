@@ -1,6 +1,7 @@
 //! Values of requests, read once.
 
-ghost use Rattle.std.specs.Prelude.{◌≡◌, ◌↔◌, IsTrue};
+ghost use Rattle.std.specs.Prelude.{◌≡◌, ◌↔◌, IfSome, IsTrue};
+ghost use Rattle.cond_ops.specs.Integers.{IsReadAs, kind_as};
 ghost use Rattle.cond_ops.specs.Moment.{IsMoment};
 ghost use Rattle.cond_ops.specs.Number.{IsNumber};
 ghost use Rattle.cond_ops.specs.Reading.{ComparesRead, IsFormOf, IsLikeParts};
@@ -10,6 +11,7 @@ ghost use Rattle.cond_ops.specs.declared.operators.Kind.TheVariants as kind;
 
 use crate::arns::{ReadArn, read_arn};
 use crate::forms::Form;
+use crate::integers::Reading;
 use crate::moments::read_moment;
 use crate::numbers::read_number;
 use crate::operators::{Kind, Order};
@@ -137,6 +139,17 @@ impl<'a> ReadValue<'a> {
             compared,
             value,
             form,
+        }
+    }
+
+    /// The integer that it is compared as, and how, where its operator reads texts as these.
+    pub fn integer(&self, reading: Reading) -> Option<(Order, i64)>
+        ensures { IfSome result (λ r. (self.now.0 ≡ kind_as reading r.0) × IsReadAs reading self.now.1 r.1) }
+    {
+        match (&self.form, reading) {
+            (Form::Number(order, left), Reading::Number) => Some((*order, *left)),
+            (Form::Date(order, left), Reading::Date) => Some((*order, *left)),
+            _ => None,
         }
     }
 

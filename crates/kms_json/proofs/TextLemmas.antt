@@ -6,7 +6,7 @@ use Rattle.serde_json.specs.Data.{Data, Members, string}
 use Rattle.serde_json.specs.Written.{items_outline}
 use Rattle.serde_json.specs.View.{items_of}
 use Rattle.kms_json.specs.Objects.{with_any}
-use Rattle.kms_json.specs.Texts.{data_tokens, member_tokens, closing_tokens}
+use Rattle.kms_json.specs.Texts.{member_tokens, closing_tokens}
 
 -- the tokens of a list's last rows, with the closing bracket
 abbrev pub closing_items : List Data → List Token
@@ -17,10 +17,6 @@ pub member_adds : (old new : List Token) (name : List ℕ) (o : Option Data) (mo
     → new ≡ old ++ member_tokens name o → new ++ closing_tokens more ≡ old ++ closing_tokens (with_any name o more)
 member_adds old new name None more e = ap (λ (ts : List Token). ts ++ closing_tokens more) (e ∙ append-nil old)
 member_adds old new name (Some d) more e = ap (λ (ts : List Token). ts ++ closing_tokens more) e ∙ append_assoc old (member_tokens name (Some d)) (closing_tokens more)
-
--- a row more
-pub row_adds : (old new : List Token) (d : Data) (more : List Data) → new ≡ old ++ data_tokens d → new ++ closing_items more ≡ old ++ closing_items (d ∷ more)
-row_adds old new d more e = ap (λ (ts : List Token). ts ++ closing_items more) e ∙ append_assoc old (data_tokens d) (closing_items more)
 
 -- a token more
 pub token_adds : (old new : List Token) (t : Token) (more : List Token) → new ≡ old ++ t ∷ [] → new ++ more ≡ old ++ t ∷ more

@@ -1,10 +1,9 @@
 -- A JSON object as the list of its members.
-use Rattle.std.specs.Prelude.{ℕ, List, [], ◌∷◌, map, codes, Option, Some, None, option_map}
+use Rattle.std.specs.Prelude.{ℕ, List, map, codes, Option, Some, None, option_map}
 use Rattle.base64.specs.Engines.{standard}
 use Rattle.base64.specs.GeneralPurpose.{encode_of}
 use Rattle.serde_json.specs.Data.{Data, Members, member, put, string, number, unsigned, boolean, array, item, no_items}
 use Rattle.serde_json.specs.View.{items_of}
-use Rattle.kms_json.specs.declared.objects.Member.{Member}
 use Rattle.kms_json.specs.declared.objects.Item.{Item}
 use Rattle.kms_json.specs.declared.objects.Item.TheVariants.{Text, Base64, Number, Flag, OneText, OneTextIfAny, NumberIfAny, TextIfAny}
 
@@ -51,11 +50,6 @@ item_data (TextIfAny text) = option_map (λ t. string t.now) text
 abbrev pub put_any : List ℕ → Option Data → Members → Members
 put_any name None members = members
 put_any name (Some d) members = put name d members
-
--- these members, put in one after another
-abbrev pub put_members : List Member → Members → Members
-put_members [] members = members
-put_members (one ∷ others) members = put_members others (put_any one.0.now (item_data one.1) members)
 
 -- the list of these rows
 abbrev pub list_data : {A : Type 0} → (A → Data) → List A → Data

@@ -5,7 +5,6 @@ ghost use Rattle.serde_json.specs.View.{view};
 ghost use Rattle.kms_json.specs.Asks.{body_data, asked, asked_of_values, AnswersFor};
 ghost use Rattle.kms_json.specs.Fields.{values_of, refused_by};
 ghost use Rattle.kms_json.specs.Operations.{fields_of};
-ghost use Rattle.kms_json.specs.declared.asks.JsonFault.TheVariants.{NoMemory as OutOfMemory};
 
 use crate::asks::{AskBody, JsonFault};
 use crate::building::asked_from;

@@ -1,7 +1,7 @@
 // Exceptions' names, texts and bodies.
 ghost use Rattle.std.specs.Prelude.{◌≡◌, IfOk, string_bytes};
 ghost use Rattle.kms_json.specs.declared.refusals.Refusal.TheVariants as refusal;
-ghost use Rattle.kms_json.specs.Exceptions.{exception, exception_text, fixed_text, flaw_text, missing_word, limit_word, unsupported_name, refusal_data};
+ghost use Rattle.kms_json.specs.Exceptions.{exception, exception_text, fixed_text, missing_word, limit_word, unsupported_name, refusal_data};
 ghost use Rattle.kms_json.specs.Texts.{Writes};
 
 use crate::objects::{Item, Member, write_object};

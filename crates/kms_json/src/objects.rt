@@ -1,5 +1,5 @@
 // JSON objects and lists, written member by member and row by row.
-ghost use Rattle.std.specs.Prelude.{◌≡◌, ◌++◌, IfOk, OnOk, Some, option_map, string_bytes};
+ghost use Rattle.std.specs.Prelude.{◌≡◌, ◌++◌, OnOk, Some, option_map};
 ghost use Rattle.serde_json.specs.Data.{Data, object, no_members, string, boolean};
 ghost use Rattle.kms_json.specs.Objects.{base64_text, item_data, number_data, one_text, list_data};
 ghost use Rattle.kms_json.specs.Texts.{member_tokens, listed, Adds, Writes};

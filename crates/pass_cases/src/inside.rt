@@ -20,32 +20,35 @@ const HAS_READ: u64 = 2;
 // How often the scene is tried: the threads' schedule may let the changes pass before the read is inside.
 const TRIES: u64 = 100;
 
-// How many letters the pattern of the policy has, and the text that is matched with it: a million comparisons.
-const PATTERN: usize = 1000;
+// How many patterns the policy has, and how many letters the text that is matched with each of them. One of these isn't ASCII, so a read takes
+// tens of milliseconds, and a change less than one.
+const PATTERNS: usize = 4000;
 
-const TEXT: usize = 2000;
+const LETTERS: usize = 7990;
 
 // Another policy for the key, which denies what no request here says.
 fn policy(alloc: Global) -> Result<String, NoMemory> {
-    let letters = "a".repeat(alloc, PATTERN)?;
-    let text = format!(in alloc; "{POLICY}{letters}{POLICY_END}")?;
+    let patterns = PATTERN.repeat(alloc, PATTERNS)?;
+    let text = format!(in alloc; "{POLICY}{patterns}{POLICY_END}")?;
     Ok(text)
 }
 
 // A text to be sealed under it, with a context that is long to judge.
 fn sealing(alloc: Global) -> Result<String, NoMemory> {
-    let letters = "a".repeat(alloc, TEXT)?;
+    let letters = "a".repeat(alloc, LETTERS)?;
     let text = format!(in alloc; "{SEALING}{letters}{SEALING_END}")?;
     Ok(text)
 }
 
 const POLICY: &str =
-    "{\"KeyId\":\"10284733-057c-2825-aeb4-000000000000\",\"Policy\":\"{\\\"Statement\\\":[{\\\"Effect\\\":\\\"Allow\\\",\\\"Principal\\\":{\\\"AWS\\\":\\\"arn:aws:iam::111122223333:root\\\"},\\\"Action\\\":\\\"kms:*\\\",\\\"Resource\\\":\\\"*\\\"},{\\\"Effect\\\":\\\"Deny\\\",\\\"Principal\\\":\\\"*\\\",\\\"Action\\\":\\\"kms:Encrypt\\\",\\\"Resource\\\":\\\"*\\\",\\\"Condition\\\":{\\\"StringLike\\\":{\\\"kms:EncryptionContext:text\\\":\\\"*";
+    "{\"KeyId\":\"10284733-057c-2825-aeb4-000000000000\",\"Policy\":\"{\\\"Statement\\\":[{\\\"Effect\\\":\\\"Allow\\\",\\\"Principal\\\":{\\\"AWS\\\":\\\"arn:aws:iam::111122223333:root\\\"},\\\"Action\\\":\\\"kms:*\\\",\\\"Resource\\\":\\\"*\\\"},{\\\"Effect\\\":\\\"Deny\\\",\\\"Principal\\\":\\\"*\\\",\\\"Action\\\":\\\"kms:Encrypt\\\",\\\"Resource\\\":\\\"*\\\",\\\"Condition\\\":{\\\"StringLike\\\":{\\\"kms:EncryptionContext:text\\\":[";
 
-const POLICY_END: &str = "b\\\"}}}]}\"}";
+const PATTERN: &str = "\\\"*ab*\\\",";
+
+const POLICY_END: &str = "\\\"b\\\"]}}}]}\"}";
 
 const SEALING: &str =
-    "{\"KeyId\":\"10284733-057c-2825-aeb4-000000000000\",\"Plaintext\":\"aGVsbG8=\",\"EncryptionContext\":{\"text\":\"";
+    "{\"KeyId\":\"10284733-057c-2825-aeb4-000000000000\",\"Plaintext\":\"aGVsbG8=\",\"EncryptionContext\":{\"text\":\"\u{e9}";
 
 const SEALING_END: &str = "\"}}";
 

@@ -137,7 +137,8 @@ impl Compiled {
     /// statement that matches gives `Deny`; else an Allow statement that matches gives `Direct`; else it is `Silent`.
     /// A statement matches where its action part, its resource part and all its conditions do. Each Allow statement is
     /// asked once. Texts of the request that are matched with patterns and aren't ASCII are read into memory for the time
-    /// of the match; where there is none, the answer is the same.
+    /// of the match, and so are a condition's numbers and dates that several values of the request are compared with;
+    /// where there is none, the answer is the same.
     /// (IAM User Guide, "Policy evaluation logic"; AWS KMS Developer Guide, "Key policies".)
     pub fn verdict(&self, facts: &RequestFacts) -> Verdict
         ensures is { IsVerdict self.now facts.now result }

@@ -1,5 +1,5 @@
 // What the operations on grants answer.
-ghost use Rattle.std.specs.Prelude.{◌≡◌, ◌++◌, OnOk, IfOk, codes, filter, option_map, string_bytes, Some};
+ghost use Rattle.std.specs.Prelude.{◌≡◌, ◌++◌, OnOk, IfOk, codes, filter, option_map, Some};
 ghost use Rattle.serde_json.specs.Data.{string, object, member, no_members};
 ghost use Rattle.kms_names.specs.GrantOps.{contains, grant_op_name};
 ghost use Rattle.kms_names.specs.Principal.{principal_text};
