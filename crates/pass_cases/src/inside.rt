@@ -21,8 +21,8 @@ const HAS_READ: u64 = 2;
 const TRIES: u64 = 100;
 
 // How many patterns the policy has, and how many letters the text that is matched with each of them. One of these isn't ASCII, so a read takes
-// tens of milliseconds, and a change less than one.
-const PATTERNS: usize = 4000;
+// some milliseconds, and a change less than one.
+const PATTERNS: usize = 1000;
 
 const LETTERS: usize = 7990;
 
