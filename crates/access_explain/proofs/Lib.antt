@@ -1,4 +1,3 @@
-mod DocumentFacts
 mod MarkFacts
 mod RunFacts
 mod HitFacts

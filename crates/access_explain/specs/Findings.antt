@@ -7,7 +7,7 @@ use Rattle.policy_doc.specs.declared.policies.Policy.{Policy}
 use Rattle.policy_doc.specs.declared.policies.Statement.{Statement}
 use Rattle.policy_eval.specs.Ceiling.{Under}
 use Rattle.authority.specs.declared.identities.Identity.{Identity}
-use Rattle.authority.specs.KeyPolicy.{policy_in}
+use Rattle.key_policies.specs.KeyPolicy.{policy_in}
 use Rattle.authority.specs.Setting.{callers_policies, is_root}
 use Rattle.key_states.specs.declared.rows.KeyRow.{KeyRow}
 use Rattle.grant_table.specs.Grants.{is_of_key}

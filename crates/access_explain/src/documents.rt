@@ -1,15 +1,16 @@
 // The documents that are asked: the policies of keys and of callers.
-ghost use Rattle.std.specs.Prelude.{◌≡◌, ◌≢◌, [], None, Some, IfOk, IfErr, option_map};
+ghost use Rattle.std.specs.Prelude.{◌≡◌, ◌≢◌, [], IfOk, option_map};
 ghost use Rattle.policy_doc.specs.declared.faults.PolicyFault.TheVariants.{NoMemory as OutOfMemory};
 ghost use Rattle.account_rows.specs.History.{replay, key_with};
-ghost use Rattle.authority.specs.KeyPolicy.{fault_in, policy_in};
+ghost use Rattle.key_policies.specs.KeyPolicy.{policy_in};
 ghost use Rattle.authority.specs.Setting.{identity_at, policies_of, callers_policies};
 ghost use Rattle.access_explain.specs.Findings.{policy_statements};
 
 use account_core::Account;
 use authority::Identity;
+use key_policies::read_key_policy;
 use kms_names::{KeyId, NoMemory, Principal, Text, write_principal};
-use policy_doc::{Policy, PolicyFault, PolicyKind, StatementList, read_policy};
+use policy_doc::{Policy, PolicyFault, StatementList};
 use std::alloc::Global;
 
 // The first of these that has an ARN.
@@ -58,14 +59,6 @@ pub fn own_policies<'a>(
     }
 }
 
-// The policy of a document, or its first fault.
-fn read_document(alloc: Global, text: &Text) -> Result<Policy, PolicyFault>
-    ensures ok { IfOk result (λ policy. (fault_in text.now ≡ None) × (policy ≡ policy_in text.now)) }
-    ensures fault { IfErr result (λ e. e ≢ OutOfMemory → fault_in text.now ≡ Some e) }
-{
-    read_policy(alloc, PolicyKind::Key, text.as_str().as_bytes())
-}
-
 // A document with a fault has no statements.
 fn no_statements(alloc: Global, fault: &PolicyFault) -> Result<StatementList, NoMemory>
     ensures { IfOk result (λ statements. (fault.now ≢ OutOfMemory) × (statements ≡ [])) }
@@ -83,7 +76,7 @@ fn no_statements(alloc: Global, fault: &PolicyFault) -> Result<StatementList, No
 fn statements_in(alloc: Global, text: &Text) -> Result<StatementList, NoMemory>
     ensures { IfOk result (λ statements. statements ≡ (policy_in text.now).statements) }
 {
-    match read_document(alloc, text) {
+    match read_key_policy(alloc, text) {
         Ok(policy) => Ok(policy.statements),
         Err(fault) => no_statements(alloc, &fault),
     }

@@ -1,10 +1,10 @@
 //! Rows of keys that versions of the account share, with their policies ready to be asked.
 
 ghost use Rattle.std.specs.Prelude.{◌≡◌, IfOk, length};
-ghost use Rattle.authority.specs.KeyPolicy.{policy_in};
+ghost use Rattle.key_policies.specs.KeyPolicy.{policy_in};
 ghost use Rattle.account_rows.specs.Changes.{with_policy, HasVersions};
 
-use authority::KeyPolicy;
+use key_policies::KeyPolicy;
 use key_states::KeyRow;
 use kms_names::{AccountNumber, NoMemory, Text};
 use std::alloc::Global;
@@ -20,7 +20,7 @@ pub struct DefaultPolicy {
 
 impl Model for DefaultPolicy {
     ghost use Rattle.std.specs.Prelude.{◌≡◌, ℕ, List};
-    ghost use Rattle.authority.specs.KeyPolicy.{default_policy};
+    ghost use Rattle.key_policies.specs.KeyPolicy.{default_policy};
 
     ghost Value = { List ℕ };
 
@@ -72,7 +72,7 @@ impl Model for HeldKey {
     ghost use Rattle.std.specs.Prelude.{◌≡◌};
     ghost use Rattle.std.specs.Arc.{arc_value};
     ghost use Rattle.key_states.specs.declared.rows.KeyRow.{KeyRow};
-    ghost use Rattle.authority.specs.KeyPolicy.{policy_in};
+    ghost use Rattle.key_policies.specs.KeyPolicy.{policy_in};
 
     ghost Value = { KeyRow };
 

@@ -1,4 +1,3 @@
-pub mod KeyPolicy
 pub mod Times
 pub mod Setting
 pub mod Callers

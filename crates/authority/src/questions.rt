@@ -8,10 +8,10 @@ ghost use Rattle.policy_eval.specs.Asking.{CeilingGoesWithout};
 ghost use Rattle.authority.specs.Questions.{GoByQuestions, KeyGoesByQuestion, GoWithoutAliases, KeyGoesWithoutAliases, resource_aliases, gathered, SaysWhatIsAsked};
 
 use crate::facts::facts_of;
-use crate::key_policies::KeyPolicy;
 use crate::settings::{Particulars, Setting};
 use crate::standings::Standing;
 use cond_ops::{FactList, RequestFacts};
+use key_policies::KeyPolicy;
 use kms_names::{Action, NoMemory, Principal, Text};
 use policy_eval::{
     CeilingVerdict, Compiled, Verdict, ceiling, ceiling_asks_aliases, ceiling_asks_facts,

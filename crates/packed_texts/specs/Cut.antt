@@ -1,5 +1,5 @@
 -- Texts that stand one behind another.
-use Rattle.std.specs.Prelude.{◌≡◌, ◌≤◌, ℕ, List, [], ◌∷◌, length, take, drop}
+use Rattle.std.specs.Prelude.{◌≡◌, ◌≤◌, ℕ, List, [], ◌∷◌, ◌++◌, length, take, drop}
 use Rattle.std.specs.Str.{IsUtf8}
 
 -- the texts of these lengths, from the front on
@@ -16,3 +16,7 @@ AreCut (n ∷ lengths) bytes = (n ≤ length bytes) × IsUtf8 (take n bytes) × 
 abbrev pub AreWhole : List ℕ → List ℕ → Type 0
 AreWhole [] bytes = bytes ≡ []
 AreWhole (n ∷ lengths) bytes = (n ≤ length bytes) × IsUtf8 (take n bytes) × AreWhole lengths (drop n bytes)
+
+-- behind the texts that stood there stand the first of these, as many as may be
+abbrev pub HasFrontOf : List (List ℕ) → List (List ℕ) → List (List ℕ) → Type 0
+HasFrontOf texts before after = (count : ℕ) × (after ≡ before ++ take count texts)

@@ -46,6 +46,7 @@ fn push_parts(joined: &mut String, lengths: &mut Vec<u32>, text: &str) -> Result
 
 impl PackedTexts {
     ghost use Rattle.std.specs.Prelude.{IfOk};
+    ghost use Rattle.packed_texts.specs.Cut.{HasFrontOf};
 
     /// No texts; no memory is taken.
     pub fn new(alloc: Global) -> PackedTexts
@@ -84,9 +85,11 @@ impl PackedTexts {
         push_parts(&mut self.joined, &mut self.lengths, text)
     }
 
-    /// All texts of a list one after another. Where one is refused as by `push`, those before it stay.
+    /// All texts of a list one after another. Where one is refused as by `push`, what stood there stays, with those
+    /// of the list that come before it.
     pub fn push_all(&mut self, texts: &[Text]) -> Result<(), NoMemory>
-        ensures { OnOk result (self.new ≡ self.old ++ texts.now) }
+        ensures ok { OnOk result (self.new ≡ self.old ++ texts.now) }
+        ensures refused { OnErr result (HasFrontOf texts.now self.old self.new) }
     {
         for text in texts {
             self.push(text.as_str())?;

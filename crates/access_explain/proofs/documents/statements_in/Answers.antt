@@ -1,6 +1,7 @@
 use Rattle.std.proofs.Common.{◌∙◌, sym, ap}
 use Rattle.policy_doc.specs.declared.policies.Policy.{Policy}
-use Rattle.access_explain.proofs.DocumentFacts.{faulty_is, ok_where}
+use Rattle.key_policies.proofs.DocumentFacts.{faulty_is}
+use Rattle.key_policies.proofs.Results.{ok_where}
 use Rattle.access_explain.proofs.documents.statements_in.Goals as goal
 
 pub returns-in-Ok : goal.returns-in-Ok

@@ -12,7 +12,7 @@ loop-condition-preserved c =
     let i = c.loop-condition.condition-index in
     let condition = c.condition-item.result in
     let within = c.loop-condition-test.true in
-    let texts : c.push_all.new.self ≡ (c.loop-condition.texts ++ condition.key ∷ []) ++ condition.values = cc (c.in_ok-push_all.ensures, c.in_ok-push-2.ensures.ok, c.as_str.ensures.value, c.as_slice.ensures) in
+    let texts : c.push_all.new.self ≡ (c.loop-condition.texts ++ condition.key ∷ []) ++ condition.values = cc (c.in_ok-push_all.ensures.ok, c.in_ok-push-2.ensures.ok, c.as_str.ensures.value, c.as_slice.ensures) in
     record {
       heads =
           ◌∙◌ {A = List ConditionHead} c.in_ok-push.ensures.items

@@ -2,7 +2,7 @@
 ghost use Rattle.std.specs.Prelude.{◌≡◌, ◌≢◌, IfOk, IfErr, None, Some};
 ghost use Rattle.std.specs.Bool.{Decides};
 ghost use Rattle.policy_doc.specs.declared.faults.PolicyFault.TheVariants.{NoMemory as OutOfMemory};
-ghost use Rattle.authority.specs.KeyPolicy.{default_text, default_policy, no_statements, policy_in, fault_in};
+ghost use Rattle.key_policies.specs.KeyPolicy.{default_text, default_policy, no_statements, policy_in, fault_in};
 
 use kms_names::{AccountNumber, NoMemory, Text, after};
 use policy_doc::{Policy, PolicyFault, PolicyKind, StatementList, read_policy};
@@ -39,8 +39,9 @@ fn is_default(text: &str, account: &AccountNumber) -> bool
     }
 }
 
-// The policy of a document, or its first fault.
-fn read_document(alloc: Global, text: &Text) -> Result<Policy, PolicyFault>
+/// The policy of a key that a text is, or its first fault: `TooLong` for more than 32,768 bytes, `NotJson` where it is
+/// no JSON, and else the first departure from the grammar of policies, with its JSON pointer.
+pub fn read_key_policy(alloc: Global, text: &Text) -> Result<Policy, PolicyFault>
     ensures ok { IfOk result (λ p. (fault_in text.now ≡ None) × (p ≡ policy_in text.now)) }
     ensures fault { IfErr result (λ e. e ≢ OutOfMemory → fault_in text.now ≡ Some e) }
 {
@@ -81,13 +82,12 @@ impl KeyPolicy {
         KeyPolicy::of_document(alloc, &text)
     }
 
-    /// The policy that a text is, or its first fault: `TooLong` for more than 32,768 bytes, `NotJson` where it is no
-    /// JSON, and else the first departure from the grammar of policies, with its JSON pointer.
+    /// The policy that a text is, or its first fault, as `read_key_policy` tells it.
     pub fn read(alloc: Global, text: &Text) -> Result<KeyPolicy, PolicyFault>
         ensures ok { IfOk result (λ p. (fault_in text.now ≡ None) × (p ≡ policy_in text.now)) }
         ensures fault { IfErr result (λ e. e ≢ OutOfMemory → fault_in text.now ≡ Some e) }
     {
-        let policy = read_document(alloc, text)?;
+        let policy = read_key_policy(alloc, text)?;
         Ok(KeyPolicy::of(alloc, &policy)?)
     }
 

@@ -1,17 +1,10 @@
 -- The text of a default policy.
-use Rattle.std.proofs.Common.{◌≡◌, ◌≢◌, ℕ, Bool, true, false, List, ◌++◌, Option, Some, sym, ap, ◌∙◌}
+use Rattle.std.proofs.Common.{◌≡◌, ◌≢◌, ℕ, Bool, true, false, List, ◌++◌, sym, ap, ◌∙◌}
 use Rattle.std.proofs.lemmas.List.{append_cancel_left}
 use Rattle.std.proofs.lemmas.Slice.Eq.{bytes_eq-Decides}
 use Rattle.std.specs.Bool.{Decides}
 use Rattle.std.specs.Str.{bytes_eq}
-use Rattle.serde_json.specs.Read.{read as read_text}
-use Rattle.policy_doc.specs.declared.faults.PolicyFault.{PolicyFault}
-use Rattle.authority.specs.KeyPolicy.{fault_in, policy_in, no_statements, policy_without, default_front, default_back, default_text}
-
--- a text with a fault has no statements
-pub faulty_is : (text : List ℕ) (why : PolicyFault) → fault_in text ≡ Some why → policy_in text ≡ no_statements
-unfolding policy_in
-faulty_is text why is = ap (λ (f : Option PolicyFault). policy_without f (read_text text)) is
+use Rattle.key_policies.specs.KeyPolicy.{default_front, default_back, default_text}
 
 -- ---- whether a text is the default policy of an account
 

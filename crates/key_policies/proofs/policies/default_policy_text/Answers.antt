@@ -1,6 +1,6 @@
 use Rattle.std.proofs.Common.{◌≡◌, ℕ, List, ◌++◌, ap, ◌∙◌, append_assoc}
-use Rattle.authority.specs.KeyPolicy.{default_front, default_back, default_text}
-use Rattle.authority.proofs.key_policies.default_policy_text.Goals as goal
+use Rattle.key_policies.specs.KeyPolicy.{default_front, default_back, default_text}
+use Rattle.key_policies.proofs.policies.default_policy_text.Goals as goal
 
 text_made : (front account printed back one two three : List ℕ) → one ≡ front → printed ≡ account → two ≡ one ++ printed → three ≡ two ++ back → three ≡ front ++ (account ++ back)
 text_made front account printed back one two three a is b c =

@@ -1,7 +1,7 @@
 use Rattle.std.proofs.Common.{◌∙◌, ap, rules}
-use Rattle.authority.specs.KeyPolicy.{policy_in, default_policy}
-use Rattle.authority.proofs.Results.{ok_where}
-use Rattle.authority.proofs.key_policies.KeyPolicy.of_account.Goals as goal
+use Rattle.key_policies.specs.KeyPolicy.{policy_in, default_policy}
+use Rattle.key_policies.proofs.Results.{ok_where}
+use Rattle.key_policies.proofs.policies.KeyPolicy.of_account.Goals as goal
 
 pub returns : goal.returns
 unfolding default_policy

@@ -4,7 +4,7 @@ use Rattle.serde_json.specs.Data.{Data}
 use Rattle.serde_json.specs.Read.{read as read_text}
 use Rattle.policy_doc.specs.declared.faults.PolicyFault.{PolicyFault}
 use Rattle.policy_doc.specs.declared.policies.PolicyKind.TheVariants.{Key}
-use Rattle.authority.specs.KeyPolicy.{fault_in, value_policy, policy_without, policy_in}
+use Rattle.key_policies.specs.KeyPolicy.{fault_in, value_policy, policy_without, policy_in}
 
 value_kind : (value : Option Data) → (value_policy value).kind ≡ Key
 value_kind None = refl

@@ -1,7 +1,7 @@
 use Rattle.std.proofs.Common.{◌∙◌, sym, ap}
-use Rattle.authority.specs.KeyPolicy.{policy_in, default_policy}
-use Rattle.authority.proofs.Results.{ok_where}
-use Rattle.authority.proofs.key_policies.KeyPolicy.of_text.Goals as goal
+use Rattle.key_policies.specs.KeyPolicy.{policy_in, default_policy}
+use Rattle.key_policies.proofs.Results.{ok_where}
+use Rattle.key_policies.proofs.policies.KeyPolicy.of_text.Goals as goal
 
 pub returns-then-is_default : goal.returns-then-is_default
 unfolding default_policy

@@ -1,7 +1,7 @@
 use Rattle.std.proofs.Common.{◌≡◌, ◌≢◌, List, ℕ, ◌++◌, subst}
-use Rattle.authority.specs.KeyPolicy.{default_front, default_back}
-use Rattle.authority.proofs.DefaultFacts.{no_front, no_account, by_back}
-use Rattle.authority.proofs.key_policies.is_default.Goals as goal
+use Rattle.key_policies.specs.KeyPolicy.{default_front, default_back}
+use Rattle.key_policies.proofs.DefaultFacts.{no_front, no_account, by_back}
+use Rattle.key_policies.proofs.policies.is_default.Goals as goal
 
 pub returns-in_default : goal.returns-in_default
 unfolding default_front

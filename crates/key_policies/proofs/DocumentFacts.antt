@@ -12,7 +12,7 @@ use Rattle.policy_doc.specs.declared.faults.PolicyFault.TheVariants as fault
 use Rattle.policy_doc.specs.declared.policies.Policy.{Policy}
 use Rattle.policy_doc.specs.declared.policies.PolicyKind.TheVariants.{Key}
 use Rattle.policy_doc.proofs.GrammarFacts.{policy_tells}
-use Rattle.authority.specs.KeyPolicy.{value_fault, fault_in, value_policy, policy_without, no_statements, policy_in}
+use Rattle.key_policies.specs.KeyPolicy.{value_fault, fault_in, value_policy, policy_without, no_statements, policy_in}
 
 long_by : (b : Bool) (text : List ℕ) → nat_lt 32768 (length text) ≡ b → length text ≤ 32768 → b ≡ false
 long_by true text is short = absurd (omega (arith, ltb-true 32768 (length text) is))
@@ -59,10 +59,7 @@ read_is text (Err e) utf8 long ok err = elim (cases_lt 32768 (length text)) [
   | inr short ↦ (tt, λ some. fault_of text e utf8 (omega arith) err some)
 ]
 
+-- a text with a fault has no statements
 pub faulty_is : (text : List ℕ) (why : PolicyFault) → fault_in text ≡ Some why → policy_in text ≡ no_statements
 unfolding policy_in
 faulty_is text why is = ap (λ (f : Option PolicyFault). policy_without f (read_text text)) is
-
-pub ok_where : {A E : Type 0} {P Q : A → Type 0} (r : Result A E) → ((v : A) → P v → Q v) → IfOk r P → IfOk r Q
-ok_where (Ok v) h k = h v k
-ok_where (Err e) h k = tt

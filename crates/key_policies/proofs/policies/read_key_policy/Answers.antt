@@ -1,6 +1,6 @@
 use Rattle.std.proofs.Common.{◌∙◌, subst, List, ℕ}
-use Rattle.access_explain.proofs.DocumentFacts.{Reading, read_is}
-use Rattle.access_explain.proofs.documents.read_document.Goals as goal
+use Rattle.key_policies.proofs.DocumentFacts.{Reading, read_is}
+use Rattle.key_policies.proofs.policies.read_key_policy.Goals as goal
 
 module _ (c : goal.After-read_policy) where
   told : Reading c.args.text.now c.read_policy.result

@@ -1,0 +1,4 @@
+mod DefaultFacts
+pub mod DocumentFacts
+pub mod KindFacts
+pub mod Results
