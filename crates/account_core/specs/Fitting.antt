@@ -7,7 +7,7 @@ use Rattle.kms_names.specs.Principal.{principal_text}
 use Rattle.kms_names.specs.declared.principals.Principal.{Principal}
 use Rattle.kms_names.specs.declared.principals.Principal.TheVariants.{Root}
 use Rattle.kms_json.specs.Fields.{is_between, is_grant_name, are_tags, are_tag_keys}
-use Rattle.authority.specs.KeyPolicy.{fault_in}
+use Rattle.key_policies.specs.KeyPolicy.{fault_in}
 use Rattle.resource_tags.specs.Proper.{are_proper}
 use Rattle.resource_tags.specs.declared.tags.Tag.{Tag as TagValue}
 use Rattle.tag_order.specs.Order.{are_in_order}

@@ -2,7 +2,7 @@
 ghost use Rattle.std.specs.Prelude.{◌≡◌, ◌<◌, IfOk, is_none, length, nat_le};
 ghost use Rattle.kms_names.specs.Moment.{year_10000};
 ghost use Rattle.resource_tags.specs.Tags.{with_tags};
-ghost use Rattle.authority.specs.KeyPolicy.{fault_in};
+ghost use Rattle.key_policies.specs.KeyPolicy.{fault_in};
 ghost use Rattle.account_rows.specs.Changes.{wants_house};
 ghost use Rattle.account_rows.specs.History.{most_tags};
 ghost use Rattle.account_rows.specs.Sizes.{constraint_size};
@@ -12,8 +12,8 @@ ghost use Rattle.account_core.specs.declared.entering.FitFault.TheVariants.{NoMe
 
 use account_rows::{Entry, What, days_after};
 use account_steps::{View, overfull};
-use authority::KeyPolicy;
 use grant_table::Constraint;
+use key_policies::KeyPolicy;
 use kms_json::{are_tag_keys, are_tags, is_grant_name};
 use kms_names::{NoMemory, Principal, Text, principal_len};
 use policy_doc::PolicyFault;

@@ -6,8 +6,8 @@ ghost use Rattle.account_crypto.specs.Crypto.{generates_data_key};
 use crate::crypto::{draw, seal};
 use account_rows::Lent;
 use account_steps::{
-    Asking, Named, Questions, Reads, Request, Stop, Uses, View, key_of, of_context, other_kind,
-    refuse, unsupported,
+    Named, Questions, Reads, Request, Stop, Uses, View, key_of, of_context, other_kind, refuse,
+    unsupported,
 };
 use draw_lines::DrawLine;
 use hmac_keys::KeyKind;
@@ -120,7 +120,7 @@ impl<'a> Request for GeneratingDataKey<'a> {
     fn questions<'q>(&'q self, found: &'q Named<'a>) -> Questions<'q> {
         let row = found.row.row();
         let said = of_context(self.view, row, &found.alias, &self.request.context);
-        Asking::on_key(self.form.action(), &found.row, said).alone()
+        Questions::on_key(self.form.action(), &found.row, said)
     }
 
     fn tokens(&self) -> &[Text] {

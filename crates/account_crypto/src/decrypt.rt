@@ -2,8 +2,8 @@
 ghost use Rattle.account_crypto.specs.Crypto.{decrypts};
 
 use account_steps::{
-    Asking, Questions, Reads, Request, Sealed, Stop, Uses, View, find_source, of_context, refuse,
-    unfit, unsupported,
+    Questions, Reads, Request, Sealed, Stop, Uses, View, find_source, of_context, refuse, unfit,
+    unsupported,
 };
 use draw_lines::DrawLine;
 use kms_json::{Decrypt, Reply, Unsupported};
@@ -49,7 +49,7 @@ impl<'a> Request for Decrypting<'a> {
             found.alias(),
             &self.request.context,
         );
-        Asking::on_key(Action::Decrypt, found.lent(), said).alone()
+        Questions::on_key(Action::Decrypt, found.lent(), said)
     }
 
     fn tokens(&self) -> &[Text] {

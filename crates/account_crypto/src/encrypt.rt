@@ -4,7 +4,7 @@ ghost use Rattle.account_crypto.specs.Crypto.{encrypts};
 
 use crate::crypto::{ONE_IV, seal};
 use account_steps::{
-    Asking, Named, Questions, Reads, Request, Stop, Uses, View, key_of, of_context, refuse, unfit,
+    Named, Questions, Reads, Request, Stop, Uses, View, key_of, of_context, refuse, unfit,
 };
 use draw_lines::DrawLine;
 use kms_json::{Encrypt, Reply};
@@ -42,7 +42,7 @@ impl<'a> Request for Encrypting<'a> {
     fn questions<'q>(&'q self, found: &'q Named<'a>) -> Questions<'q> {
         let row = found.row.row();
         let said = of_context(self.view, row, &found.alias, &self.request.context);
-        Asking::on_key(Action::Encrypt, &found.row, said).alone()
+        Questions::on_key(Action::Encrypt, &found.row, said)
     }
 
     fn tokens(&self) -> &[Text] {

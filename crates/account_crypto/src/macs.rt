@@ -3,7 +3,7 @@ ghost use Rattle.std.specs.Prelude.{◌≡◌};
 ghost use Rattle.account_crypto.specs.Crypto.{wrong_mac, generates_mac, verifies_mac};
 
 use account_steps::{
-    Asking, Named, Questions, Reads, Request, Stop, Uses, View, key_of, of_mac, refuse, unfit_mac,
+    Named, Questions, Reads, Request, Stop, Uses, View, key_of, of_mac, refuse, unfit_mac,
 };
 use draw_lines::DrawLine;
 use hmac_keys::{mac_of, verify_mac};
@@ -41,7 +41,7 @@ impl<'a> Request for GeneratingMac<'a> {
     fn questions<'q>(&'q self, found: &'q Named<'a>) -> Questions<'q> {
         let row = found.row.row();
         let said = of_mac(self.view, row, &found.alias, &self.request.algorithm);
-        Asking::on_key(Action::GenerateMac, &found.row, said).alone()
+        Questions::on_key(Action::GenerateMac, &found.row, said)
     }
 
     fn tokens(&self) -> &[Text] {
@@ -133,7 +133,7 @@ impl<'a> Request for VerifyingMac<'a> {
     fn questions<'q>(&'q self, found: &'q Named<'a>) -> Questions<'q> {
         let row = found.row.row();
         let said = of_mac(self.view, row, &found.alias, &self.request.algorithm);
-        Asking::on_key(Action::VerifyMac, &found.row, said).alone()
+        Questions::on_key(Action::VerifyMac, &found.row, said)
     }
 
     fn tokens(&self) -> &[Text] {

@@ -5,7 +5,7 @@ use Rattle.kms_json.specs.declared.refusals.Refusal.{Refusal}
 use Rattle.policy_doc.specs.declared.faults.PolicyFault.{PolicyFault}
 use Rattle.policy_doc.specs.declared.faults.PolicyFault.TheVariants as fault
 use Rattle.policy_doc.specs.declared.policies.Policy.{Policy}
-use Rattle.authority.specs.KeyPolicy.{fault_in, policy_in}
+use Rattle.key_policies.specs.KeyPolicy.{fault_in, policy_in}
 use Rattle.account_steps.specs.declared.stops.Stop.{Stop}
 use Rattle.account_steps.specs.declared.stops.Stop.TheVariants as stop
 use Rattle.account_steps.specs.Steps.{Passes}

@@ -21,7 +21,7 @@ use Rattle.kms_json.specs.declared.replies.KeyMetadata.{KeyMetadata}
 use Rattle.kms_json.specs.declared.states.KeyState.{KeyState}
 use Rattle.kms_json.specs.declared.states.KeyState.TheVariants as state
 use Rattle.kms_json.specs.declared.replies.Reply.TheVariants as reply
-use Rattle.authority.specs.KeyPolicy.{default_text}
+use Rattle.key_policies.specs.KeyPolicy.{default_text}
 use Rattle.account_steps.specs.declared.facts.RealmFacts.{RealmFacts}
 use Rattle.account_rows.specs.declared.entries.What.TheVariants as what
 use Rattle.account_steps.specs.Ids.{key_id_at}

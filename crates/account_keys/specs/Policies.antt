@@ -9,7 +9,7 @@ use Rattle.kms_json.specs.declared.replies.Reply.TheVariants as reply
 use Rattle.policy_doc.specs.declared.faults.PolicyFault.{PolicyFault}
 use Rattle.policy_doc.specs.declared.faults.PolicyFault.TheVariants as fault
 use Rattle.policy_doc.specs.declared.policies.Policy.{Policy}
-use Rattle.authority.specs.KeyPolicy.{fault_in, policy_in}
+use Rattle.key_policies.specs.KeyPolicy.{fault_in, policy_in}
 use Rattle.account_rows.specs.declared.entries.What.TheVariants as what
 use Rattle.key_states.specs.declared.rows.KeyRow.{KeyRow}
 use Rattle.account_steps.specs.declared.stops.Stop.{Stop}

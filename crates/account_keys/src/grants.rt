@@ -170,7 +170,7 @@ impl<'a> Request for CreatingGrant<'a> {
     }
 
     fn questions<'q>(&'q self, found: &'q Granting<'a>) -> Questions<'q> {
-        Asking::on_key(Action::CreateGrant, &found.row, self.said(found)).alone()
+        Questions::on_key(Action::CreateGrant, &found.row, self.said(found))
     }
 
     fn tokens(&self) -> &[Text] {
@@ -333,7 +333,7 @@ impl<'a> Request for RevokingGrant<'a> {
 
     fn questions<'q>(&'q self, found: &'q Revoking<'a>) -> Questions<'q> {
         let said = of_key(self.view, found.row.row());
-        Asking::on_key(Action::RevokeGrant, &found.row, said).alone()
+        Questions::on_key(Action::RevokeGrant, &found.row, said)
     }
 
     fn tokens(&self) -> &[Text] {

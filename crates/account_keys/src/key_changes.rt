@@ -5,8 +5,8 @@ ghost use Rattle.account_keys.specs.KeyChanges.{action_of, said_of, refused_for,
 
 use account_rows::{Lent, What, days_after};
 use account_steps::{
-    Asking, Changes, LentText, Made, Questions, Reads, Request, Stop, Uses, View, of_key,
-    only_key_of, refuse, unrotated,
+    Changes, LentText, Made, Questions, Reads, Request, Stop, Uses, View, of_key, only_key_of,
+    refuse, unrotated,
 };
 use authority::Particulars;
 use draw_lines::DrawLine;
@@ -168,7 +168,7 @@ impl<'a> Request for ChangingKey<'a> {
 
     fn questions<'q>(&'q self, found: &'q Lent<'a>) -> Questions<'q> {
         let said = self.change.said(of_key(self.view, found.row()));
-        Asking::on_key(self.change.action(), found, said).alone()
+        Questions::on_key(self.change.action(), found, said)
     }
 
     fn tokens(&self) -> &[Text] {
@@ -241,7 +241,7 @@ impl<'a> Request for GettingRotationStatus<'a> {
 
     fn questions<'q>(&'q self, found: &'q Lent<'a>) -> Questions<'q> {
         let said = of_key(self.view, found.row());
-        Asking::on_key(Action::GetKeyRotationStatus, found, said).alone()
+        Questions::on_key(Action::GetKeyRotationStatus, found, said)
     }
 
     fn tokens(&self) -> &[Text] {

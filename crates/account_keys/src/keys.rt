@@ -15,9 +15,10 @@ use account_steps::{
     Asking, Changes, KeySaid, Made, Named, Questions, Reads, Request, Stop, Uses, View, improper,
     key_id, key_of, of_named, of_new_key, refuse, told_state, unsupported,
 };
-use authority::{KindSaid, Particulars, default_policy_text};
+use authority::{KindSaid, Particulars};
 use draw_lines::DrawLine;
 use hmac_keys::{KeyKind, KindField, KindRead, kind_of};
+use key_policies::default_policy_text;
 use kms_json::{CreateKey, KeyMetadata, KeyState, Refusal, Reply, Unsupported};
 use kms_names::{AccountNumber, Action, KeyId, NoMemory, Text, TextList};
 use resource_tags::{Tag, TagFault, TagList, TagMap};
@@ -328,7 +329,7 @@ impl<'a> Request for DescribingKey<'a> {
 
     fn questions<'q>(&'q self, found: &'q Named<'a>) -> Questions<'q> {
         let said = of_named(self.view, found.row.row(), &found.alias);
-        Asking::on_key(Action::DescribeKey, &found.row, said).alone()
+        Questions::on_key(Action::DescribeKey, &found.row, said)
     }
 
     fn tokens(&self) -> &[Text] {

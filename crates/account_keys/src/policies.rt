@@ -1,7 +1,7 @@
 // The operations on the policies of keys: PutKeyPolicy and GetKeyPolicy.
 ghost use Rattle.std.specs.Prelude.{◌≡◌, IfOk, IfErr, None, Some};
 ghost use Rattle.account_steps.specs.Authority.{of_said};
-ghost use Rattle.authority.specs.KeyPolicy.{fault_in, policy_in};
+ghost use Rattle.key_policies.specs.KeyPolicy.{fault_in, policy_in};
 ghost use Rattle.kms_json.specs.declared.refusals.Refusal.TheVariants as refusal;
 ghost use Rattle.account_steps.specs.declared.stops.Stop.TheVariants as stop;
 ghost use Rattle.account_steps.specs.Steps.{Passes};
@@ -9,11 +9,12 @@ ghost use Rattle.account_keys.specs.Policies.{StopsAt, IsStopAt, may_put_again, 
 
 use account_rows::{Lent, What};
 use account_steps::{
-    Asking, Changes, KeySaid, Made, Questions, Reads, Request, Stop, Uses, View, of_key, of_said,
+    Changes, KeySaid, Made, Questions, Reads, Request, Stop, Uses, View, of_key, of_said,
     only_key_of,
 };
-use authority::{KeyPolicy, Particulars};
+use authority::Particulars;
 use draw_lines::DrawLine;
+use key_policies::KeyPolicy;
 use kms_json::{PolicyFlaw, Refusal, Reply};
 use kms_names::{Action, NoMemory, Text};
 use policy_doc::PolicyFault;
@@ -149,7 +150,7 @@ impl<'a> Request for PuttingPolicy<'a> {
 
     fn questions<'q>(&'q self, found: &'q Lent<'a>) -> Questions<'q> {
         let said = of_policy(self.view, &KeySaid::of(found.row()), self.bypass);
-        Asking::on_key(Action::PutKeyPolicy, found, said).alone()
+        Questions::on_key(Action::PutKeyPolicy, found, said)
     }
 
     fn tokens(&self) -> &[Text] {
@@ -213,7 +214,7 @@ impl<'a> Request for GettingPolicy<'a> {
 
     fn questions<'q>(&'q self, found: &'q Lent<'a>) -> Questions<'q> {
         let said = of_key(self.view, found.row());
-        Asking::on_key(Action::GetKeyPolicy, found, said).alone()
+        Questions::on_key(Action::GetKeyPolicy, found, said)
     }
 
     fn tokens(&self) -> &[Text] {

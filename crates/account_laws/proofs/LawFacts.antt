@@ -314,10 +314,10 @@ place_told p q p_fits q_fits same =
     count_told 0 0 0 0 p q p_fits q_fits iv
 
 pub keys_differ : KeysDiffer
-keys_differ facts p q p_fits q_fits same = place_told p q p_fits q_fits (sym (id_ends facts p) ∙ ap (drop 10) same ∙ id_ends facts q)
+keys_differ facts later p q p_fits q_fits same = place_told p q p_fits q_fits (sym (id_ends facts p) ∙ ap (drop 10) same ∙ id_ends later q)
 
 pub grants_differ : GrantsDiffer
-grants_differ facts p q p_fits q_fits same = place_told p q p_fits q_fits (sym (grant_ends facts p) ∙ ap (drop 26) same ∙ grant_ends facts q)
+grants_differ facts later p q p_fits q_fits same = place_told p q p_fits q_fits (sym (grant_ends facts p) ∙ ap (drop 26) same ∙ grant_ends later q)
 
 pub house_kept_once : HouseIsKeptOnce
 house_kept_once facts history clock entry held is = kept_once history clock entry (held_laws facts history held).days is

@@ -9,7 +9,7 @@ use Rattle.kms_names.specs.declared.principals.Principal.{Principal}
 use Rattle.authority.specs.Setting.{callers_policies}
 use Rattle.authority.specs.Allowed.{AreIdentityPolicies, MayByPolicies}
 use Rattle.authority.specs.Facts.{request_of}
-use Rattle.authority.specs.KeyPolicy.{policy_in}
+use Rattle.key_policies.specs.KeyPolicy.{policy_in}
 use Rattle.kms_json.specs.declared.refusals.Refusal.{Refusal}
 use Rattle.kms_json.specs.declared.refusals.Refusal.TheVariants as refusal
 use Rattle.kms_json.specs.declared.asks.Ask.{Ask}
@@ -24,7 +24,7 @@ use Rattle.kms_json.specs.declared.replies.Reply.TheVariants as reply
 use Rattle.kms_json.specs.declared.replies.Reply.TheVariants.{Refused}
 use Rattle.kms_json.specs.declared.states.KeyState.TheVariants as told
 use Rattle.hmac_keys.specs.declared.kinds.KeyKind.TheVariants.{Symmetric}
-use Rattle.persist_map.specs.Pairs.{Ascends}
+use Rattle.persist_map.specs.Pairs.{Ascends, value_at}
 use Rattle.resource_tags.specs.declared.tags.Tag.{Tag}
 use Rattle.resource_tags.specs.Tags.{Tags, by_bytes}
 use Rattle.key_states.specs.declared.states.Stored.{Stored}
@@ -43,6 +43,7 @@ use Rattle.alias_map.specs.declared.rows.AliasRow.{AliasRow}
 use Rattle.grant_table.specs.declared.rows.GrantRow.{GrantRow}
 use Rattle.grant_table.specs.Grants.{grant_with}
 use Rattle.account_rows.specs.History.{State, replay, key_with, housekeeping_of}
+use Rattle.account_rows.specs.Laws.{IsLastGiven}
 use Rattle.account_steps.specs.View.{View, view_of, key_held}
 use Rattle.account_steps.specs.Steps.{unfit_algorithm, draws, key_if_given, other_key, alias_of, arn_of, newest_version}
 use Rattle.account_steps.specs.declared.checks.Named.{Named}
@@ -223,11 +224,11 @@ TimesNeverFall = (facts : RealmFacts) (history : List Entry) → Fitting.IsHeld 
 
 -- keys that entries at different places make have different ids
 abbrev pub KeysDiffer : Type 0
-KeysDiffer = (facts : RealmFacts) (p q : ℕ) → p < 2 ^ 48 → q < 2 ^ 48 → key_id_at facts p ≡ key_id_at facts q → p ≡ q
+KeysDiffer = (facts later : RealmFacts) (p q : ℕ) → p < 2 ^ 48 → q < 2 ^ 48 → key_id_at facts p ≡ key_id_at later q → p ≡ q
 
 -- and grants too
 abbrev pub GrantsDiffer : Type 0
-GrantsDiffer = (facts : RealmFacts) (p q : ℕ) → p < 2 ^ 48 → q < 2 ^ 48 → grant_id_at facts p ≡ grant_id_at facts q → p ≡ q
+GrantsDiffer = (facts later : RealmFacts) (p q : ℕ) → p < 2 ^ 48 → q < 2 ^ 48 → grant_id_at facts p ≡ grant_id_at later q → p ≡ q
 
 -- housekeeping that was kept at a clock's answer has nothing more to do at it
 abbrev pub HouseIsKeptOnce : Type 0
@@ -285,6 +286,12 @@ pub record AreTagsWhole (tags : Tags) : Type 0 where
 -- so it is of each key of every history
 abbrev pub TagsOfKeysAreWhole : Type 0
 TagsOfKeysAreWhole = (history : List Entry) → All (λ (row : KeyRow). AreTagsWhole row.tags) (replay history).keys
+
+-- each tag of a key that is there has what the last entry of the history gives it that names it
+abbrev pub TagsOfKeysAreTheLastGiven : Type 0
+TagsOfKeysAreTheLastGiven =
+    (facts : RealmFacts) (history : List Entry) (id : List ℕ) (row : KeyRow) (tag : List ℕ) → Fitting.IsHeld facts history
+    → key_with (replay history).keys id ≡ Some row → IsLastGiven history id tag (value_at by_bytes row.tags tag)
 
 -- ---- authority
 

@@ -2,7 +2,7 @@
 //! that an account holds: of a lawful one, and of one that was loaded and then went on. Those of sealed texts ask besides that
 //! the ids of keys have 16 bytes (`IsOpened`), as `histories_stay_opened` says that they do.
 
-ghost use Rattle.account_laws.specs.Laws.{SealedIsDecryptedAgain, EarlierBlobsAreDecrypted, OnePassRepeatsNoIv, PassesShareNoIv, BootsShareNoIv, TimesNeverFall, HouseIsKeptOnce, KeysDiffer, GrantsDiffer, PassesWhereStatementsAllow, PassesWithoutACeiling, NamesTheFirstDenied, AuthorityAsksTheseQuestions, GrantsPermit, DroppedGrantsStayAway, RowsStandInOrder, ListsOfHistoriesAreWhole, TagsOfKeysAreWhole, LawfulHistoriesAreOpened, NextEntriesKeepOpened};
+ghost use Rattle.account_laws.specs.Laws.{SealedIsDecryptedAgain, EarlierBlobsAreDecrypted, OnePassRepeatsNoIv, PassesShareNoIv, BootsShareNoIv, TimesNeverFall, HouseIsKeptOnce, KeysDiffer, GrantsDiffer, PassesWhereStatementsAllow, PassesWithoutACeiling, NamesTheFirstDenied, AuthorityAsksTheseQuestions, GrantsPermit, DroppedGrantsStayAway, RowsStandInOrder, ListsOfHistoriesAreWhole, TagsOfKeysAreWhole, TagsOfKeysAreTheLastGiven, LawfulHistoriesAreOpened, NextEntriesKeepOpened};
 ghost use Rattle.account_laws.specs.Macs.{MacsAreVerifiedAgain};
 ghost use Rattle.account_laws.specs.Tokens.{DeadTokensAreRefused};
 ghost use Rattle.account_steps.specs.View.{View};
@@ -69,12 +69,13 @@ pub fn house_is_kept_once()
     ensures { HouseIsKeptOnce }
 {}
 
-/// Keys that are made at different places of a history have different ids. A place is below 2^48.
+/// Keys that are made at different places of a history have different ids, also where a later run, of another boot number,
+/// made one of them. A place is below 2^48.
 pub fn keys_differ()
     ensures { KeysDiffer }
 {}
 
-/// Grants that are made at different places of a history have different ids. A place is below 2^48.
+/// Grants that are made at different places of a history have different ids, in the same way. A place is below 2^48.
 pub fn grants_differ()
     ensures { GrantsDiffer }
 {}
@@ -143,4 +144,10 @@ pub fn parts_make_the_whole()
     ensures in_order { (view : View) → PartsOfListsMakeTheWhole view }
     ensures lists { ListsOfHistoriesAreWhole }
     ensures tags { TagsOfKeysAreWhole }
+{}
+
+/// Each tag of a key has the value, or has none, as the last entry of the history says that names the tag: an entry that
+/// makes the key, gives it tags, or takes tags from it.
+pub fn tags_of_keys_are_the_last_given()
+    ensures { TagsOfKeysAreTheLastGiven }
 {}

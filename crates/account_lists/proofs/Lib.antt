@@ -1,2 +1,3 @@
+mod MarkerFacts
 pub mod PageFacts
 pub mod ListFacts

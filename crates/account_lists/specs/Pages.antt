@@ -1,8 +1,10 @@
 -- Parts of lists (AWS KMS API Reference, the members Limit, Marker, NextMarker and Truncated of ListKeys and its kin).
-use Rattle.std.specs.Prelude.{◌≡◌, ℕ, ◌<◌, ◌≤◌, List, ◌++◌, length, take, filter, nat_lt, if◌then◌else◌, Option, Some, None, option_map, Result, Ok, Err, AllPairs}
+use Rattle.std.specs.Prelude.{◌≡◌, ℕ, ◌^◌, ◌<◌, ◌≤◌, List, ◌++◌, length, take, filter, nat_lt, if◌then◌else◌, Option, Some, None, option_map, Result, Ok, Err, AllPairs}
 use Rattle.std.specs.List.{last_or}
 use Rattle.kms_names.specs.Digits.{number_in}
 use Rattle.kms_names.specs.Place.{is_behind}
+use Rattle.serde_json.specs.Data.{string}
+use Rattle.kms_json.specs.PageReplies.{marker_data}
 use Rattle.kms_json.specs.declared.refusals.Refusal.{Refusal}
 use Rattle.kms_json.specs.declared.refusals.Refusal.TheVariants as refusal
 
@@ -16,6 +18,10 @@ behind_place (Some place) = Ok (Some place)
 abbrev pub behind_marker : Option (List ℕ) → Result (Option ℕ) Refusal
 behind_marker None = Ok None
 behind_marker (Some text) = behind_place (number_in 18 text)
+
+-- a text that a reply tells as the marker of a place is read as that place
+abbrev pub MarkersReadBack : Type 0
+MarkersReadBack = (place : ℕ) (text : List ℕ) → place < 10 ^ 18 → marker_data place ≡ string text → behind_marker (Some text) ≡ Ok (Some place)
 
 -- ---- the part
 

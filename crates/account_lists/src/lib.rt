@@ -3,8 +3,10 @@
 //! Each is a `Request` of `account_steps`, whose `Parts` are a function of plain values.
 #![tactic(auto)]
 
+mod laws;
 mod listings;
 mod lists;
 mod pages;
 
+pub use laws::markers_read_back;
 pub use lists::{AccountList, KeyList, ListingAccount, ListingKey};

@@ -416,7 +416,7 @@ impl<'a> Request for ListingKey<'a> {
 
     fn questions<'q>(&'q self, found: &'q ListedOf<'a>) -> Questions<'q> {
         let said = of_key(self.view, found.row.row());
-        Asking::on_key(self.what.action(), &found.row, said).alone()
+        Questions::on_key(self.what.action(), &found.row, said)
     }
 
     fn tokens(&self) -> &[Text] {

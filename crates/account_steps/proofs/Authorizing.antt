@@ -8,12 +8,12 @@ use Rattle.kms_names.specs.GrantOps.{contains}
 use Rattle.kms_json.specs.declared.refusals.Refusal.{Refusal}
 use Rattle.kms_json.specs.declared.refusals.Refusal.TheVariants as refusal
 use Rattle.policy_doc.specs.declared.policies.Policy.{Policy}
-use Rattle.authority.specs.KeyPolicy.{policy_in}
+use Rattle.key_policies.specs.KeyPolicy.{policy_in}
 use Rattle.authority.specs.Setting.{Particulars, is_root}
 use Rattle.authority.specs.declared.standings.Standing.{Standing}
 use Rattle.authority.specs.Allowed.{standing_of, settled, AreIdentityPolicies}
 use Rattle.authority.proofs.LawFacts.{allowed_by}
-use Rattle.authority.proofs.KindFacts.{kind_of_text}
+use Rattle.key_policies.proofs.KindFacts.{kind_of_text}
 use Rattle.grant_table.specs.declared.rows.GrantRow.{GrantRow}
 use Rattle.grant_table.specs.Grants.{has_retiring, is_principal}
 use Rattle.grant_table.specs.Principals.{same_principal}

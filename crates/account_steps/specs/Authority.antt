@@ -11,7 +11,7 @@ use Rattle.kms_names.specs.declared.principals.Principal.{Principal}
 use Rattle.kms_json.specs.declared.refusals.Refusal.{Refusal}
 use Rattle.kms_json.specs.declared.refusals.Refusal.TheVariants as refusal
 use Rattle.policy_doc.specs.declared.policies.Policy.{Policy}
-use Rattle.authority.specs.KeyPolicy.{policy_in}
+use Rattle.key_policies.specs.KeyPolicy.{policy_in}
 use Rattle.authority.specs.Setting.{Setting, KindSaid, Particulars, GrantSaid, Asked, callers_policies, is_root, names_of}
 use Rattle.authority.specs.Facts.{request_of}
 use Rattle.authority.specs.Allowed.{is_allowed, May}

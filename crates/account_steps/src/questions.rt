@@ -110,6 +110,19 @@ impl<'a> Asking<'a> {
     }
 }
 
+impl<'q> Questions<'q> {
+    ghost use Rattle.std.specs.Prelude.{◌≡◌};
+    ghost use Rattle.account_steps.specs.declared.questions.Asking.TheVariants as asking;
+    ghost use Rattle.account_steps.specs.Authority.{alone};
+
+    /// Whether the caller may do this on a key, and nothing else.
+    pub fn on_key(action: Action, key: &'q Lent<'q>, said: Particulars<'q>) -> Questions<'q>
+        ensures { result ≡ alone (asking.OnKey action key.now said.entry) }
+    {
+        Asking::on_key(action, key, said).alone()
+    }
+}
+
 /// What a question asks of the grants of its key (AWS KMS Developer Guide, "Grants in AWS KMS").
 #[derive(Drop)]
 pub enum OfGrants {

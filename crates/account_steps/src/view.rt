@@ -13,9 +13,10 @@ use crate::questions::{Asking, OfGrants, Question, of_grants};
 use crate::stops::Stop;
 use account_rows::{Lent, Rows, is_gone};
 use alias_map::AliasMap;
-use authority::{KeyPolicy, Particulars, Setting, Standing};
+use authority::{Particulars, Setting, Standing};
 use enc_context::Context;
 use grant_table::{GrantRow, GrantTable, same_principal};
+use key_policies::KeyPolicy;
 use key_states::{KeyRow, State, StateFault, Stored, permits};
 use kms_json::{KeyState, Refusal};
 use kms_names::{

@@ -3,7 +3,7 @@ ghost use Rattle.account_tags.specs.Tagging.{lists_tags};
 
 use crate::pages::{behind_marker, part_of};
 use account_rows::Lent;
-use account_steps::{Asking, Questions, Reads, Request, Stop, Uses, View, of_key, only_key_of};
+use account_steps::{Questions, Reads, Request, Stop, Uses, View, of_key, only_key_of};
 use draw_lines::DrawLine;
 use kms_json::{Page, Reply};
 use kms_names::{Action, Bytes, NoMemory, Text};
@@ -39,7 +39,7 @@ impl<'a> Request for ListingTags<'a> {
 
     fn questions<'q>(&'q self, found: &'q Lent<'a>) -> Questions<'q> {
         let said = of_key(self.view, found.row());
-        Asking::on_key(Action::ListResourceTags, found, said).alone()
+        Questions::on_key(Action::ListResourceTags, found, said)
     }
 
     fn tokens(&self) -> &[Text] {

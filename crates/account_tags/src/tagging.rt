@@ -5,7 +5,7 @@ ghost use Rattle.account_tags.specs.Tagging.{too_many, has_some, tags_key, untag
 
 use account_rows::{Lent, What};
 use account_steps::{
-    Asking, Changes, Made, Questions, Request, Stop, View, improper, of_key, only_key_of, refuse,
+    Changes, Made, Questions, Request, Stop, View, improper, of_key, only_key_of, refuse,
 };
 use authority::Particulars;
 use kms_json::{Limit, Refusal, Reply};
@@ -58,7 +58,7 @@ impl<'a> Request for TaggingKey<'a> {
             request_tags: Some(self.tags),
             ..of_key(self.view, found.row())
         };
-        Asking::on_key(Action::TagResource, found, said).alone()
+        Questions::on_key(Action::TagResource, found, said)
     }
 
     fn tokens(&self) -> &[Text] {
@@ -135,7 +135,7 @@ impl<'a> Request for UntaggingKey<'a> {
             untagged: Some(self.keys),
             ..of_key(self.view, found.row())
         };
-        Asking::on_key(Action::UntagResource, found, said).alone()
+        Questions::on_key(Action::UntagResource, found, said)
     }
 
     fn tokens(&self) -> &[Text] {

@@ -31,7 +31,7 @@ use Rattle.policy_doc.specs.Callers.{principal_fault}
 use Rattle.policy_doc.specs.Documents.{first_fault}
 use Rattle.policy_doc.specs.Forms.{is_arn, is_unique_id, is_caller}
 use Rattle.policy_doc.specs.Paths.{member_path, item_path, fault_at}
-use Rattle.authority.specs.KeyPolicy.{value_fault, fault_in, default_front, default_back, default_text}
+use Rattle.key_policies.specs.KeyPolicy.{value_fault, fault_in, default_front, default_back, default_text}
 
 -- ---- its text
 

@@ -31,7 +31,7 @@ use Rattle.kms_names.proofs.PrincipalReading.{principal_reads}
 use Rattle.kms_names.proofs.ReadingFacts.{alias_decides}
 use Rattle.kms_names.proofs.ReferenceReading.{key_ref_reads}
 use Rattle.policy_doc.specs.declared.faults.PolicyFault.{PolicyFault}
-use Rattle.authority.specs.KeyPolicy.{fault_in}
+use Rattle.key_policies.specs.KeyPolicy.{fault_in}
 use Rattle.enc_context.specs.declared.pairs.Pair.{Pair}
 use Rattle.enc_context.specs.Encoding.{encoding_of}
 use Rattle.hmac_keys.specs.declared.kinds.KeyKind.{KeyKind}

@@ -1,5 +1,5 @@
 // The first and the last line of a journal.
-ghost use Rattle.std.specs.Prelude.{◌≡◌, ◌++◌, IfOk, OnOk, option_map};
+ghost use Rattle.std.specs.Prelude.{◌≡◌, ◌++◌, IfOk, OnOk, OnErr, option_map};
 ghost use Rattle.journal_lines.specs.Frames.{behind, if_boot, boot_behind, head_in, seal_in, seal_alone, seal_behind, end_in};
 ghost use Rattle.journal_lines.specs.FrameLines.{head_front, head_line, end_line};
 
@@ -68,17 +68,27 @@ pub fn head_in<'a>(
     Ok(boot_behind(front.as_slice(), text))
 }
 
-/// Writes a last line behind what stands in a buffer.
-pub fn append_end(text: &mut Vec<u8>, number: u64, seal: &[u8; 32]) -> Result<(), NoMemory>
-    ensures { OnOk result (text.new.items ≡ text.old.items ++ end_line number seal.now) }
+// A last line, with its line feed.
+fn end_line(alloc: Global, number: u64, seal: &[u8; 32]) -> Result<Vec<u8>, NoMemory>
+    ensures { IfOk result (λ line. line.items ≡ end_line number seal.now) }
 {
-    text.extend_from_slice(b"end ")?;
-    append_number(text, number)?;
-    text.push(b' ')?;
+    let mut line = Vec::from_slice(alloc, b"end ")?;
+    append_number(&mut line, number)?;
+    line.push(b' ')?;
     let mut room = [0u8; 64];
     let _ = hex::encode_to_slice(seal.as_slice(), &mut room);
-    text.extend_from_slice(room.as_slice())?;
-    text.push(b'\n')?;
+    line.extend_from_slice(room.as_slice())?;
+    line.push(b'\n')?;
+    Ok(line)
+}
+
+/// Writes a last line behind what stands in a buffer. Where memory is refused, that stands there alone.
+pub fn append_end(text: &mut Vec<u8>, number: u64, seal: &[u8; 32]) -> Result<(), NoMemory>
+    ensures ok { OnOk result (text.new.items ≡ text.old.items ++ end_line number seal.now) }
+    ensures refused { OnErr result (text.new.items ≡ text.old.items) }
+{
+    let line = end_line(*text.allocator(), number, seal)?;
+    text.extend_from_slice(line.as_slice())?;
     Ok(())
 }
 

@@ -2,3 +2,4 @@ pub mod PassLemmas
 pub mod Meeting
 pub mod OwnPlaces
 mod Lookups
+mod Agreeing

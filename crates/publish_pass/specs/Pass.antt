@@ -61,6 +61,10 @@ MadeAllIfAlone s = s.passes ≡ 1 → MadeAll s
 abbrev pub KnewAllIfAlone : Pass → Pass → Type 0
 KnewAllIfAlone s met = s.passes ≡ 1 → met ≡ s
 
+-- of two histories one begins with all of the other
+abbrev pub Agree : List (Entry × ℕ) → List (Entry × ℕ) → Type 0
+Agree one other = IsPrefix one other ⊎ IsPrefix other one
+
 -- the pass at other places
 abbrev pub at_places : Pass → Places → Pass
 at_places s places = record s { places = places }

@@ -6,7 +6,7 @@ ghost use Rattle.account_steps.specs.History.{housekeeping_of};
 ghost use Rattle.account_steps.specs.Places.{first_line};
 ghost use Rattle.published_account.specs.Growing.{IsLongerOf};
 ghost use Rattle.published_account.specs.Pairs.{IsHistory, entries_of, loaded_pairs};
-ghost use Rattle.publish_pass.specs.Pass.{fresh_pass, ArePlaces, Learns, AnswersRead, LacksRead, GivesAccount, LacksAccount};
+ghost use Rattle.publish_pass.specs.Pass.{fresh_pass, Agree, ArePlaces, Learns, AnswersRead, LacksRead, GivesAccount, LacksAccount};
 
 use crate::told::Told;
 use account_core::Account;
@@ -170,6 +170,14 @@ impl<R: Realm> Pass<R> {
         ensures learns { Learns self.old self.new }
     {
         self.learn_prefix(told.prefix());
+    }
+
+    /// Of what two passes of one service have seen, whenever that is asked, one begins with all of the other: there is one
+    /// history. Nothing is done, and no memory taken.
+    pub fn agrees(&self, other: &Pass<R>)
+        ensures { Agree self.now.history other.now.history }
+    {
+        self.tell().agrees(&other.tell());
     }
 
     // Its number, one of those of the passes.

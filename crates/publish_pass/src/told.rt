@@ -2,6 +2,7 @@
 ghost use Rattle.std.specs.Prelude.{◌≡◌, length};
 ghost use Rattle.published_account.specs.Growing.{IsLongerOf};
 ghost use Rattle.published_account.specs.Pairs.{IsHistory};
+ghost use Rattle.publish_pass.specs.Pass.{Agree};
 
 use published_account::{Prefix, Realm};
 use std::marker::Model;
@@ -40,6 +41,15 @@ impl<R: Realm> Told<R> {
         ensures { IsLongerOf self.old other.now self.new }
     {
         self.prefix.learn(&other.prefix);
+    }
+
+    /// Of two histories that passes of one service told, at whatever moments, one begins with all of the other: there is one
+    /// history. Nothing is done, and no memory taken.
+    pub fn agrees(&self, other: &Told<R>)
+        ensures { Agree self.now other.now }
+    {
+        let mut longer = self.prefix.again();
+        longer.learn(&other.prefix);
     }
 
     /// The number of entries that are told. Each of them is one that may come next after those before it.

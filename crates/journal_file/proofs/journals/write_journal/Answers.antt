@@ -15,4 +15,4 @@ returns c =
     let text = written c.loop-place.text.items before history c.loop-place.place past c.loop-place.invariant in
     let root = ap (λ (f : RealmFacts). f.root) c.facts-facts.ensures in
     let seal = c.seal_of-seal.ensures ∙ ap₂ seal_of root (c.as_slice.ensures.value ∙ text) in
-    c.new.ensures ∙ c.in_ok-append_end.ensures ∙ ap₂ (λ (t e : List ℕ). t ++ e) text (ap₂ end_line c.entries.ensures.number seal)
+    c.new.ensures ∙ c.in_ok-append_end.ensures.ok ∙ ap₂ (λ (t e : List ℕ). t ++ e) text (ap₂ end_line c.entries.ensures.number seal)
