@@ -158,10 +158,12 @@ def lay_quick_kit(folder):
 
 def compile_as(kind, path):
     """Compiles the program without proof, as a build of this kind."""
+    if kind == QUICK and (found := kit_name()) != QUICK_KIT:
+        raise Failure(f"that was tried with {QUICK_KIT}, and here is {found}")
+    tell(f"compiles kms_local without proof, once, in some two minutes: what that makes is {KINDS[kind]}. (--proved proves and builds it, which "
+         "takes hours.)")
     if kind == CHECKED:
         compile_to(path, kit() / "bin" / "rt")
-    elif (found := kit_name()) != QUICK_KIT:
-        raise Failure(f"it was tried with {QUICK_KIT}, and here is {found}")
     else:
         with tempfile.TemporaryDirectory() as folder:
             lay_quick_kit(pathlib.Path(folder))
@@ -171,8 +173,6 @@ def compile_as(kind, path):
 def compiled(name, kinds):
     """A build of the first of these kinds that can be made."""
     for kind in kinds:
-        tell(f"compiles kms_local without proof, once, in some two minutes: what that makes is {KINDS[kind]}. (--proved proves and builds it, "
-             "which takes hours.)")
         begin = time.monotonic()
         try:
             compile_as(kind, UNPROVED / f"{kind}-{name}")

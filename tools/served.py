@@ -143,6 +143,23 @@ def serving_words(parser):
     parser.add_argument("--program", default=PROGRAM, metavar="PATH", help="the program that serves")
 
 
+def option(words, name, default=None):
+    """The value of an option among the words of `serve`, and the words without it."""
+    for at, word in enumerate(words):
+        if word == name and at + 1 < len(words):
+            return words[at + 1], words[:at] + words[at + 2:]
+        if word.startswith(f"{name}="):
+            return word[len(name) + 1:], words[:at] + words[at + 1:]
+    return default, words
+
+
+def address(listen):
+    """An address to listen on, where it names a port."""
+    if not re.fullmatch(r".+:[0-9]+", listen):
+        raise Failure(f"--listen {listen} names no port, as {HOST}:8080 does")
+    return listen
+
+
 def run(script):
     """Runs the main function of a script, isolated."""
     isolate()
