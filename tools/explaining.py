@@ -47,6 +47,13 @@ def asked(program, config, journal, caller, request):
     return said
 
 
+def of_account(account, name, operation, members):
+    """What `explain` says of a request to an account, by a caller's access key or ARN. Its server is ended for that."""
+    body = {key: base64.b64encode(value).decode() if isinstance(value, bytes) else value for key, value in members.items()}
+    request = message(operation, body)
+    return json.loads(asked(account.program, account.config, account.journal(), account.caller(name)["principal"], request))
+
+
 def text_in(entry, name):
     """A text of an entry of a journal."""
     return base64.b64decode(entry[name]).decode()
