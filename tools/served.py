@@ -28,7 +28,7 @@ from built import CONFIG, PROGRAM, Failure
 HOST = "127.0.0.1"
 REGION = "us-east-1"  # of examples/config.json
 CLOSING = re.compile(r"^served (\d+) front (\d+)$", re.MULTILINE)
-START_SECONDS = 30
+START_SECONDS = 120  # a journal of 1,000,000 entries is loaded in 40
 END_SECONDS = 60
 
 
