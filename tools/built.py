@@ -49,29 +49,34 @@ def tell(line):
     print(f"{os.path.basename(sys.argv[0])}: {line}", file=sys.stderr, flush=True)
 
 
-def kit():
-    """The folder of the Rattle kit."""
+def reason(error):
+    """What an error of the system says, in words."""
+    return f"{error.filename}: {error.strerror}" if error.filename else str(error)
+
+
+def rt():
+    """The command of the Rattle kit."""
     found = shutil.which("rt")
     if not found:
         raise Failure("rt is missing, the command of the Rattle kit")
-    return pathlib.Path(found).resolve().parent.parent
+    return found
 
 
 def kit_name():
     """Which Rattle kit that is."""
-    return subprocess.run([kit() / "bin" / "rt", "version"], capture_output=True, text=True).stdout.strip() or "another kit"
+    return subprocess.run([rt(), "version"], capture_output=True, text=True).stdout.strip()
 
 
-def started(rt, words, **how):
+def started(command, words, **how):
     """A process of `rt` in the program's crate."""
-    return subprocess.Popen([rt, *words], cwd=CRATE, stdin=subprocess.DEVNULL, **how)
+    return subprocess.Popen([command, *words], cwd=CRATE, stdin=subprocess.DEVNULL, **how)
 
 
 def prove():
     """Proves and builds the program, where that isn't done, with the toolchain's progress on standard error."""
     tell("proves and builds kms_local and the crates below it")
     begin = time.monotonic()
-    status = started(kit() / "bin" / "rt", ["run", "--", "check", "--config", CONFIG], stdout=sys.stderr).wait()
+    status = started(rt(), ["run", "--", "check", "--config", CONFIG], stdout=sys.stderr).wait()
     if status:
         raise Failure(f"kms_local wasn't proved and built: status {status}")
     tell(f"proved and built in {time.monotonic() - begin:.0f} s")
@@ -118,14 +123,14 @@ def copy_running(process, words, to):
     return False
 
 
-def compile_to(path, rt):
+def compile_to(path, command):
     """Compiles the program without proof. `rt try` keeps no program, but runs it: it is copied while it waits for a connection."""
     words = ["serve", "--config", "config.json", "--listen", "127.0.0.1:0"]
     limits = ["--steps", "1000", "--seconds", "60"]
     part = path.with_suffix(".part")
     with tempfile.TemporaryFile("w+") as said:
         how = {"stdout": said, "stderr": subprocess.STDOUT, "start_new_session": True}  # so that Ctrl-C comes to it once, by this script
-        process = started(rt, ["try", *limits, "--data", f"config.json={CONFIG}", "--", *words], **how)
+        process = started(command, ["try", *limits, "--data", f"config.json={CONFIG}", "--", *words], **how)
         try:
             if not copy_running(process, words, part):
                 if process.poll() is None:
@@ -143,15 +148,16 @@ def compile_to(path, rt):
 def lay_quick_kit(folder):
     """The kit once more in a folder, as links, but for its clang, its AddressSanitizer, which is empty, and `rattle`, which would read all names
     once more."""
+    kit = pathlib.Path(rt()).resolve().parent.parent
     for room in ["bin", "c", "toolchain/bin"]:
         (folder / room).mkdir(parents=True)
     for name in ["rt", "rtlib.py"]:  # which look for the rest of the kit where they stand
-        shutil.copy(kit() / "bin" / name, folder / "bin")
+        shutil.copy(kit / "bin" / name, folder / "bin")
     (folder / "bin" / "rattle").symlink_to(shutil.which("true"))
     (folder / "c" / "asan.a").write_text("!<arch>\n", encoding="ascii")
     (folder / "toolchain" / "bin" / "clang").symlink_to(TOP / "tools" / "quick_clang")
     for room in ["", "bin", "c", "toolchain", "toolchain/bin"]:
-        for path in (kit() / room).iterdir():
+        for path in (kit / room).iterdir():
             if not (folder / room / path.name).exists():
                 (folder / room / path.name).symlink_to(path)
 
@@ -159,11 +165,11 @@ def lay_quick_kit(folder):
 def compile_as(kind, path):
     """Compiles the program without proof, as a build of this kind."""
     if kind == QUICK and (found := kit_name()) != QUICK_KIT:
-        raise Failure(f"that was tried with {QUICK_KIT}, and here is {found}")
+        raise Failure(f"that was tried with {QUICK_KIT}, and here is {found or 'another kit'}")
     tell(f"compiles kms_local without proof, once, in some two minutes: what that makes is {KINDS[kind]}. (--proved proves and builds it, which "
          "takes hours.)")
     if kind == CHECKED:
-        compile_to(path, kit() / "bin" / "rt")
+        compile_to(path, rt())
     else:
         with tempfile.TemporaryDirectory() as folder:
             lay_quick_kit(pathlib.Path(folder))
@@ -176,7 +182,7 @@ def compiled(name, kinds):
         begin = time.monotonic()
         try:
             compile_as(kind, UNPROVED / f"{kind}-{name}")
-        except Failure as failure:
+        except (Failure, OSError) as failure:
             if kind == kinds[-1] or isinstance(failure, TooLong):
                 raise
             tell(f"no {kind} build is made: {failure}")
@@ -209,7 +215,7 @@ def unproved(*kinds):
             fcntl.flock(lock, fcntl.LOCK_EX)
             return str(standing(name, kinds) or compiled(name, kinds))
     except OSError as error:
-        raise Failure(f"kms_local can't be compiled: {error.filename}: {error.strerror}") from None
+        raise Failure(f"kms_local can't be compiled: {reason(error)}") from None
 
 
 def chosen(proved=False, program=PROGRAM):

@@ -2,8 +2,8 @@
 its marks stand for.
 
     line = explaining.asked(program, config, journal, "arn:aws:iam::111122223333:user/ann", explaining.message("ListKeys", {}))
-    print(explaining.table(line, explaining.documents(config, journal, caller, question)))
-"""
+
+With an account of served.py there is `explaining.of_account`."""
 
 import base64
 import json
