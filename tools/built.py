@@ -1,14 +1,20 @@
 #!/usr/bin/env -S python3 -B
 """Which kms_local a script runs.
 
-    tools/built.py [--proved]
+    tools/built.py [--proved | --quick | --program PATH]
 
 prints the path of the proved build where one stands, and else that of the same code, compiled without proof. That is compiled once for the
 sources as they are, and stays in crates/kms_local/out/unproved until a later one takes its place. With --proved the program is proved and
-built first. It needs Python and Linux, and `rt` where nothing that serves stands yet."""
+built first; with --quick the path is that of the quick build below, also where a proved one stands. It needs Python and Linux, and `rt`
+where nothing that serves stands yet.
+
+Two builds have no proof. The quick one is compiled by `rt try` of a kit of links, whose clang is tools/quick_clang: nothing is checked as it
+runs. It is made where the kit is the one that this was tried with. Else, or where that fails, there is the build of `rt try` itself, which
+checks memory as it runs and is many times slower. Of several calls one compiles, and the others wait for what it makes."""
 
 import argparse
 import datetime
+import fcntl
 import hashlib
 import os
 import pathlib
@@ -24,11 +30,18 @@ CONFIG = str(TOP / "examples" / "config.json")
 CRATE = TOP / "crates" / "kms_local"
 PROGRAM = str(CRATE / "out" / "kms_local")
 UNPROVED = CRATE / "out" / "unproved"
-COMPILE_SECONDS = 900
+COMPILE_SECONDS = 3600
+QUICK_KIT = "rattle-kit-13f logic dac8208d650f15bf"  # the kit that tools/quick_clang was tried with
+QUICK, CHECKED = "quick", "checked"
+KINDS = {QUICK: "neither proved nor checked as it runs", CHECKED: "not proved; it checks memory as it runs, and is many times slower"}
 
 
 class Failure(Exception):
     """What went wrong, in words."""
+
+
+class TooLong(Failure):
+    """A compiler that isn't done in time."""
 
 
 def tell(line):
@@ -36,28 +49,43 @@ def tell(line):
     print(f"{os.path.basename(sys.argv[0])}: {line}", file=sys.stderr, flush=True)
 
 
-def started(words, **how):
+def reason(error):
+    """What an error of the system says, in words."""
+    return f"{error.filename}: {error.strerror}" if error.filename else str(error)
+
+
+def rt():
+    """The command of the Rattle kit."""
+    found = shutil.which("rt")
+    if not found:
+        raise Failure("rt is missing, the command of the Rattle kit")
+    return found
+
+
+def kit_name():
+    """Which Rattle kit that is."""
+    return subprocess.run([rt(), "version"], capture_output=True, text=True).stdout.strip()
+
+
+def started(command, words, **how):
     """A process of `rt` in the program's crate."""
-    try:
-        return subprocess.Popen(["rt", *words], cwd=CRATE, stdin=subprocess.DEVNULL, **how)
-    except FileNotFoundError:
-        raise Failure("rt is missing, the command of the Rattle kit") from None
+    return subprocess.Popen([command, *words], cwd=CRATE, stdin=subprocess.DEVNULL, **how)
 
 
 def prove():
     """Proves and builds the program, where that isn't done, with the toolchain's progress on standard error."""
     tell("proves and builds kms_local and the crates below it")
     begin = time.monotonic()
-    status = started(["run", "--", "check", "--config", CONFIG], stdout=sys.stderr).wait()
+    status = started(rt(), ["run", "--", "check", "--config", CONFIG], stdout=sys.stderr).wait()
     if status:
         raise Failure(f"kms_local wasn't proved and built: status {status}")
     tell(f"proved and built in {time.monotonic() - begin:.0f} s")
 
 
 def sum_of_sources():
-    """A checksum of all that is compiled."""
+    """A checksum of all that is compiled, and of how."""
     total = hashlib.sha256()
-    for path in [TOP / "crates.txt", *sorted((TOP / "crates").glob("*/src/**/*.rt"))]:
+    for path in [TOP / "crates.txt", TOP / "tools" / "quick_clang", *sorted((TOP / "crates").glob("*/src/**/*.rt"))]:
         text = path.read_bytes()
         total.update(f"{path.relative_to(TOP)} {len(text)}\n".encode() + text)
     return total.hexdigest()
@@ -95,18 +123,20 @@ def copy_running(process, words, to):
     return False
 
 
-def compile_to(path):
+def compile_to(path, command):
     """Compiles the program without proof. `rt try` keeps no program, but runs it: it is copied while it waits for a connection."""
     words = ["serve", "--config", "config.json", "--listen", "127.0.0.1:0"]
     limits = ["--steps", "1000", "--seconds", "60"]
-    part = path.with_suffix(f".{os.getpid()}")
+    part = path.with_suffix(".part")
     with tempfile.TemporaryFile("w+") as said:
         how = {"stdout": said, "stderr": subprocess.STDOUT, "start_new_session": True}  # so that Ctrl-C comes to it once, by this script
-        process = started(["try", *limits, "--data", f"config.json={CONFIG}", "--", *words], **how)
+        process = started(command, ["try", *limits, "--data", f"config.json={CONFIG}", "--", *words], **how)
         try:
             if not copy_running(process, words, part):
+                if process.poll() is None:
+                    raise TooLong(f"kms_local isn't compiled after {COMPILE_SECONDS} s, the limit of tools/built.py. A second call begins anew")
                 said.seek(0)
-                raise Failure(f"kms_local wasn't compiled: {said.read()}")
+                raise Failure(f"kms_local wasn't compiled: {said.read().strip()}")
             part.chmod(0o755)
             part.replace(path)
         finally:
@@ -115,22 +145,77 @@ def compile_to(path):
             process.wait()
 
 
-def unproved():
-    """The program, compiled without proof from the sources as they are."""
-    path = UNPROVED / f"kms_local-{sum_of_sources()[:16]}"
-    if path.exists():
-        tell(f"no proved build stands here: runs the same code, compiled without proof, {os.path.relpath(path)}")
+def lay_quick_kit(folder):
+    """The kit once more in a folder, as links, but for its clang, its AddressSanitizer, which is empty, and `rattle`, which would read all names
+    once more."""
+    kit = pathlib.Path(rt()).resolve().parent.parent
+    for room in ["bin", "c", "toolchain/bin"]:
+        (folder / room).mkdir(parents=True)
+    for name in ["rt", "rtlib.py"]:  # which look for the rest of the kit where they stand
+        shutil.copy(kit / "bin" / name, folder / "bin")
+    (folder / "bin" / "rattle").symlink_to(shutil.which("true"))
+    (folder / "c" / "asan.a").write_text("!<arch>\n", encoding="ascii")
+    (folder / "toolchain" / "bin" / "clang").symlink_to(TOP / "tools" / "quick_clang")
+    for room in ["", "bin", "c", "toolchain", "toolchain/bin"]:
+        for path in (kit / room).iterdir():
+            if not (folder / room / path.name).exists():
+                (folder / room / path.name).symlink_to(path)
+
+
+def compile_as(kind, path):
+    """Compiles the program without proof, as a build of this kind."""
+    if kind == QUICK and (found := kit_name()) != QUICK_KIT:
+        raise Failure(f"that was tried with {QUICK_KIT}, and here is {found or 'another kit'}")
+    tell(f"compiles kms_local without proof, once, in some two minutes: what that makes is {KINDS[kind]}. (--proved proves and builds it, which "
+         "takes hours.)")
+    if kind == CHECKED:
+        compile_to(path, rt())
+    else:
+        with tempfile.TemporaryDirectory() as folder:
+            lay_quick_kit(pathlib.Path(folder))
+            compile_to(path, f"{folder}/bin/rt")
+
+
+def compiled(name, kinds):
+    """A build of the first of these kinds that can be made."""
+    for kind in kinds:
+        begin = time.monotonic()
+        try:
+            compile_as(kind, UNPROVED / f"{kind}-{name}")
+        except (Failure, OSError) as failure:
+            if kind == kinds[-1] or isinstance(failure, TooLong):
+                raise
+            tell(f"no {kind} build is made: {failure}")
+            continue
+        for older in UNPROVED.glob("*-*"):
+            if not older.name.endswith(name):
+                older.unlink()
+        tell(f"compiled in {time.monotonic() - begin:.0f} s")
+        return UNPROVED / f"{kind}-{name}"
+
+
+def standing(name, kinds):
+    """A build of one of these kinds that stands."""
+    for kind in kinds:
+        path = UNPROVED / f"{kind}-{name}"
+        if path.exists():
+            tell(f"runs kms_local as it was compiled without proof, {os.path.relpath(path)}: {KINDS[kind]}")
+            return path
+    return None
+
+
+def unproved(*kinds):
+    """The program, compiled without proof from the sources as they are, by one process at a time."""
+    name = sum_of_sources()[:16]
+    if path := standing(name, kinds):
         return str(path)
-    tell("no proved build stands here, so the same code is compiled without proof: that takes some minutes, once, and what it makes "
-         "checks memory as it runs and is many times slower. With --proved it is proved and built first, which takes many minutes")
-    UNPROVED.mkdir(parents=True, exist_ok=True)
-    begin = time.monotonic()
-    compile_to(path)
-    for older in UNPROVED.iterdir():
-        if older != path:
-            older.unlink(missing_ok=True)
-    tell(f"compiled without proof in {time.monotonic() - begin:.0f} s")
-    return str(path)
+    try:
+        UNPROVED.mkdir(parents=True, exist_ok=True)
+        with open(UNPROVED / "lock", "w", encoding="ascii") as lock:
+            fcntl.flock(lock, fcntl.LOCK_EX)
+            return str(standing(name, kinds) or compiled(name, kinds))
+    except OSError as error:
+        raise Failure(f"kms_local can't be compiled: {reason(error)}") from None
 
 
 def chosen(proved=False, program=PROGRAM):
@@ -144,7 +229,7 @@ def chosen(proved=False, program=PROGRAM):
         return program
     if program != PROGRAM:
         raise Failure(f"{program} isn't there")
-    return unproved()
+    return unproved(QUICK, CHECKED)
 
 
 def run(script):
@@ -160,8 +245,12 @@ def run(script):
 
 def main():
     parser = argparse.ArgumentParser(description=__doc__, formatter_class=argparse.RawDescriptionHelpFormatter)
-    parser.add_argument("--proved", action="store_true", help="prove and build the program first")
-    print(chosen(parser.parse_args().proved))
+    which = parser.add_mutually_exclusive_group()
+    which.add_argument("--proved", action="store_true", help="prove and build the program first")
+    which.add_argument("--quick", action="store_true", help="the quick build without proof, also where a proved one stands")
+    which.add_argument("--program", default=PROGRAM, metavar="PATH", help="this program")
+    words = parser.parse_args()
+    print(unproved(QUICK) if words.quick else chosen(words.proved, words.program))
 
 
 if __name__ == "__main__":
