@@ -125,7 +125,8 @@ where
 /// Does all that the program does, and gives its status.
 ///
 /// The words are one of these, with the options in any order, each `--name value` or `--name=value` and
-/// at most once. Each begins with an empty history.
+/// at most once. Each begins with no entries, or with those of the journal that `--load FILE` names, which
+/// `run`, `explain`, `export` and `serve` take.
 ///
 /// * `run --account A --region R --root HEX --as ARN`, and perhaps `--boot N` (1): one session is served on
 ///   the link, with the first clock. Whoever sends a message counts as the principal of the ARN.
@@ -134,23 +135,26 @@ where
 /// * `explain` with the options of one of these two: the same messages are read and decided on, and each has
 ///   one line in place of its reply: whether it is allowed, by which ground and with which marks of the statements and
 ///   the grants that were asked, and the exception of the reply that it would have, or `Ok`.
+/// * `export` with the options of `run`: the session is served with its replies kept back, and the journal of
+///   the account that it leaves is written in their place.
 /// * `check --config FILE`: writes how many credentials and how many principals with policies the file
 ///   has.
 /// * `serve --config FILE --listen ADDRESS`, and perhaps `--workers W` (1 to 64, else 4) and
 ///   `--connections K` (1 to 1,000,000,000, else as many): the door is opened once, at the address, and W
 ///   workers take K connections each, one after another, with the first W clocks. Messages are signed. In
-///   the end a line tells how many connections were taken, and the most entries that a pass holds.
+///   the end a line tells how many connections were taken, and the most entries that a pass holds; with
+///   `--export` the journal of the account follows it.
 /// * `load --seed N --requests M` (M from 1 to 100,000): the workload of the seed is served in memory, and
 ///   five lines sum it up.
 ///
-/// Status 2 is for other words (a usage line is written); 3 for a configuration that is refused, or the
-/// first value of `run` that has not its form (a line names the path, or `/` and the option); 4 for
-/// input that ended inside a message; 5 for a read that failed, of the link or of the file, for a door that
+/// Status 2 is for other words (a usage line is written); 3 for a configuration that is refused, the
+/// first value of `run` that has not its form, or a journal that is refused (a line names the path, `/` and
+/// the option, or `/load` and the line); 4 for input that ended inside a message; 5 for a read that failed, of the link or of the file, for a door that
 /// couldn't be opened, and where the ear of a worker failed 16 times in a row; 6 for a write that failed; 7
 /// for want of memory (of `run` with nothing taken; of `explain` also where it is wanting for a line, after the lines
 /// before it); and 0 otherwise. Where the line of status 2, 3 or 5
-/// can't be written whole the status stays. The files are asked for the file of `--config` alone, once, and
-/// the door is opened by `serve` alone.
+/// can't be written whole the status stays. The files are asked for the file of `--config` and then for that of
+/// `--load` alone, each once, and the door is opened by `serve` alone.
 ///
 /// Where no count of faults rises and the link has only whole messages to give, or some up to one that closes, `run` answers each
 /// of them, once and in order, writes nothing else, and ends with status 0; so `explain` writes one line for each; `check` and `load` write their lines whole, with status

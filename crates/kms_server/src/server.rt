@@ -174,9 +174,10 @@ where
 /// one can be had. The conditions are 1 to 64 workers, at most 1,000,000,000 connections each, 64 clocks, and
 /// that whoever may be the caller is of the account.
 ///
-/// A worker whose ear fails 16 times in a row takes no more. After the last worker is done every pass learns
-/// the whole history, the account is kept where that is wanted, the ears go back to the door and the clocks to
-/// their places. `Shut` comes only where the door failed, and `NoMemory` only before anybody worked.
+/// A worker whose ear fails 16 times in a row takes no more. After the last worker is done the first pass learns
+/// what all others hold, so that its history is the longest; the account at it is kept where that is wanted. Then the
+/// ears go back to the door and the clocks to their places. `Shut` comes only where the door failed, and `NoMemory`
+/// only before anybody worked.
 pub fn serve<W: Threads + Wait + Sync, C: Clock + Send + Drop, D: Door, G: Gate + Sync>(
     rt: &W,
     alloc: Global,
