@@ -45,7 +45,7 @@ split_at (x ∷ history) last (y ∷ front) entry more e =
       | inr found ↦ inr (found.0, ap₂ (λ (z : Entry) (h : List Entry). z ∷ h) parts.0 found.1)
     ]
 
-fits_at : (facts : RealmFacts) (whole : List Entry) → IsSound facts whole → (front : List Entry) (entry : Entry) (more : List Entry) → whole ≡ front ++ entry ∷ more → Fits facts front entry
+pub fits_at : (facts : RealmFacts) (whole : List Entry) → IsSound facts whole → (front : List Entry) (entry : Entry) (more : List Entry) → whole ≡ front ++ entry ∷ more → Fits facts front entry
 fits_at facts _ IsSound.nothing front entry more e = absurd (nothing_there front entry more e)
 fits_at facts _ (IsSound.one_more {history} last sound fits) front entry more e = elim (split_at history last front entry more e) [
   | inl done ↦ subst (λ (x : Entry). Fits facts front x) done.1 (subst (λ (h : List Entry). Fits facts h last) done.0 fits)

@@ -77,4 +77,4 @@ module _ (facts : RealmFacts) (boot : ℕ) (text : List ℕ) (account : Account)
   end_fault fault (IsEndFault.followed some_more) = IsFaultBehind.goes_on number seal (more some_more) end
   end_fault fault (IsEndFault.wrong none other) = IsFaultBehind.wrong_end number seal (alone none) end (λ counted sealed. other counted (sealed ∙ sym is_right))
   end_fault fault (IsEndFault.old none counted sealed low) =
-      IsFaultBehind.old_boot so_far.sound (whole none counted sealed) (subst (λ (f : RealmFacts). f.boot ≤ boot) so_far.same low)
+      IsFaultBehind.old_boot so_far.sound so_far.read (whole none counted sealed) (subst (λ (f : RealmFacts). f.boot ≤ boot) so_far.same low)

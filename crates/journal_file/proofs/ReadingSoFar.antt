@@ -15,7 +15,6 @@ use Rattle.journal_lines.specs.FrameLines.{head_line, IsEnd}
 use Rattle.journal_file.specs.Journal.{entries_text, before_end}
 use Rattle.journal_lines.specs.LineReading.{entry_of}
 use Rattle.journal_file.specs.Faults.{IsLeft, IsFaultBehind, IsWithLine, IsReadBack}
-use Rattle.journal_lines.specs.Forms.{IsEntry}
 use Rattle.journal_file.specs.declared.faults.JournalFault.TheVariants.{At}
 use Rattle.journal_lines.proofs.CutFacts.{next_line, cut_whole}
 
@@ -29,11 +28,11 @@ pub record IsSoFar (facts : RealmFacts) (boot : ℕ) (text : List ℕ) (account 
   pub few : length account.entries + length rest ≤ length text
   pub holds : IsMac mac facts.root (codes "journal" ++ before_end facts.account facts.region boot account.entries)
 
-map-append : (history more : List Entry) → map entry_line (history ++ more) ≡ map entry_line history ++ map entry_line more
+pub map-append : (history more : List Entry) → map entry_line (history ++ more) ≡ map entry_line history ++ map entry_line more
 map-append [] more = refl
 map-append (entry ∷ history) more = ap (λ (lines : List (List ℕ)). entry_line entry ∷ lines) (map-append history more)
 
-texts-append : (history more : List Entry) → entries_text (history ++ more) ≡ entries_text history ++ entries_text more
+pub texts-append : (history more : List Entry) → entries_text (history ++ more) ≡ entries_text history ++ entries_text more
 texts-append [] more = refl
 texts-append (entry ∷ history) more =
     ap (λ (text : List ℕ). entry_line entry ++ text) (texts-append history more) ∙ sym (append_assoc (entry_line entry) (entries_text history) (entries_text more))
@@ -62,16 +61,16 @@ module _ (facts : RealmFacts) (boot : ℕ) (text : List ℕ) where
   pub early : (account : Account) (mac : Mac) (rest : List ℕ) → IsSoFar facts boot text account mac rest → length rest ≡ 0
       → IsFaultBehind facts boot text (At (length account.entries + 2))
   early account mac rest so_far none =
-      IsFaultBehind.ends_early (record { are = so_far.lines ∙ ap (λ (lines : List (List ℕ)). map entry_line account.entries ++ lines) (left_none rest none); sound = so_far.sound })
+      IsFaultBehind.ends_early (record { are = so_far.lines ∙ ap (λ (lines : List (List ℕ)). map entry_line account.entries ++ lines) (left_none rest none); sound = so_far.sound; read = so_far.read })
 
   -- these lines are left
   pub left : (account : Account) (mac : Mac) (rest : List ℕ) → IsSoFar facts boot text account mac rest → 0 < length rest
       → IsLeft facts text account.entries (first_line rest ∷ lines_of (behind_line rest))
-  left account mac rest so_far some = record { are = so_far.lines ∙ ap (λ (lines : List (List ℕ)). map entry_line account.entries ++ lines) (next_line rest some); sound = so_far.sound }
+  left account mac rest so_far some = record { are = so_far.lines ∙ ap (λ (lines : List (List ℕ)). map entry_line account.entries ++ lines) (next_line rest some); sound = so_far.sound; read = so_far.read }
 
   -- the line at hand is none that may come
   pub strange : (account : Account) (mac : Mac) (rest : List ℕ) → IsSoFar facts boot text account mac rest → 0 < length rest
-      → ((number : ℕ) (seal : List ℕ) → ¬ (IsEnd (first_line rest) number seal)) → ((entry : Entry) → IsEntry entry → Fits facts account.entries entry → first_line rest ≢ entry_line entry)
+      → ((number : ℕ) (seal : List ℕ) → ¬ (IsEnd (first_line rest) number seal)) → ((entry : Entry) → IsReadBack entry → Fits facts account.entries entry → first_line rest ≢ entry_line entry)
       → IsFaultBehind facts boot text (At (length account.entries + 2))
   strange account mac rest so_far some no_end no_entry = IsFaultBehind.no_entry (left account mac rest so_far some) no_end no_entry
 

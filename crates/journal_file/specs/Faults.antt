@@ -24,29 +24,35 @@ pub record IsJournalOf (facts : RealmFacts) (bytes : List ℕ) (history : List E
   pub sound : IsSound facts history
   pub text : bytes ≡ text_at facts boot history
 
--- these lines are left behind those of a sound history
+-- the line of the entry is read as that entry
+abbrev pub IsReadBack : Entry → Type 0
+IsReadBack entry = entry_of (entry_line entry) ≡ Some entry
+
+-- these lines are left behind those of a sound history; each of those is read as the entry that it was written of
 pub record IsLeft (facts : RealmFacts) (rest : List ℕ) (history : List Entry) (lines : List (List ℕ)) : Type 0 where
   pub are : lines_of rest ≡ map entry_line history ++ lines
   pub sound : IsSound facts history
+  pub read : All IsReadBack history
 
 -- the seal that is right behind a history
 abbrev pub right_seal : RealmFacts → ℕ → List Entry → List ℕ
 right_seal facts boot history = seal_of facts.root (before_end facts.account facts.region boot history)
 
--- the fault of what follows a first line with this boot number; the first line is line 1. The text ends early where no line is
--- left; the line at hand is no last line and no entry's that fits; a line follows the last line; the last line has another number
--- or another seal than is right; all is right, and the boot number isn't lower
+-- the fault of what follows a first line with this boot number; the first line is line 1. Each line before the fault is read as
+-- an entry that fits those before it. The text ends early where no line is left; the line at hand is no last line, and none that is
+-- read as an entry that fits; a line follows the last line; the last line has another number or another seal than is right; all is
+-- right, and the boot number isn't lower
 pub data IsFaultBehind (facts : RealmFacts) (boot : ℕ) (rest : List ℕ) : JournalFault → Type 0 where
   ends_early : {history : List Entry} → IsLeft facts rest history [] → IsFaultBehind facts boot rest (At (length history + 2))
   no_entry : {history : List Entry} {line : List ℕ} {lines : List (List ℕ)} → IsLeft facts rest history (line ∷ lines)
-      → ((number : ℕ) (seal : List ℕ) → ¬ (IsEnd line number seal)) → ((entry : Entry) → IsEntry entry → Fits facts history entry → line ≢ entry_line entry)
+      → ((number : ℕ) (seal : List ℕ) → ¬ (IsEnd line number seal)) → ((entry : Entry) → IsReadBack entry → Fits facts history entry → line ≢ entry_line entry)
       → IsFaultBehind facts boot rest (At (length history + 2))
   goes_on : {history : List Entry} {line next : List ℕ} {lines : List (List ℕ)} (number : ℕ) (seal : List ℕ) → IsLeft facts rest history (line ∷ next ∷ lines)
       → IsEnd line number seal → IsFaultBehind facts boot rest (At (length history + 3))
   wrong_end : {history : List Entry} {line : List ℕ} (number : ℕ) (seal : List ℕ) → IsLeft facts rest history (line ∷ []) → IsEnd line number seal
       → (number ≡ length history → seal ≢ right_seal facts boot history) → IsFaultBehind facts boot rest (At (length history + 2))
-  old_boot : {history : List Entry} → IsSound facts history → head_line facts.account facts.region boot ++ rest ≡ text_at facts boot history → facts.boot ≤ boot
-      → IsFaultBehind facts boot rest OldBoot
+  old_boot : {history : List Entry} → IsSound facts history → All IsReadBack history → head_line facts.account facts.region boot ++ rest ≡ text_at facts boot history
+      → facts.boot ≤ boot → IsFaultBehind facts boot rest OldBoot
 
 -- the fault of bytes: that of what follows their first line, or at line 1 where they don't begin with a first line of this account and region; or memory was wanting
 pub data IsFault (facts : RealmFacts) (bytes : List ℕ) : JournalFault → Type 0 where
@@ -54,10 +60,6 @@ pub data IsFault (facts : RealmFacts) (bytes : List ℕ) : JournalFault → Type
   behind : {fault : JournalFault} (boot : ℕ) (rest : List ℕ) → boot < 2 ^ 32 → bytes ≡ head_line facts.account facts.region boot ++ rest
       → IsFaultBehind facts boot rest fault → IsFault facts bytes fault
   no_memory : IsFault facts bytes NoMemory
-
--- the line of the entry is read as that entry
-abbrev pub IsReadBack : Entry → Type 0
-IsReadBack entry = entry_of (entry_line entry) ≡ Some entry
 
 -- an account with one entry more, which fits, and whose line this is
 pub record IsWithLine (before : Account) (line : List ℕ) (after : Account) : Type 0 where

@@ -29,7 +29,7 @@ fn are_equal(left: &[u8; 32], right: &[u8; 32]) -> bool
 
 // The account with the entry of a line, where the line is that of an entry that fits.
 fn with_line(alloc: Global, account: &Account, line: &[u8]) -> Result<Option<Account>, JournalFault>
-    ensures more { IfOk result (λ a. MatchOption a ((entry : EntryValue) → IsEntry entry → Fits account.now.facts account.now.entries entry → line.now ≢ line_of entry) (λ b. IsWithLine account.now line.now b)) }
+    ensures more { IfOk result (λ a. MatchOption a ((entry : EntryValue) → IsReadBack entry → Fits account.now.facts account.now.entries entry → line.now ≢ line_of entry) (λ b. IsWithLine account.now line.now b)) }
     ensures memory { IfErr result (λ fault. fault ≡ OutOfMemory) }
 {
     let Some(entry) = read_entry(alloc, line)? else {

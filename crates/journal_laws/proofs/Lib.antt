@@ -10,3 +10,4 @@ mod Sound
 mod Loaded
 mod Telling
 mod ReadingBack
+mod Judged

@@ -14,7 +14,7 @@ use Rattle.journal_laws.proofs.Sound.{held_is_sound, lawful_is_held, lawful_is_f
 use Rattle.journal_laws.proofs.Telling.{boot_and_history, texts_differ}
 
 -- a sound history has at most 1,000,000 entries
-few_entries : (facts : RealmFacts) (history : List Entry) → IsSound facts history → length history ≤ 1000000
+pub few_entries : (facts : RealmFacts) (history : List Entry) → IsSound facts history → length history ≤ 1000000
 few_entries facts history nothing = omega arith
 few_entries facts history (one_more {history = front} entry sound fits) =
     let few : length front < 1000000 = (fitting_of facts front entry fits).few in omega (arith, few, length-push front entry)

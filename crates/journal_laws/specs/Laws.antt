@@ -1,5 +1,5 @@
 -- Laws of the entries of an account, and of the text that they are written as.
-use Rattle.std.specs.Prelude.{◌≡◌, ℕ, ◌<◌, ◌^◌, List, [], ◌∷◌, ◌++◌, All, length, Some}
+use Rattle.std.specs.Prelude.{◌≡◌, ◌≢◌, ◌⊎◌, ℕ, ◌<◌, ◌^◌, List, [], ◌∷◌, ◌++◌, All, length, Some}
 use Rattle.kms_names.specs.Account.{IsAccountNumber}
 use Rattle.kms_names.specs.Region.{IsRegion}
 use Rattle.account_steps.specs.declared.facts.RealmFacts.{RealmFacts}
@@ -8,7 +8,9 @@ use Rattle.account_core.specs.Decide.{IsNext, IsLawful}
 use Rattle.account_core.specs.Fitting.{Fits, IsSound, IsHeld}
 use Rattle.journal_lines.specs.Forms.{IsEntry}
 use Rattle.journal_lines.specs.LineReading.{entry_of}
-use Rattle.journal_file.specs.Faults.{IsJournalOf, IsReadBack}
+use Rattle.journal_file.specs.Faults.{IsJournalOf, IsFault, IsReadBack}
+use Rattle.journal_file.specs.declared.faults.JournalFault.{JournalFault}
+use Rattle.journal_file.specs.declared.faults.JournalFault.TheVariants.{NoMemory}
 use Rattle.account_laws.specs.Laws.{IsOpened}
 use Rattle.journal_file.specs.Journal.{journal_text}
 
@@ -120,3 +122,25 @@ OpenedJournalIsReadBack =
 abbrev pub LawfulJournalIsReadBack : Type 0
 LawfulJournalIsReadBack =
     (facts later : RealmFacts) (history : List Entry) → IsAccountNumber facts.account → IsLawful facts history → MayRead facts later → IsReadAs later (journal_text facts history) history
+
+-- ---- a text is judged once
+
+-- the bytes are a journal of this history under these facts, and the line of each of its entries is read as that entry
+pub record IsTextOf (facts : RealmFacts) (bytes : List ℕ) (history : List Entry) : Type 0 where
+  pub journal : IsJournalOf facts bytes history
+  pub read : All IsReadBack history
+
+-- a fault of the bytes, other than want of memory
+pub record IsFirstFault (facts : RealmFacts) (bytes : List ℕ) (fault : JournalFault) : Type 0 where
+  pub is : IsFault facts bytes fault
+  pub own : fault ≢ NoMemory
+
+-- bytes are the text of one history at most, or have exactly one first fault: never both where the facts' boot number has 32 bits
+pub record IsJudgedOnce (facts : RealmFacts) (bytes : List ℕ) : Type 0 where
+  pub one : facts.boot < 2 ^ 32 → (history other : List Entry) → IsTextOf facts bytes history → IsTextOf facts bytes other → history ≡ other
+  pub first : (fault other : JournalFault) → IsFirstFault facts bytes fault → IsFirstFault facts bytes other → fault ≡ other
+  pub either : ((history : List Entry) × IsTextOf facts bytes history) ⊎ ((fault : JournalFault) × IsFirstFault facts bytes fault)
+  pub apart : facts.boot < 2 ^ 32 → (history : List Entry) (fault : JournalFault) → IsTextOf facts bytes history → ¬ (IsFirstFault facts bytes fault)
+
+abbrev pub JournalsAreJudgedOnce : Type 0
+JournalsAreJudgedOnce = (facts : RealmFacts) (bytes : List ℕ) → IsJudgedOnce facts bytes

@@ -1,6 +1,6 @@
 //! Laws of the entries of an account and of their text. Each stands as the contract of a function that does nothing.
 
-ghost use Rattle.journal_laws.specs.Laws.{NextEntriesFit, HeldHistoriesAreSound, LawfulHistoriesAreSound, NextEntriesHaveForms, OpenedEntriesHaveForms, LawfulEntriesHaveForms, ReadEntriesHaveForms, LoadedHistoriesAreOpened, JournalsDiffer, LawfulJournalsDiffer, JournalIsReadBack, OpenedJournalIsReadBack, LawfulJournalIsReadBack};
+ghost use Rattle.journal_laws.specs.Laws.{NextEntriesFit, HeldHistoriesAreSound, LawfulHistoriesAreSound, NextEntriesHaveForms, OpenedEntriesHaveForms, LawfulEntriesHaveForms, ReadEntriesHaveForms, LoadedHistoriesAreOpened, JournalsDiffer, LawfulJournalsDiffer, JournalIsReadBack, OpenedJournalIsReadBack, LawfulJournalIsReadBack, JournalsAreJudgedOnce};
 
 /// An entry that a proper request appends, or that housekeeping appends at a clock's answer before the
 /// year 10000, fits the history before it, where an account holds that history and the account's number
@@ -62,4 +62,12 @@ pub fn journal_is_read_back()
     ensures held { JournalIsReadBack }
     ensures opened { OpenedJournalIsReadBack }
     ensures lawful { LawfulJournalIsReadBack }
+{}
+
+/// Bytes are the text of one history at most, each of whose lines is read as its entry, or have exactly one
+/// first fault: of any two faults that `read_journal`'s clause `fault` allows, neither want of memory, one is
+/// the other. Where the facts' boot number has 32 bits, what is such a text has no fault, but for want of
+/// memory. So of these bytes under these facts `read_journal` answers one thing, or want of memory.
+pub fn journals_are_judged_once()
+    ensures { JournalsAreJudgedOnce }
 {}

@@ -9,6 +9,7 @@ use Rattle.journal_lines.specs.Cuts.{first_line}
 use Rattle.journal_lines.specs.Frames.{end_in}
 use Rattle.journal_lines.specs.FrameLines.{IsEnd}
 use Rattle.journal_lines.proofs.EndFacts.{end_read, no_end}
+use Rattle.journal_lines.proofs.LineReadingFacts.{line_told}
 use Rattle.journal_file.specs.Faults.{IsFaultBehind, IsEndFault, IsReadOf, IsWithLine}
 use Rattle.journal_file.specs.Journal.{before_end}
 use Rattle.journal_file.specs.declared.faults.JournalFault.TheVariants.{At}
@@ -62,7 +63,7 @@ returns-in_default-2-clause-taken c = λ history expected.
     let ends_not = no_end (first_line rest) (ap end_in (sym c.cut_line.ensures.line) ∙ not_read) in
     let none_fits = when_none _ _ c.in_ok-longer.field-0 c.in_ok-longer.ensures.more c.in_default-2.is in
     absurd (not_strange facts c.args.boot c.args.text.now history expected account.entries rest (c.loop-rest.invariant.1 history expected) ends_not
-    (λ entry form fits is. none_fits entry form (subst (λ (f : RealmFacts). Fits f account.entries entry) (sym c.loop-rest.invariant.0.same) fits) (c.cut_line.ensures.line ∙ is)))
+    (λ entry form fits is. none_fits entry (line_told entry form) (subst (λ (f : RealmFacts). Fits f account.entries entry) (sym c.loop-rest.invariant.0.same) fits) (c.cut_line.ensures.line ∙ is)))
 
 pub returns-in-Some-clause-taken : goal.returns-in-Some-clause-taken
 returns-in-Some-clause-taken c = λ history expected.
@@ -87,7 +88,7 @@ returns-in_default-2-clause-fault c =
     inr (subst (λ (n : ℕ). IsFaultBehind facts c.args.boot c.args.text.now (At (n + 2))) (sym c.entries.ensures.number)
     (strange facts c.args.boot c.args.text.now account c.loop-rest.mac rest c.loop-rest.invariant.0 some
     (no_end (first_line rest) (ap end_in (sym c.cut_line.ensures.line) ∙ not_read))
-    (λ entry form fits is. none_fits entry form (subst (λ (f : RealmFacts). Fits f account.entries entry) (sym c.loop-rest.invariant.0.same) fits) (c.cut_line.ensures.line ∙ is))))
+    (λ entry back fits is. none_fits entry back (subst (λ (f : RealmFacts). Fits f account.entries entry) (sym c.loop-rest.invariant.0.same) fits) (c.cut_line.ensures.line ∙ is))))
 
 pub returns-in-Some-clause-ok : goal.returns-in-Some-clause-ok
 returns-in-Some-clause-ok c =

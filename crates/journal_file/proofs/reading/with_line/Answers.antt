@@ -8,7 +8,7 @@ use Rattle.journal_lines.proofs.LineReadingFacts.{line_is}
 use Rattle.journal_file.proofs.reading.with_line.Goals as goal
 
 pub returns-in_default-clause-more : goal.returns-in_default-clause-more
-returns-in_default-clause-more c = λ entry form fits. no_line c.args.line.now c.in_ok-entry.field-0 c.in_ok-entry.ensures c.in_default.is entry form
+returns-in_default-clause-more c = λ entry back fits. no_line c.args.line.now c.in_ok-entry.field-0 c.in_ok-entry.ensures c.in_default.is entry back
 
 pub returns-in-Ok-clause-more : goal.returns-in-Ok-clause-more
 returns-in-Ok-clause-more c = record {
@@ -21,8 +21,8 @@ returns-in-Ok-clause-more c = record {
 }
 
 pub returns-in-Err-Unfit-clause-more : goal.returns-in-Err-Unfit-clause-more
-returns-in-Err-Unfit-clause-more c = λ entry form fits is.
+returns-in-Err-Unfit-clause-more c = λ entry back fits is.
     let account = c.args.account.now in
-    let same = read_is c.args.line.now c.in_ok-entry.field-0 c.in-Some.entry c.in_ok-entry.ensures c.in-Some.is entry form is in
+    let same = read_is c.args.line.now c.in_ok-entry.field-0 c.in-Some.entry c.in_ok-entry.ensures c.in-Some.is entry back is in
     let unfit : c.push_fitting.result ≡ Err Unfit = cc (c.in-Err-Unfit.is, c.in-Err-Unfit.field-0-is) in
     c.push_fitting.ensures.unfit unfit (subst (λ (e : Entry). Fits account.facts account.entries e) (sym same) fits)
