@@ -41,7 +41,7 @@ def changed():
     return [name for name in crates() if noted.get(name) != sum_of(name)]
 
 
-def renew(names):
-    """Notes that the further edits of these crates were refused over what stands here."""
-    noted = read() | {name: sum_of(name) for name in names}
+def renew(sums):
+    """Notes that the further edits of these crates were refused over what has these checksums."""
+    noted = read() | sums
     LINES.write_text("".join(f"{name} {noted[name]}\n" for name in crates() if name in noted), encoding="utf-8")
