@@ -12,3 +12,4 @@ mod StateFacts
 mod LawSealings
 pub mod LawFacts
 mod MacFacts
+mod BootFacts

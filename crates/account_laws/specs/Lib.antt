@@ -1,3 +1,4 @@
 pub mod Laws
 pub mod Tokens
 pub mod Macs
+pub mod Boots

@@ -3,6 +3,7 @@
 //! the ids of keys have 16 bytes (`IsOpened`), as `histories_stay_opened` says that they do.
 
 ghost use Rattle.account_laws.specs.Laws.{SealedIsDecryptedAgain, EarlierBlobsAreDecrypted, OnePassRepeatsNoIv, PassesShareNoIv, BootsShareNoIv, TimesNeverFall, HouseIsKeptOnce, KeysDiffer, GrantsDiffer, PassesWhereStatementsAllow, PassesWithoutACeiling, NamesTheFirstDenied, AuthorityAsksTheseQuestions, GrantsPermit, DroppedGrantsStayAway, RowsStandInOrder, ListsOfHistoriesAreWhole, TagsOfKeysAreWhole, TagsOfKeysAreTheLastGiven, LawfulHistoriesAreOpened, NextEntriesKeepOpened};
+ghost use Rattle.account_laws.specs.Boots.{RunsDecideTheSame, UncheckedPassAlike};
 ghost use Rattle.account_laws.specs.Macs.{MacsAreVerifiedAgain};
 ghost use Rattle.account_laws.specs.Tokens.{DeadTokensAreRefused};
 ghost use Rattle.account_steps.specs.View.{View};
@@ -150,4 +151,14 @@ pub fn parts_make_the_whole()
 /// makes the key, gives it tags, or takes tags from it.
 pub fn tags_of_keys_are_the_last_given()
     ensures { TagsOfKeysAreTheLastGiven }
+{}
+
+/// A run of an account under another boot number decides each request, at every history and at the same places of a pass, as
+/// this one does but for what is made: the id of a new key or grant, the initialization vector of a sealed text, and random
+/// bytes. So an account that was loaded answers as the one that wrote its journal. Where a CreateKey brings a policy, the
+/// lockout check is asked of the new key's own id: it has to come to the same for both ids, as it does where the policy doesn't
+/// speak of them, and where nothing is checked (AWS KMS API Reference, CreateKey, BypassPolicyLockoutSafetyCheck).
+pub fn runs_decide_the_same()
+    ensures decisions { RunsDecideTheSame }
+    ensures unchecked { UncheckedPassAlike }
 {}

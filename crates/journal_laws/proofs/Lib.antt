@@ -11,3 +11,4 @@ mod Loaded
 mod Telling
 mod ReadingBack
 mod Judged
+mod TagKeys

@@ -1,9 +1,12 @@
 -- Laws of the entries of an account, and of the text that they are written as.
-use Rattle.std.specs.Prelude.{◌≡◌, ◌≢◌, ◌⊎◌, ℕ, ◌<◌, ◌^◌, List, [], ◌∷◌, ◌++◌, All, length, Some}
+use Rattle.std.specs.Prelude.{◌≡◌, ◌≢◌, ◌⊎◌, ℕ, ◌<◌, ◌^◌, List, [], ◌∷◌, ◌++◌, All, length, Some, Ok}
 use Rattle.kms_names.specs.Account.{IsAccountNumber}
 use Rattle.kms_names.specs.Region.{IsRegion}
 use Rattle.account_steps.specs.declared.facts.RealmFacts.{RealmFacts}
 use Rattle.account_rows.specs.declared.entries.Entry.{Entry}
+use Rattle.account_rows.specs.History.{replay}
+use Rattle.key_states.specs.declared.rows.KeyRow.{KeyRow}
+use Rattle.account_tags.specs.Pages.{behind_marker, marker_of, tag_of}
 use Rattle.account_core.specs.Decide.{IsNext, IsLawful}
 use Rattle.account_core.specs.Fitting.{Fits, IsSound, IsHeld}
 use Rattle.journal_lines.specs.Forms.{IsEntry}
@@ -144,3 +147,24 @@ pub record IsJudgedOnce (facts : RealmFacts) (bytes : List ℕ) : Type 0 where
 
 abbrev pub JournalsAreJudgedOnce : Type 0
 JournalsAreJudgedOnce = (facts : RealmFacts) (bytes : List ℕ) → IsJudgedOnce facts bytes
+
+-- ---- markers of tags
+
+-- the marker of a tag of a key, sent back, is read as the key that it was made of
+abbrev pub TagIsReadBack : List ℕ × List ℕ → Type 0
+TagIsReadBack pair = behind_marker (Some (marker_of (tag_of pair))) ≡ Ok (Some pair.0)
+
+-- such is each tag of each key, where the entries have their forms
+abbrev pub TagMarkersAreReadBack : Type 0
+TagMarkersAreReadBack = (history : List Entry) → All IsEntry history → All (λ (row : KeyRow). All TagIsReadBack row.tags) (replay history).keys
+
+-- so it is where a history goes on from a sound one whose entries have their forms
+abbrev pub TagMarkersOfOpened : Type 0
+TagMarkersOfOpened =
+    (facts : RealmFacts) (front history : List Entry) → IsAccountNumber facts.account → IsSound facts front → All IsEntry front → GoesOn facts front history
+    → All (λ (row : KeyRow). All TagIsReadBack row.tags) (replay history).keys
+
+-- and where it is lawful
+abbrev pub TagMarkersOfLawful : Type 0
+TagMarkersOfLawful =
+    (facts : RealmFacts) (history : List Entry) → IsAccountNumber facts.account → IsLawful facts history → All (λ (row : KeyRow). All TagIsReadBack row.tags) (replay history).keys

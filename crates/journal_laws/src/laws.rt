@@ -1,6 +1,6 @@
 //! Laws of the entries of an account and of their text. Each stands as the contract of a function that does nothing.
 
-ghost use Rattle.journal_laws.specs.Laws.{NextEntriesFit, HeldHistoriesAreSound, LawfulHistoriesAreSound, NextEntriesHaveForms, OpenedEntriesHaveForms, LawfulEntriesHaveForms, ReadEntriesHaveForms, LoadedHistoriesAreOpened, JournalsDiffer, LawfulJournalsDiffer, JournalIsReadBack, OpenedJournalIsReadBack, LawfulJournalIsReadBack, JournalsAreJudgedOnce};
+ghost use Rattle.journal_laws.specs.Laws.{NextEntriesFit, HeldHistoriesAreSound, LawfulHistoriesAreSound, NextEntriesHaveForms, OpenedEntriesHaveForms, LawfulEntriesHaveForms, ReadEntriesHaveForms, LoadedHistoriesAreOpened, JournalsDiffer, LawfulJournalsDiffer, JournalIsReadBack, OpenedJournalIsReadBack, LawfulJournalIsReadBack, JournalsAreJudgedOnce, TagMarkersAreReadBack, TagMarkersOfOpened, TagMarkersOfLawful};
 
 /// An entry that a proper request appends, or that housekeeping appends at a clock's answer before the
 /// year 10000, fits the history before it, where an account holds that history and the account's number
@@ -70,4 +70,14 @@ pub fn journal_is_read_back()
 /// memory. So of these bytes under these facts `read_journal` answers one thing, or want of memory.
 pub fn journals_are_judged_once()
     ensures { JournalsAreJudgedOnce }
+{}
+
+/// The marker that a part of the list of a key's tags ends with, sent back, is read as the key of the tag
+/// that it was made of (AWS KMS API Reference, ListResourceTags): at each history whose entries have their
+/// forms, at each that goes on from a sound one of such entries, and at each lawful one. The account's
+/// number is one.
+pub fn markers_of_tags_are_read_back()
+    ensures formed { TagMarkersAreReadBack }
+    ensures opened { TagMarkersOfOpened }
+    ensures lawful { TagMarkersOfLawful }
 {}
