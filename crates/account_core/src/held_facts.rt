@@ -72,7 +72,7 @@ fn policies_at<'a>(callers: &'a Callers, arn: &str) -> &'a [Compiled]
 }
 
 impl HeldFacts {
-    /// The facts of these facts.
+    /// What is constant for a run, with the policies of callers and the ceiling compiled once. The time and the memory grow with their texts.
     pub fn new(alloc: Global, facts: RealmFacts) -> Result<HeldFacts, NoMemory>
         ensures { IfOk result (λ r. r ≡ facts) }
     {

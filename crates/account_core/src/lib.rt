@@ -11,6 +11,7 @@ mod entering;
 mod held_facts;
 mod operations;
 mod threads;
+mod visiting;
 
 pub use account::Account;
 pub use account_rows::{Entry, What};

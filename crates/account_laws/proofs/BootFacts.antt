@@ -150,7 +150,7 @@ module _ (facts : RealmFacts) (boot : ℕ) (history : List Entry) (x : Ask) (pla
 
     read_by : (o left dry : Option Refusal) (c : Result (F × R) Refusal)
         → Alike (decided_read (unless o (and_then c (λ passed. unless left (unless dry (Ok (record { reply = op.parts.reply passed.0 passed.1; effect = op.takes })))))) places)
-          (decided_read (unless o (and_then c (λ passed. unless left (unless dry (Ok (record { reply = said passed.0 passed.1; effect = op.takes })))))) places)
+        (decided_read (unless o (and_then c (λ passed. unless left (unless dry (Ok (record { reply = said passed.0 passed.1; effect = op.takes })))))) places)
     read_by (Some why) left dry c = refused_alike why
     read_by None left dry (Err why) = refused_alike why
     read_by None (Some why) dry (Ok passed) = refused_alike why
@@ -162,8 +162,8 @@ module _ (facts : RealmFacts) (boot : ℕ) (history : List Entry) (x : Ask) (pla
     reads_alike o =
         let same = cleared_alike facts boot history x places op.parts.found op.parts.questions op.parts.tokens op.parts.uses op.parts.own op.parts.own (λ f. refl) in
         subst (λ (c : Result (F × R) Refusal).
-          Alike (decided_read (unless o (reads (view_of facts history x places) op)) places)
-          (decided_read (unless o (and_then c (λ passed. unless (spent places op.takes) (unless (only_asked op.parts.dry_run) (Ok (record { reply = said passed.0 passed.1; effect = op.takes })))))) places))
+        Alike (decided_read (unless o (reads (view_of facts history x places) op)) places)
+        (decided_read (unless o (and_then c (λ passed. unless (spent places op.takes) (unless (only_asked op.parts.dry_run) (Ok (record { reply = said passed.0 passed.1; effect = op.takes })))))) places))
         same (read_by o (spent places op.takes) (only_asked op.parts.dry_run) (cleared (view_of facts history x places) op.parts))
 
   -- ---- what changes
@@ -195,14 +195,14 @@ module _ (facts : RealmFacts) (boot : ℕ) (history : List Entry) (x : Ask) (pla
 
     change_by : (time : ℕ) (o dry : Option Refusal) (left rest : F → R → Option Refusal) (c : Result (F × R) Refusal) → ((f : F) (r : R) → left f r ≡ rest f r)
         → Alike (decided_change time (unless o (and_then c (λ passed. unless (left passed.0 passed.1) (unless dry (Ok (record { reply = op.parts.reply passed.0 passed.1; effect = op.does passed.0 passed.1 })))))) places)
-          (decided_change time (unless o (and_then c (λ passed. unless (rest passed.0 passed.1) (unless dry (Ok (record { reply = said passed.0 passed.1; effect = done passed.0 passed.1 })))))) places)
+        (decided_change time (unless o (and_then c (λ passed. unless (rest passed.0 passed.1) (unless dry (Ok (record { reply = said passed.0 passed.1; effect = done passed.0 passed.1 })))))) places)
     change_by time (Some why) dry left rest c same = refused_alike why
     change_by time None dry left rest (Err why) same = refused_alike why
     change_by time None dry left rest (Ok passed) same = by_left (left passed.0 passed.1) (rest passed.0 passed.1) dry (same passed.0 passed.1)
       where
         by_left : (l k d : Option Refusal) → l ≡ k
             → Alike (decided_change time (unless l (unless d (Ok (record { reply = op.parts.reply passed.0 passed.1; effect = op.does passed.0 passed.1 })))) places)
-              (decided_change time (unless k (unless d (Ok (record { reply = said passed.0 passed.1; effect = done passed.0 passed.1 })))) places)
+            (decided_change time (unless k (unless d (Ok (record { reply = said passed.0 passed.1; effect = done passed.0 passed.1 })))) places)
         by_left (Some why) (Some that) d e = subst (λ (w : Refusal). Alike (record { reply = Refused why; entry = None; places = places }) (record { reply = Refused w; entry = None; places = places })) (some_same why that e) (refused_alike why)
         by_left (Some why) None d e = cc
         by_left None (Some that) d e = cc
@@ -211,14 +211,14 @@ module _ (facts : RealmFacts) (boot : ℕ) (history : List Entry) (x : Ask) (pla
 
     changes_alike : (o : Option Refusal)
         → Alike (decided_change (view_of facts history x no_places).moment (unless o (changes (view_of facts history x no_places) op)) places)
-          (decided_change (view_of later history x no_places).moment (unless o (changes (view_of later history x no_places) later_change)) places)
+        (decided_change (view_of later history x no_places).moment (unless o (changes (view_of later history x no_places) later_change)) places)
     changes_alike o =
         let before = view_of facts history x no_places in
         let behind = view_of later history x no_places in
         let same = cleared_alike facts boot history x no_places op.parts.found op.parts.questions op.parts.tokens op.parts.uses op.parts.own own owns in
         subst (λ (c : Result (F × R) Refusal).
-          Alike (decided_change before.moment (unless o (changes before op)) places)
-          (decided_change before.moment (unless o (and_then c (λ passed. unless (limited behind (done passed.0 passed.1)) (unless (only_asked op.parts.dry_run) (Ok (record { reply = said passed.0 passed.1; effect = done passed.0 passed.1 })))))) places))
+        Alike (decided_change before.moment (unless o (changes before op)) places)
+        (decided_change before.moment (unless o (and_then c (λ passed. unless (limited behind (done passed.0 passed.1)) (unless (only_asked op.parts.dry_run) (Ok (record { reply = said passed.0 passed.1; effect = done passed.0 passed.1 })))))) places))
         same
         (change_by before.moment o (only_asked op.parts.dry_run) (λ f r. limited before (op.does f r)) (λ f r. limited behind (done f r)) (cleared before op.parts)
         (λ f r. limited_alike facts boot history x no_places (op.does f r) (done f r) (does_alike f r)))

@@ -41,7 +41,7 @@ pub data IsSameReply (facts later : RealmFacts) (place : ℕ) (places : Places) 
   same_reply : (told : Reply) → IsSameReply facts later place places told told
   key_told : (kind : KeyKind) (made : ℕ) (description : List ℕ)
       → IsSameReply facts later place places (reply.Metadata (description_of facts (key_id_at facts place) kind made description state.Enabled))
-        (reply.Metadata (description_of later (key_id_at later place) kind made description state.Enabled))
+      (reply.Metadata (description_of later (key_id_at later place) kind made description state.Enabled))
   grant_told : IsSameReply facts later place places (reply.Granted (grant_id_at facts place)) (reply.Granted (grant_id_at later place))
   text_sealed : (row : KeyRow) (context : List Pair) (text arn : List ℕ)
       → IsSameReply facts later place places (reply.Encrypted (seals facts row context text places) arn) (reply.Encrypted (seals later row context text places) arn)
@@ -49,10 +49,10 @@ pub data IsSameReply (facts later : RealmFacts) (place : ℕ) (places : Places) 
       → IsSameReply facts later place places (reply.ReEncrypted (seals facts row context text places) to from) (reply.ReEncrypted (seals later row context text places) to from)
   data_key_told : (row : KeyRow) (context : List Pair) (size : ℕ) (arn : List ℕ)
       → IsSameReply facts later place places (reply.DataKey (seals facts row context (draws facts size places) places) (draws facts size places) arn)
-        (reply.DataKey (seals later row context (draws later size places) places) (draws later size places) arn)
+      (reply.DataKey (seals later row context (draws later size places) places) (draws later size places) arn)
   data_key_sealed : (row : KeyRow) (context : List Pair) (size : ℕ) (arn : List ℕ)
       → IsSameReply facts later place places (reply.SealedDataKey (seals facts row context (draws facts size places) places) arn)
-        (reply.SealedDataKey (seals later row context (draws later size places) places) arn)
+      (reply.SealedDataKey (seals later row context (draws later size places) places) arn)
   bytes_drawn : (size : ℕ) → IsSameReply facts later place places (reply.Random (draws facts size places)) (reply.Random (draws later size places))
 
 -- what is done is the same, or differs in the id that is made for the entry
@@ -62,7 +62,7 @@ pub data IsSameDoing (facts later : RealmFacts) (place : ℕ) : Option What → 
       → IsSameDoing facts later place (Some (what.CreateKey (key_id_at facts place) kind description policy tags)) (Some (what.CreateKey (key_id_at later place) kind description policy tags))
   makes_grant : (key : List ℕ) (grantee : Principal) (retiring : Option Principal) (operations : ℕ) (constraint : Constraint) (name : Option (List ℕ))
       → IsSameDoing facts later place (Some (what.GrantAdd (grant_id_at facts place) key grantee retiring operations constraint name))
-        (Some (what.GrantAdd (grant_id_at later place) key grantee retiring operations constraint name))
+      (Some (what.GrantAdd (grant_id_at later place) key grantee retiring operations constraint name))
 
 -- so are the entries, at one time
 pub data IsSameEntry (facts later : RealmFacts) (place : ℕ) : Option Entry → Option Entry → Type 0 where
@@ -81,7 +81,7 @@ pub record IsSameDecision (facts later : RealmFacts) (place : ℕ) (places : Pla
 abbrev pub PassesAlike : View → View → AskBody → Type 0
 PassesAlike one other (ask.Change (changing.CreateKey request)) =
     (kind : KeyKind) → refused_if_given one (said_new_key one kind request.tags) request.policy request.bypass_lockout_check
-      ≡ refused_if_given other (said_new_key other kind request.tags) request.policy request.bypass_lockout_check
+    ≡ refused_if_given other (said_new_key other kind request.tags) request.policy request.bypass_lockout_check
 PassesAlike one other body = ⊤
 
 -- whatever is asked, at every history and at the same places of a pass, another run of the account decides the same but for what is made

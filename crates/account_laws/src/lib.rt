@@ -9,7 +9,6 @@ pub use laws::{
     earlier_blobs_are_decrypted, grants_differ, grants_permit, histories_stay_opened,
     house_is_kept_once, keys_differ, macs_are_verified_again, one_pass_repeats_no_iv,
     parts_make_the_whole, passes_share_no_iv, rows_stand_in_order, runs_decide_the_same,
-    sealed_is_decrypted_again,
-    tags_of_keys_are_the_last_given, times_never_fall,
+    sealed_is_decrypted_again, tags_of_keys_are_the_last_given, times_never_fall,
     without_a_ceiling_statements_and_grants_decide,
 };
