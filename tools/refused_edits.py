@@ -1,5 +1,5 @@
-"""Which further wrong bodies of crates, those of tools/edits/NAME, the prover refused, and over what: the file tools/edits/refused, which has a
-line `NAME CHECKSUM` for each crate that has such edits."""
+"""Which further wrong bodies of crates, those of tools/edits/NAME, the prover refused, and over what: the file tools/edits/refused has a line
+`NAME CHECKSUM` for each crate whose edits were tried, and the file tools/edits/owed a line `NAME` for each whose edits are still to be."""
 
 import hashlib
 import pathlib
@@ -7,6 +7,7 @@ import pathlib
 TOP = pathlib.Path(__file__).resolve().parent.parent
 EDITS = TOP / "tools" / "edits"
 LINES = EDITS / "refused"
+OWED = EDITS / "owed"
 
 
 def edits_of(name):
@@ -41,7 +42,14 @@ def changed():
     return [name for name in crates() if noted.get(name) != sum_of(name)]
 
 
+def owed():
+    """The crates whose further edits are still to be tried."""
+    return OWED.read_text(encoding="utf-8").split() if OWED.exists() else []
+
+
 def renew(sums):
     """Notes that the further edits of these crates were refused over what has these checksums."""
     noted = read() | sums
     LINES.write_text("".join(f"{name} {noted[name]}\n" for name in crates() if name in noted), encoding="utf-8")
+    if OWED.exists():
+        OWED.write_text("".join(f"{name}\n" for name in owed() if name not in sums), encoding="utf-8")
