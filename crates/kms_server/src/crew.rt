@@ -98,7 +98,7 @@ where
     work_each(host, crew);
 }
 
-// Lets a worker's pass learn what the desk holds.
+// Lets a worker's pass learn at the desk: its history goes on, and nothing else of the worker changes.
 fn settle<W: Wait, R: Realm, E: Ear, C: Clock + Drop>(
     rt: &W,
     service: &Service<R>,
@@ -109,7 +109,7 @@ fn settle<W: Wait, R: Realm, E: Ear, C: Clock + Drop>(
     worker.pass.settle(rt, service);
 }
 
-/// Lets each worker's pass learn what the desk holds.
+/// Lets each worker's pass learn at the desk, one after another: their histories go on, and nothing else changes.
 pub fn settle_all<W: Wait, R: Realm, E: Ear, C: Clock + Drop>(
     rt: &W,
     service: &Service<R>,

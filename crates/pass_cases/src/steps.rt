@@ -101,9 +101,9 @@ fn act<R: Realm, W: Wait>(
 ) -> Result<bool, Failure> {
     match step.word {
         "sees" => {}
-        "posts" => pass.post(host.rt, host.service),
-        "catches-up" => pass.catch_up(host.rt, host.service),
-        "settles" => pass.settle(host.rt, host.service),
+        "posts" => drop(pass.post(host.rt, host.service)),
+        "catches-up" => drop(pass.catch_up(host.rt, host.service)),
+        "settles" => drop(pass.settle(host.rt, host.service)),
         "keeps-house" => {
             let moment = step.rest.parse::<u64>().ok().ok_or(Failure::Unlike)?;
             if moment >= 253_402_300_800 {

@@ -220,3 +220,8 @@ pub record Opening : Type 0 where
   pub name : ℕ
   pub parts : ℕ
   pub shown : Shown
+
+-- what some passes made together: how many passes these are, and how many entries they made
+pub record Tally : Type 0 where
+  pub passes : ℕ
+  pub made : ℕ

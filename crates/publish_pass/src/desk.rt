@@ -11,6 +11,7 @@ ghost use Rattle.publish_pass.specs.Pass.{Learns, KnewAllIfAlone, MadeAllIfAlone
 ghost use Rattle.published_account.specs.Rules.{Names};
 
 use crate::pass::Pass;
+use crate::tally::Tally;
 use account_core::{Account, Decision};
 use account_rows::Entry;
 use kms_io::{Gate, Point};
@@ -116,6 +117,24 @@ impl<R: Realm> Desk<R> {
         let prefix = self.prefix();
         pass.learn_prefix(&prefix);
         pass.seen() == prefix.len()
+    }
+
+    /// The account at the desk's history. Nothing of it is copied.
+    pub fn share(&self) -> Result<Account, NoMemory>
+        ensures { IfOk result (λ a. a ≡ record { facts = R.facts; entries = entries_of self.now }) }
+    {
+        self.account().share()
+    }
+
+    /// Holds what some passes made together against the desk's history: that has no fewer entries behind the loaded
+    /// ones, and where these are all passes of the service exactly as many. Nothing is done, and no memory taken.
+    pub fn audit(&mut self, tally: &mut Tally<R>)
+        ensures desk { self.new ≡ self.old }
+        ensures tally { tally.new ≡ tally.old }
+        ensures bound { tally.old.made + R.loaded ≤ length self.old }
+        ensures whole { tally.old.passes ≡ R.passes → tally.old.made + R.loaded ≡ length self.old }
+    {
+        self.book.audit(&mut tally.share);
     }
 
     // The next account, with the entry as its last.

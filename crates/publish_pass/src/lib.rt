@@ -9,6 +9,7 @@ mod desk;
 mod opening;
 mod pass;
 mod service;
+mod tally;
 mod threads;
 mod told;
 
@@ -20,5 +21,6 @@ pub use opening::{Opening, open_loaded, open_service};
 pub use pass::Pass;
 pub use published_account::{Answered, Realm, Unread, answer_with};
 pub use service::Service;
+pub use tally::Tally;
 pub use threads::service_and_pass_cross_threads;
 pub use told::Told;

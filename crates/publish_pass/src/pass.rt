@@ -180,6 +180,22 @@ impl<R: Realm> Pass<R> {
         self.tell().agrees(&other.tell());
     }
 
+    // Ends it, and gives its part of the ledger.
+    pub(crate) fn retire(self) -> Share<R>
+        ensures part { result.parts ≡ 1 }
+        ensures made { result.amount ≡ length self.own }
+    {
+        let Pass {
+            number: _,
+            entrance: _,
+            prefix: _,
+            own: _,
+            draws: _,
+            share,
+        } = self;
+        share
+    }
+
     // Its number, one of those of the passes.
     pub(crate) fn number(&self) -> u16
         ensures number { result ≡ self.now.number }

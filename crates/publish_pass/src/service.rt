@@ -1,8 +1,11 @@
 // The service: the desk and the board, each behind its lock.
 ghost use Rattle.std.specs.Prelude.{◌≡◌, ◌<◌, true, IfOk, OnOk, OnErr, IfSome, IfNone, IsTrue, IsFalse};
+ghost use Rattle.std.specs.Sync.Mutex.{mutex_guard_value};
+ghost use mathlib.Core.List.{IsPrefix};
 ghost use Rattle.kms_names.specs.Moment.{year_10000};
 ghost use Rattle.kms_json.specs.Asks.{changes_account};
 ghost use Rattle.account_core.specs.Decide.{IsProper};
+ghost use Rattle.published_account.specs.Growing.{IsLongerOf};
 ghost use Rattle.publish_pass.specs.Pass.{Learns, LearnsAll, AnswersChange, WantsChange, KeepsHouse, WantsHouse};
 
 use crate::desk::Desk;
@@ -120,26 +123,34 @@ fn try_keep_house<R: Realm, W: Wait>(
     None
 }
 
-// The pass learns the desk's history. It is false where the pass has seen more than the desk.
-fn try_settle<R: Realm, W: Wait>(rt: &W, service: &Service<R>, pass: &mut Pass<R>) -> bool
-    ensures all { IsTrue result → LearnsAll pass.old pass.new }
-    ensures none { IsFalse result → pass.new ≡ pass.old }
+// The pass learns the desk's history, and the desk stays locked. It is None where the pass has seen more than the desk.
+fn try_settle<'a, R: Realm, W: Wait>(
+    rt: &W,
+    service: &'a Service<R>,
+    pass: &mut Pass<R>,
+) -> Option<MutexGuard<'a, Desk<R>>>
+    ensures all { IfSome result (λ desk. LearnsAll pass.old pass.new) }
+    ensures holds { IfSome result (λ desk. pass.new.history ≡ mutex_guard_value desk) }
+    ensures none { IfNone result (pass.new ≡ pass.old) }
     ensures passes { pass.new.passes ≡ R.passes }
     ensures loaded { pass.new.loaded ≡ R.loaded }
 {
     let mut desk = service.desk.lock(rt);
-    let met = desk.meet(pass);
+    if desk.meet(pass) {
+        return Some(desk);
+    }
     let _ = MutexGuard::unlock(desk);
-    met
+    None
 }
 
 impl<R: Realm> Pass<R> {
     ghost use Rattle.std.specs.Prelude.{◌<◌, ◌≡◌, true, IfOk, OnOk, OnErr};
+    ghost use Rattle.std.specs.Sync.Mutex.{mutex_guard_value};
 
     /// Answers a request that changes the account, at a history that holds all that this pass has seen, and
-    /// appends its entry, if it has one. Housekeeping comes first. The pass then holds the whole published
-    /// history. Where the service has one pass, it held that before, and made all its entries. For want of memory at
-    /// most the entry of housekeeping was appended.
+    /// appends its entry, if it has one. Housekeeping comes first. The pass then holds that history, and behind it
+    /// these entries alone. Where the service has one pass, it held that history before, and made all of it that
+    /// wasn't loaded. For want of memory at most the entry of housekeeping was appended.
     ///
     /// It locks the desk. The next account and the reply's body are made before the entry is published.
     pub fn change<W: Wait, G: Gate>(
@@ -167,7 +178,7 @@ impl<R: Realm> Pass<R> {
     /// that this pass has seen, and that it then holds. For want of memory at most that entry was appended.
     ///
     /// Where nothing is due it looks at the published account alone, without a lock. Else, or where the service has one
-    /// pass, it locks the desk, and goes by the whole history there.
+    /// pass, it locks the desk, and goes by the history there.
     pub fn keep_house<W: Wait>(
         &mut self,
         rt: &W,
@@ -190,37 +201,56 @@ impl<R: Realm> Pass<R> {
         unreachable!()
     }
 
-    /// Learns what the desk holds. The pass then holds more of the history, or as much, and nothing else of it
-    /// changes. Where the service has one pass, there was nothing to learn, and it made all entries that weren't
-    /// loaded. It takes no memory.
+    /// Learns all that the desk holds, and keeps the desk locked until what is returned is dropped: so long the pass
+    /// holds exactly the published history, and nobody else publishes. Nothing else of the pass changes. Where the
+    /// service has one pass, there was nothing to learn, and it made all entries that weren't loaded. It takes no
+    /// memory.
     ///
-    /// That a pass among several then holds all that was published is said by no clause, since others may publish
-    /// more as soon as the desk's lock is left.
-    pub fn settle<W: Wait>(&mut self, rt: &W, service: &Service<R>)
+    /// Of what others publish once the lock is left, nothing is said. A pass that wants the desk while it is kept
+    /// locked waits, also where it is this one.
+    pub fn settle<'a, W: Wait>(
+        &mut self,
+        rt: &W,
+        service: &'a Service<R>,
+    ) -> MutexGuard<'a, Desk<R>>
         ensures all { LearnsAll self.old self.new }
+        ensures holds { self.new.history ≡ mutex_guard_value result }
         ensures passes { self.new.passes ≡ R.passes }
         ensures loaded { self.new.loaded ≡ R.loaded }
     {
         for _ in rt.forever() {
-            if try_settle(rt, service, self) {
-                return;
+            if let Some(desk) = try_settle(rt, service, self) {
+                return desk;
             }
         }
         unreachable!()
     }
 
-    /// Leaves what this pass knows on the board, for passes that catch up. The pass stays as it is; what lies on
-    /// the board is said by no clause. It takes no memory.
-    pub fn post<W: Wait>(&self, rt: &W, service: &Service<R>) {
-        service.board.lock(rt).add(&self.tell());
+    /// Leaves what this pass knows on the board, for passes that catch up, and keeps the board locked until what is
+    /// returned is dropped: so long it holds all that this pass holds. The pass stays as it is. It takes no memory.
+    ///
+    /// Nobody takes anything off the board; that is said by no clause, since what lies under a lock has no name
+    /// once the lock is left.
+    pub fn post<'a, W: Wait>(&self, rt: &W, service: &'a Service<R>) -> MutexGuard<'a, Told<R>>
+        ensures { IsPrefix self.now.history (mutex_guard_value result) }
+    {
+        let mut board = service.board.lock(rt);
+        board.add(&self.tell());
+        board
     }
 
-    /// Learns what lies on the board. The pass then holds more of the history, or as much, and nothing else of it
-    /// changes; how much more is said by no clause. It takes no memory.
-    pub fn catch_up<W: Wait>(&mut self, rt: &W, service: &Service<R>)
-        ensures { Learns self.old self.new }
+    /// Learns what lies on the board, and keeps the board locked until what is returned is dropped. The pass then
+    /// holds the longer of both histories, which the other begins; nothing else of it changes. It takes no memory.
+    pub fn catch_up<'a, W: Wait>(
+        &mut self,
+        rt: &W,
+        service: &'a Service<R>,
+    ) -> MutexGuard<'a, Told<R>>
+        ensures learns { Learns self.old self.new }
+        ensures holds { IsLongerOf self.old.history (mutex_guard_value result) self.new.history }
     {
         let board = service.board.lock(rt);
         self.learn(&*board);
+        board
     }
 }

@@ -5,7 +5,7 @@ use Rattle.kms_server.proofs.worker.attend.Goals as goal
 pub returns : goal.returns
 returns g c = record {
   met = c.catch_up.new.self;
-  learns = c.catch_up.ensures;
+  learns = c.catch_up.ensures.learns;
   end = c.serve_session-end.result;
   left = c.serve_session-end.new.pass;
   told = g.C.Clock.told c.serve_session-end.new.clock;
