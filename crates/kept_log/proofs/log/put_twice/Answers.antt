@@ -1,4 +1,4 @@
-use Rattle.std.proofs.Common.{ℕ, List, length, ap, arith}
+use Rattle.std.proofs.Common.{length, ap, arith}
 use Rattle.kept_log.specs.Log.{recovered, IsBeforeOrAfter}
 use Rattle.kept_log.proofs.Moments.{widened, joined}
 use Rattle.kept_log.proofs.Lines.{plain_recovered}
