@@ -1,0 +1,28 @@
+//! Logs over files in memory: the cases of `cases.txt`, each with what `kept_log` has to answer.
+//!
+//! It writes a line with how many cases there are and how many of them are answered as they should be,
+//! and a line for each case that isn't.
+#![tactic(auto)]
+
+mod cases;
+mod failures;
+mod logs;
+mod words;
+
+use failures::Failure;
+use std::alloc::Global;
+use std::process::ExitCode;
+use std::{fs, io, rt};
+
+fn show_all<R: rt::Runtime<A = Global>>(rt: &R) -> Result<(), Failure> {
+    let all = fs::read_to_string(rt, "cases.txt")?;
+    cases::show_all(rt, all.as_str())
+}
+
+fn main(rt: HostRuntime) -> io::Result<ExitCode> {
+    match show_all(&rt) {
+        Ok(()) => Ok(ExitCode::SUCCESS),
+        Err(Failure::Workshop(kind)) => Err(io::Error::from(kind)),
+        Err(_) => Ok(ExitCode::from(1)),
+    }
+}
