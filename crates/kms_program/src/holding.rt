@@ -12,7 +12,7 @@ use kms_session::{SessionEnd, Trust, serve_session};
 use publish_pass::{Opening, Realm, open_loaded, open_service};
 use std::alloc::Global;
 use std::marker::Brand;
-use std::sync::Wait;
+use std::sync::{MutexGuard, Wait};
 
 // Serves one session by the one pass of a service, and keeps the account that it leaves where that is wanted.
 fn serve_once<W: Wait, R: Realm, L: Link, C: Clock, G: Gate>(
@@ -36,10 +36,10 @@ fn serve_once<W: Wait, R: Realm, L: Link, C: Clock, G: Gate>(
     };
     let pass = &mut passes[0];
     let end = serve_session(rt, alloc, &service, pass, trust, clock, link, gate);
-    pass.settle(rt, &service);
+    let _ = MutexGuard::unlock(pass.settle(rt, &service));
     let _seen = pass.seen();
     let kept = keep(rt, pass, keeps);
-    pass.settle(rt, &service);
+    let _ = MutexGuard::unlock(pass.settle(rt, &service));
     service.shut(rt);
     (end, kept)
 }

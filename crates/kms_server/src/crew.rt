@@ -12,7 +12,7 @@ use crate::worker::{Worker, Workshop, work};
 use account_core::Account;
 use kms_io::{Clock, Ear, Gate};
 use publish_pass::{Pass, Realm, Service, Unread};
-use std::sync::Wait;
+use std::sync::{MutexGuard, Wait};
 use std::thread;
 use std::thread::Threads;
 
@@ -106,7 +106,7 @@ fn settle<W: Wait, R: Realm, E: Ear, C: Clock + Drop>(
 )
     ensures { Settles (state_of C.told E.shows worker.old) (state_of C.told E.shows worker.new) }
 {
-    worker.pass.settle(rt, service);
+    let _ = MutexGuard::unlock(worker.pass.settle(rt, service));
 }
 
 /// Lets each worker's pass learn at the desk, one after another: their histories go on, and nothing else changes.

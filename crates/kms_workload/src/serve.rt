@@ -15,7 +15,7 @@ use kms_session::{SessionEnd, Trust, serve_session};
 use publish_pass::{Opening, Realm, open_service};
 use std::alloc::Global;
 use std::marker::Brand;
-use std::sync::Wait;
+use std::sync::{MutexGuard, Wait};
 
 /// How a session ended, and how many entries its pass holds then.
 #[derive(Clone, Copy)]
@@ -44,7 +44,7 @@ fn serve_opening<W: Wait, R: Realm, G: Gate>(
     let (service, mut passes) = open_service::<W, R>(rt, alloc, opening)?;
     let pass = &mut passes[0];
     let end = serve_session(rt, alloc, &service, pass, trust, clock, link, gate);
-    pass.settle(rt, &service);
+    let _ = MutexGuard::unlock(pass.settle(rt, &service));
     let front = pass.seen();
     service.shut(rt);
     Ok(Past { end, front })

@@ -8,8 +8,8 @@ use kms_names::NoMemory;
 use publish_pass::{Pass, Realm};
 use std::alloc::Global;
 use std::rt;
-use std::sync::Wait;
 use std::sync::atomic::{AtomicU64, Ordering};
+use std::sync::{MutexGuard, Wait};
 use std::thread::{Threads, join};
 
 // What the word says: that the read begins, and that it has ended.
@@ -91,7 +91,7 @@ fn is_shown<R: Realm + Send + Sync, W: rt::Runtime + Threads + Wait + Sync>(
 ) -> Result<bool, Failure>
     requires { host.now.facts.now ≡ R.facts }
 {
-    two.settle(host.rt, host.service);
+    let _ = MutexGuard::unlock(two.settle(host.rt, host.service));
     let before = two.seen();
     let word = AtomicU64::new(0);
     let (read, reads) = join(

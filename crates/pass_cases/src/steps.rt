@@ -7,7 +7,7 @@ use crate::requests::{Caller, Failure, Request, Stage, answer};
 use kms_io::NoGate;
 use publish_pass::{Answered, Pass, Realm};
 use std::rt;
-use std::sync::Wait;
+use std::sync::{MutexGuard, Wait};
 use std::thread::Threads;
 
 // A line: the number of the pass that acts, the word for what it does, and what else is said.
@@ -101,9 +101,15 @@ fn act<R: Realm, W: Wait>(
 ) -> Result<bool, Failure> {
     match step.word {
         "sees" => {}
-        "posts" => drop(pass.post(host.rt, host.service)),
-        "catches-up" => drop(pass.catch_up(host.rt, host.service)),
-        "settles" => drop(pass.settle(host.rt, host.service)),
+        "posts" => {
+            let _ = MutexGuard::unlock(pass.post(host.rt, host.service));
+        }
+        "catches-up" => {
+            let _ = MutexGuard::unlock(pass.catch_up(host.rt, host.service));
+        }
+        "settles" => {
+            let _ = MutexGuard::unlock(pass.settle(host.rt, host.service));
+        }
         "keeps-house" => {
             let moment = step.rest.parse::<u64>().ok().ok_or(Failure::Unlike)?;
             if moment >= 253_402_300_800 {
