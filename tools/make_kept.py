@@ -113,6 +113,16 @@ def batch_word(batch):
     return " ".join(word(body) if body else "''" for body in batch) or "-"
 
 
+def torn(start, steps, part):
+    """What a crash leaves once all of these calls but the last came whole, and so much of the last."""
+    data = file_after(start, steps[:-1])
+    kind, *words = steps[-1]
+    if kind == "w":
+        at, new = words[0], words[1][:part]
+        return data[:at] + new + data[at + len(new):]
+    return data[:words[0] + part] if kind == "c" else data
+
+
 def is_plain(batch):
     return not any(b"\n" in body or b"\t" in body for body in batch)
 
@@ -137,6 +147,23 @@ class Cases:
         wanted = f"{' '.join(words)};{steps}; {file.faults}; {left}"
         self.lines.append(f"log | {reading} | {calls} | {word(data)} | {shown} | {wanted}")
         return file
+
+    def torn(self, reading, data, batches):
+        """Cases of what a crash leaves, torn at each byte of each call of a log."""
+        file = File(data, PLENTY)
+        log = Log(reading, file)
+        had, kept = records(data), [records(data)]
+        for batch in batches:
+            assert log.append(batch) == "ok"
+            had = had + batch
+            kept.append(had)
+        shown = " / ".join(batch_word(batch) for batch in batches)
+        for count, step in enumerate([*file.steps, ("s",)]):
+            last = {"w": lambda: len(step[2].rstrip(b"\t")) + 2, "c": lambda: len(data) - step[1] + 1, "s": lambda: 1}[step[0]]()
+            for part in range(last):
+                left = torn(data, [*file.steps, ("s",)][:count + 1], part)
+                assert records(left) in kept
+                self.lines.append(f"torn | {reading} | {word(data)} | {shown} | {count} | {part} | {whole(left)}; {'' if not left else word(left)}")
 
     def whole(self, data):
         self.lines.append(f"whole | {word(data)} | {whole(data)}")
@@ -247,6 +274,10 @@ def main():
     for reading in ["mixing", "wary"]:
         for calls in range(15):
             cases.log(reading, text, [[one], [two, three], [one], [two]], calls)
+    cases.note("what a crash leaves, torn at each byte of each call")
+    for reading in ["mixing", "wary"]:
+        cases.torn(reading, text + text[:3] + b"\t\t", [[one]])
+        cases.torn(reading, b"", [[one], [two, three], [b""]])
     for reading in ["mixing", "wary"]:
         for batches in ([[one], [two], [three]], [[one], [two, three]], [[one]], [[one, two]]):
             cases.note(f"{reading}: what a crash leaves while the last batch of {' / '.join(batch_word(b) for b in batches)} is appended")

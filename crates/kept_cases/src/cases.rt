@@ -1,6 +1,6 @@
 // The cases of a file: a line each, whose last column is the answer that is wanted.
 use crate::failures::Failure;
-use crate::logs::{log_answer, whole_answer};
+use crate::logs::{log_answer, torn_answer, whole_answer};
 use std::alloc::Global;
 use std::rt;
 
@@ -17,6 +17,7 @@ fn answer_to(alloc: Global, case: &str) -> Result<String, Failure> {
     let (call, columns) = case.split_once(" | ").ok_or(Failure::Unfit)?;
     match call {
         "log" => log_answer(alloc, columns),
+        "torn" => torn_answer(alloc, columns),
         "whole" => whole_answer(alloc, columns),
         _ => Err(Failure::Unfit),
     }

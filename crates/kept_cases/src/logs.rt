@@ -1,6 +1,6 @@
 // A log that is opened on a file in memory, and the batches that are appended to it.
 use crate::failures::Failure;
-use crate::words::{add_bytes, bytes_of, number_in};
+use crate::words::{add_bytes, bytes_of, number_in, size_in};
 use kept_log::{KeepFault, KeptLog, Memory, Mixing, Reading, Step, Wary, are_plain, whole};
 use std::alloc::Global;
 
@@ -41,6 +41,22 @@ fn append<M: Reading>(
     })
 }
 
+// Appends batches, and adds what was answered to each.
+fn append_all<M: Reading>(
+    alloc: Global,
+    log: &mut KeptLog<Memory<M>>,
+    word: &mut String,
+    batches: &str,
+) -> Result<(), Failure> {
+    if batches != "none" {
+        for batch in batches.split(" / ") {
+            let answer = append(alloc, log, batch)?;
+            write!(word, " {answer}")?;
+        }
+    }
+    Ok(())
+}
+
 // Adds what a call did: where and how many bytes were written, to which length the file was cut, or
 // that it was synced.
 fn add_step(word: &mut String, step: &Step) -> Result<(), Failure> {
@@ -66,12 +82,7 @@ fn answer_over<M: Reading>(
     let disk: Memory<M> = Memory::new(alloc, file.to_vec(alloc)?, calls)?;
     let mut log = KeptLog::open(disk, file);
     let mut word = String::from_str(alloc, if log.is_open { "open" } else { "shut" })?;
-    if batches != "none" {
-        for batch in batches.split(" / ") {
-            let answer = append(alloc, &mut log, batch)?;
-            write!(word, " {answer}")?;
-        }
-    }
+    append_all(alloc, &mut log, &mut word, batches)?;
     word.push(';')?;
     for step in &log.device.steps {
         add_step(&mut word, step)?;
@@ -92,6 +103,43 @@ pub fn log_answer(alloc: Global, columns: &str) -> Result<String, Failure> {
     match reading {
         "mixing" => answer_over::<Mixing>(alloc, calls, file.as_slice(), batches),
         "wary" => answer_over::<Wary>(alloc, calls, file.as_slice(), batches),
+        _ => Err(Failure::Unfit),
+    }
+}
+
+// Opens a log on a file, appends batches, and tells what a crash leaves once so many calls of the file
+// came whole and a part of the next: where its whole lines end, and its bytes.
+fn left_of<M: Reading>(
+    alloc: Global,
+    file: &[u8],
+    batches: &str,
+    calls: usize,
+    part: usize,
+) -> Result<String, Failure> {
+    let disk: Memory<M> = Memory::new(alloc, file.to_vec(alloc)?, u64::MAX)?;
+    let mut log = KeptLog::open(disk, file);
+    let mut answers = String::new(alloc);
+    append_all(alloc, &mut log, &mut answers, batches)?;
+    let left = log.device.torn(alloc, calls, part)?;
+    let end = whole(left.as_slice());
+    let mut word = format!(in alloc; "{end}; ")?;
+    add_bytes(&mut word, left.as_slice())?;
+    Ok(word)
+}
+
+/// What a crash leaves of a log's file: the reading, the file, the batches, how many of the file's
+/// calls came whole, and how much of the next are columns.
+pub fn torn_answer(alloc: Global, columns: &str) -> Result<String, Failure> {
+    let (reading, rest) = columns.split_once(" | ").ok_or(Failure::Unfit)?;
+    let (file, rest) = rest.split_once(" | ").ok_or(Failure::Unfit)?;
+    let (batches, rest) = rest.split_once(" | ").ok_or(Failure::Unfit)?;
+    let (calls, part) = rest.split_once(" | ").ok_or(Failure::Unfit)?;
+    let file = bytes_of(alloc, file)?;
+    let calls = size_in(calls)?;
+    let part = size_in(part)?;
+    match reading {
+        "mixing" => left_of::<Mixing>(alloc, file.as_slice(), batches, calls, part),
+        "wary" => left_of::<Wary>(alloc, file.as_slice(), batches, calls, part),
         _ => Err(Failure::Unfit),
     }
 }

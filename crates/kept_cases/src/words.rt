@@ -44,6 +44,11 @@ pub fn number_in(word: &str) -> Result<u64, Failure> {
     word.parse::<u64>().ok().ok_or(Failure::Unfit)
 }
 
+/// The size that a word stands for.
+pub fn size_in(word: &str) -> Result<usize, Failure> {
+    word.parse::<usize>().ok().ok_or(Failure::Unfit)
+}
+
 // Adds what stands behind a backslash.
 fn add_piece(bytes: &mut Vec<u8>, piece: &str) -> Result<(), Failure> {
     if let Some(rest) = piece.strip_prefix('n') {

@@ -1,6 +1,7 @@
 // The calls of the operating system that make a file ready, and write to it.
 ghost use Rattle.std.specs.Prelude.{◌≤◌, ◌^◌, length, IfOk};
 
+use kept_log::MAX_LEN;
 use os::RangeLock;
 use std::alloc::Global;
 use std::fmt;
@@ -8,9 +9,6 @@ use std::fs::{self, File, OpenOptions};
 use std::io::{self, ErrorKind, Read};
 use std::os::fd::AsRawFd;
 use std::os::unix::fs::{FileExt, OpenOptionsExt};
-
-/// The most bytes of a file that is opened.
-pub const MAX_LEN: usize = 2_147_483_648;
 
 const MAX_OFFSET: usize = (1 << 63) - 1;
 

@@ -9,7 +9,7 @@ mod threads;
 mod torn;
 
 pub use device::FileDevice;
-pub use file::{MAX_LEN, OpenError};
+pub use file::OpenError;
 pub use record::Call;
 pub use threads::file_goes_to_a_thread;
 pub use torn::keep_torn;

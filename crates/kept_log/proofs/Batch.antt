@@ -1,5 +1,5 @@
 -- A batch behind the lines of a file that is settled.
-use Rattle.std.proofs.Common.{◌≡◌, inl, inr, ℕ, ◌+◌, ◌-◌, ◌<◌, ◌≤◌, Bool, All, List, [], ◌∷◌, ◌++◌, length, drop, replicate, sym, ◌∙◌, ap, subst, arith, length-append}
+use Rattle.std.proofs.Common.{◌≡◌, ◌⊎◌, inl, inr, ℕ, ◌+◌, ◌-◌, ◌^◌, ◌<◌, ◌≤◌, Bool, All, List, [], ◌∷◌, ◌++◌, length, drop, replicate, sym, ◌∙◌, ap, subst, arith, length-append}
 use Rattle.std.proofs.lemmas.List.{append-nil, length-replicate}
 use Rattle.std.proofs.lemmas.List.Elements.{All-append, All-map}
 use Rattle.std.proofs.lemmas.Bool.{cases_eq}
@@ -29,6 +29,12 @@ length_rest_of batch pad = omega (arith, length-append (lines batch) (replicate 
 
 pub length_settled : (file : List ℕ) (may_leave : List ℕ → Type 0) (end room : ℕ) → IsSettled file may_leave end room → length file ≡ end + room
 length_settled file may_leave end room s = omega (arith, ap length s.whole, length_rest_of (recovered file) room, s.ends)
+
+-- no byte of a batch that isn't too long is written past the longest file
+pub within_max : (file : List ℕ) (may_leave : List ℕ → Type 0) (end room : ℕ) → IsSettled file may_leave end room → (batch : List (List ℕ)) (bytes : List ℕ) (pad : ℕ) → bytes ≡ at_rest batch pad → pad ≤ 16384
+    → length (lines (recovered file ++ batch)) + 16384 ≤ 2 ^ 31 → end + length bytes ≤ 2 ^ 31
+within_max file may_leave end room s batch bytes pad is little low =
+    omega (arith, s.ends, ap length is, length_rest_of batch pad, ap length (lines_append (recovered file) batch), length-append (lines (recovered file)) (lines batch), little, low)
 
 -- such bytes, written in two steps
 module _ (file : List ℕ) (may_leave : List ℕ → Type 0) (end room : ℕ) (s : IsSettled file may_leave end room) (bytes : List ℕ) (pad : ℕ) (is : bytes ≡ at_rest (recovered bytes) pad) (some : 0 < length (recovered bytes)) where
@@ -86,9 +92,9 @@ module _ (file : List ℕ) (may_leave : List ℕ → Type 0) (end room : ℕ) (s
   pad_within = omega (arith, ap length is, length_rest_of (recovered bytes) pad)
 
   pub settles : (new : List ℕ) (leaves : List ℕ → Type 0) (end_now room_now : ℕ) → new ≡ at_rest (recovered file ++ recovered bytes) (pad + (room - length bytes)) → Only new leaves
-      → (pad ≡ 0 → length bytes < room) → end_now ≡ end + (length bytes - pad) → room_now ≡ pad + (room - length bytes)
+      → (pad ≡ 0 → length bytes < room) → ((pad ≡ 0) ⊎ (room ≤ length bytes)) → pad ≤ 16384 → end_now ≡ end + (length bytes - pad) → room_now ≡ pad + (room - length bytes)
       → IsSettled new leaves end_now room_now × (recovered new ≡ recovered file ++ recovered bytes)
-  settles new leaves end_now room_now new_is only fits end_is room_is =
+  settles new leaves end_now room_now new_is only fits more low end_is room_is =
       let both = recovered file ++ recovered bytes in
       let plain : All IsPlain both = All-append IsPlain (recovered file) (recovered bytes) (plain_recovered file) (plain_recovered bytes) in
       let rests_now : new ≡ at_rest both room_now = new_is ∙ ap (λ (r : ℕ). at_rest both r) (sym room_is) in
@@ -97,4 +103,8 @@ module _ (file : List ℕ) (may_leave : List ℕ → Type 0) (end room : ℕ) (s
         | inl none ↦ omega (arith, none, fits none, room_is)
         | inr more ↦ omega (arith, more, room_is)
       ] in
-      settled new leaves both end_now room_now plain rests_now ends some only
+      let little : room_now ≤ 16384 = elim more [
+        | inl none ↦ omega (arith, none, s.little, room_is)
+        | inr over ↦ omega (arith, over, low, room_is)
+      ] in
+      settled new leaves both end_now room_now plain rests_now ends some little only

@@ -8,5 +8,5 @@ mod log;
 mod memory;
 
 pub use device::{Device, Failed};
-pub use log::{KeepFault, KeptLog, are_plain, is_plain, whole};
+pub use log::{KeepFault, KeptLog, MAX_LEN, are_plain, is_plain, whole};
 pub use memory::{Memory, Mixing, Reading, Step, Wary};

@@ -1,9 +1,13 @@
-use Rattle.std.proofs.Common.{arith}
-use Rattle.kept_log.proofs.Batch.{length_settled}
+use Rattle.std.proofs.Common.{◌++◌, length, ap, arith, length-append}
+use Rattle.kept_log.specs.Log.{batch_of, lines, recovered}
+use Rattle.kept_log.proofs.Lines.{lines_append}
 use Rattle.kept_log.proofs.log.KeptLog.is_full.Goals as goal
 
 pub returns : goal.returns
 returns g c =
     let s = c.args.self.now.settled c.requires in
-    let size = length_settled (g.D.Device.seen c.args.self.now.device) (g.D.Device.may_leave c.args.self.now.device) c.args.self.now.tail.end c.args.self.now.tail.room s in
-    (λ yes. omega (arith, size, c.is_full.ensures.0 yes), λ high. c.is_full.ensures.1 (omega (arith, size, high)))
+    let bodies = recovered (g.D.Device.seen c.args.self.now.device) in
+    let batch = batch_of c.args.bodies.now in
+    let both = ap length (lines_append bodies batch) in
+    let sum = length-append (lines bodies) (lines batch) in
+    (λ yes. omega (arith, both, sum, s.ends, c.size_of.ensures, c.is_too_short_for.ensures.0 yes), λ high. c.is_too_short_for.ensures.1 (omega (arith, both, sum, s.ends, c.size_of.ensures, high)))
