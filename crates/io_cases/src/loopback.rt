@@ -30,6 +30,10 @@ enum Talk {
     Reads,
     // A read, a write, and a read.
     Answer,
+    // The same of a session that holds a byte of the next message, so that the room of its last read is shorter.
+    Part,
+    // A read, a write, and a read once the client has asked again.
+    Stay,
     // Reads and writes until it ends, of a client that asks again at once.
     Steady,
     // Writes until one fails.
@@ -48,7 +52,7 @@ fn client<R: Net<Stream = TcpStream>>(
 }
 
 // Reads and answers until a read gives no bytes, and tells what it gives. The client asks before each read.
-fn say_steady<R: rt::Clock + Eprint + Input>(
+fn say_steady<R: Wait + rt::Clock + Eprint + Input>(
     client: &mut TcpStream,
     conn: &mut TcpLink<'_, R>,
     lines: &mut Lines,
@@ -67,7 +71,7 @@ fn say_steady<R: rt::Clock + Eprint + Input>(
 }
 
 // Writes until a write fails, and tells whether one does.
-fn say_writes<R: rt::Clock + Eprint + Input>(conn: &mut TcpLink<'_, R>, lines: &mut Lines) {
+fn say_writes<R: Wait + rt::Clock + Eprint + Input>(conn: &mut TcpLink<'_, R>, lines: &mut Lines) {
     for _ in 0..ROUNDS {
         let put = conn.write_some(&[7; PIECE]);
         if matches!(put, Put::Failed) {
@@ -79,7 +83,7 @@ fn say_writes<R: rt::Clock + Eprint + Input>(conn: &mut TcpLink<'_, R>, lines: &
 }
 
 // Serves a connection of the client.
-fn say_talk<R: rt::Clock + Eprint + Input>(
+fn say_talk<R: Wait + rt::Clock + Eprint + Input>(
     talk: Talk,
     client: &mut TcpStream,
     conn: &mut TcpLink<'_, R>,
@@ -98,6 +102,21 @@ fn say_talk<R: rt::Clock + Eprint + Input>(
             lines.say(", ");
             lines.say_put(conn.write_some(b"pong"));
             lines.say(", ");
+            lines.say_took(conn.read_some(&mut room));
+        }
+        Talk::Part => {
+            lines.say_took(conn.read_some(&mut room));
+            lines.say(", ");
+            lines.say_put(conn.write_some(b"pong"));
+            lines.say(", ");
+            lines.say_took(conn.read_some(&mut room[1..]));
+        }
+        Talk::Stay => {
+            lines.say_took(conn.read_some(&mut room));
+            lines.say(", ");
+            lines.say_put(conn.write_some(b"pong"));
+            lines.say(", ");
+            let _ = client.write_all(b"more");
             lines.say_took(conn.read_some(&mut room));
         }
         Talk::Steady => say_steady(client, conn, lines),
@@ -271,6 +290,79 @@ fn show_clients<R: Net<Stream = TcpStream> + Wait + rt::Clock + Eprint + Input +
     show_crowd(rt, at, ear, lines)
 }
 
+// Two clients of one ear, each of which waits again once it has its reply. None of them sees an end.
+fn show_again<R: Net<Stream = TcpStream> + Wait + rt::Clock + Eprint + Input + AllocGlobal>(
+    rt: &R,
+    at: SocketAddr,
+    ear: &mut TcpEar<'_, R>,
+    lines: &mut Lines,
+) -> io::Result<()>
+    requires { (counts_of ear.old).is_out ≡ false }
+    ensures { (counts_of ear.new).is_out ≡ false }
+{
+    let mut first = client(rt, at, b"ping")?;
+    let mut other = client(rt, at, b"wait")?;
+    lines.say("a client that has its reply while another is there: ");
+    say_next(Talk::Answer, &mut first, ear, lines);
+    lines.say("; the other: ");
+    say_next(Talk::Answer, &mut other, ear, lines);
+    first.write_all(b"more")?;
+    lines.say("; the first asks again: ");
+    say_next(Talk::Answer, &mut first, ear, lines);
+    first.shutdown(Shutdown::Write)?;
+    lines.say("; it closes its half: ");
+    say_next(Talk::Read, &mut first, ear, lines);
+    say_told(rt.alloc(), &mut first, lines)?;
+    other.shutdown(Shutdown::Write)?;
+    lines.say("; so does the other: ");
+    say_next(Talk::Read, &mut other, ear, lines);
+    say_told(rt.alloc(), &mut other, lines)?;
+    lines.say("\n");
+    Ok(())
+}
+
+// A client that has sent a part of its next request with the first one, while another waits.
+fn show_part<R: Net<Stream = TcpStream> + Wait + rt::Clock + Eprint + Input + AllocGlobal>(
+    rt: &R,
+    at: SocketAddr,
+    ear: &mut TcpEar<'_, R>,
+    lines: &mut Lines,
+) -> io::Result<()>
+    requires { (counts_of ear.old).is_out ≡ false }
+    ensures { (counts_of ear.new).is_out ≡ false }
+{
+    let mut first = client(rt, at, b"pingp")?;
+    let mut other = client(rt, at, b"wait")?;
+    lines.say("a client that has sent more than it was answered while another waits: ");
+    say_next(Talk::Part, &mut first, ear, lines);
+    say_told(rt.alloc(), &mut first, lines)?;
+    lines.say("; the other: ");
+    say_next(Talk::Read, &mut other, ear, lines);
+    lines.say("\n");
+    Ok(())
+}
+
+// What an ear does that gives connections again: with one client, and with two.
+fn show_parking<R: Net<Stream = TcpStream> + Wait + rt::Clock + Eprint + Input + AllocGlobal>(
+    rt: &R,
+    at: SocketAddr,
+    ears: &mut Vec<TcpEar<'_, R>>,
+    lines: &mut Lines,
+) -> io::Result<()>
+    requires { All (λ ear. (counts_of ear).is_out ≡ false) ears.old.items }
+{
+    if let Some(mut ear) = ears.pop() {
+        let mut lone = client(rt, at, b"ping")?;
+        lines.say("a lone client asks twice: ");
+        say_next(Talk::Stay, &mut lone, &mut ear, lines);
+        lines.say("\n");
+        show_again(rt, at, &mut ear, lines)?;
+        show_part(rt, at, &mut ear, lines)?;
+        ears.push(ear)?;
+    }
+    Ok(())
+}
+
 // What one of these ears does with them.
 fn show_ear<R: Net<Stream = TcpStream> + Wait + rt::Clock + Eprint + Input + AllocGlobal>(
     rt: &R,
@@ -299,7 +391,33 @@ fn show_shut<R: Net + Wait + rt::Clock + Eprint + Input + AllocGlobal + Sync>(
     lines.say("\n");
 }
 
-/// Openings that fail, and one whose ears take connections.
+// A door whose connections wait again.
+fn show_again_door<
+    R: Net<Listener = TcpListener, Stream = TcpStream>
+        + Wait
+        + rt::Clock
+        + Eprint
+        + Input
+        + AllocGlobal
+        + Sync,
+>(rt: &R, lines: &mut Lines) -> io::Result<()> {
+    let alloc = rt.alloc();
+    let at = TcpListener::bind(rt, "127.0.0.1:0")?.local_addr()?;
+    let address = format!(in alloc; "{at}")?;
+    let mut door = TcpDoor::new(rt).that_parks();
+    let mut ears = Vec::new(alloc);
+    lines.say("a door whose connections wait again: ");
+    let opened = door.open(&address, 1, &mut ears);
+    lines.say_opened(opened);
+    lines.say("\n");
+    if let Opened::Open = opened {
+        show_parking(rt, at, &mut ears, lines)?;
+        door.close(ears);
+    }
+    Ok(())
+}
+
+/// Openings that fail, and two whose ears take connections.
 pub fn show_loopback<
     R: Net<Listener = TcpListener, Stream = TcpStream>
         + Wait
@@ -329,8 +447,8 @@ pub fn show_loopback<
             show_shut(rt, "another at the same: ", &address, lines);
             show_ear(rt, at, &mut ears, lines)?;
             door.close(ears);
-            Ok(())
         }
-        Opened::Failed | Opened::NoMemory => Ok(()),
+        Opened::Failed | Opened::NoMemory => {}
     }
+    show_again_door(rt, lines)
 }

@@ -6,7 +6,8 @@ use crate::Link;
 
 /// What came next at an ear.
 pub enum Next<L> {
-    /// A connection, of which nothing is taken or written yet and whose counts of faults are 0.
+    /// A connection, of which nothing is taken or written yet and whose counts of faults are 0. What came before, of an
+    /// ear that gives one again, isn't counted.
     Conn(L),
     /// No connection, and the count of faults rose.
     Failed,

@@ -1,16 +1,23 @@
 // Who waits for a worker.
+use crate::arrivals::Arrivals;
+use crate::crowd::Crowd;
+use crate::guest::Guest;
 use crate::input_watch::InputWatch;
 use crate::moment::{Millis, moment, since};
+use crate::seats::Seats;
 use mio::net::{TcpListener, TcpStream};
-use mio::{Events, Interest, Poll, Token};
+use mio::{Events, Interest, Poll, Registry, Token};
 use std::alloc::Global;
+use std::collections::VecDeque;
 use std::io::{ErrorKind, Input};
 use std::net::Net;
+use std::sync::{Arc, Mutex, Wait};
 use std::time::Duration;
 use std::{io, rt};
 
-// How many connections wait at most. Then the one is closed that has sent nothing for longest.
-const ROOM: usize = 1024;
+// How many connections wait at most. Then the one is closed that has sent nothing for longest, and where each has sent
+// something, the one that is idle for longest.
+const ROOM: usize = 10_000;
 
 // How long a connection may send nothing.
 const SILENT: Millis = 75_000;
@@ -29,37 +36,19 @@ const SHORTAGE: Millis = 60_000;
 // For how long a connection that makes room for another counts as a worker that comes.
 const CALL: Millis = 50;
 
-// How many events are taken at once.
+// How many events, and how many new connections, are taken at once.
 const EVENTS: usize = 64;
 
-// The tokens of the listener and of standard input. Those of connections are greater.
+// The tokens of the listener and of standard input. Those of connections are greater: even where a connection has sent
+// nothing yet, and odd where it was served.
 const LISTENER: usize = 0;
 
 const INPUT: usize = 1;
 
-/// A connection that waits for a worker.
-#[derive(Drop)]
-pub struct Guest {
-    stream: TcpStream,
-    token: usize,
-    moment: Millis,
-}
-
-impl Guest {
-    /// The connection, which blocks, and the moment at which its first bytes came.
-    pub fn leave(self) -> io::Result<(std::net::TcpStream, Millis)> {
-        let Guest {
-            stream,
-            token: _,
-            moment,
-        } = self;
-        let stream = std::net::TcpStream::from(stream);
-        stream.set_nonblocking(false)?;
-        Ok((stream, moment))
-    }
-}
+const FIRST: usize = 2;
 
 /// What a wait came to.
+#[derive(Drop)]
 pub enum Heard {
     /// A connection that has bytes or is at its end, and how many such waited, with it.
     Guest(Guest, usize),
@@ -77,47 +66,48 @@ struct Shortage {
     pause: Millis,
 }
 
-/// The listener and the connections that wait for a worker: those that have sent nothing, the oldest first,
-/// and those with bytes, in the order in which these came. Where standard input is watched and has ended, none wait.
+/// Connections that have bytes or are at their ends, in the order in which these came.
+pub type Queue = Mutex<VecDeque<Guest>>;
+
+/// The listener and the connections that wait for bytes: those that have sent nothing, and those that were served and are
+/// idle. Where standard input is watched and has ended, none wait.
 #[derive(Drop)]
 pub struct Lobby {
     listener: TcpListener,
     input: InputWatch,
     poll: Poll,
     events: Events,
-    silent: Vec<Guest>,
-    ready: Vec<Guest>,
+    crowd: Arc<Crowd, Global>,
+    silent: Seats,
+    idle: Seats,
+    // Those that woke since the last look, and how many the queue had then.
+    woken: VecDeque<Guest>,
+    queued: usize,
     last_token: usize,
     has_more: bool,
     called: usize,
     called_at: Millis,
     shortage: Option<Shortage>,
     told_at: Option<Millis>,
-    closed: u64,
 }
 
-// Whether a call would have waited.
-fn would_wait<T: Drop>(answer: &io::Result<T>) -> bool {
-    match answer {
-        Ok(_) => false,
-        Err(fault) => fault.kind() == ErrorKind::WouldBlock,
-    }
-}
-
-// The connection of this token has bytes, or is at its end.
-fn wake(poll: &Poll, silent: &mut Vec<Guest>, ready: &mut Vec<Guest>, token: usize, now: Millis) {
-    let Ok(place) = silent.binary_search_by(|guest| guest.token.cmp(&token)) else {
-        return;
-    };
-    let mut guest = silent.remove(place);
-    let _ = poll.registry().deregister(&mut guest.stream);
-    guest.moment = now;
-    let _ = ready.push(guest);
+/// The first connection of the queue, if there is one, and how many there were.
+pub fn first_of<R: Wait>(rt: &R, queue: &Queue, crowd: &Crowd) -> Option<Heard> {
+    let mut queue = queue.lock(rt);
+    let waiting = queue.len();
+    let guest = queue.pop_front()?;
+    crowd.queues(queue.len());
+    Some(Heard::Guest(guest, waiting))
 }
 
 impl Lobby {
     /// The lobby of this listener, in which nobody waits.
-    pub fn new<R: Net>(rt: &R, alloc: Global, mut listener: TcpListener) -> io::Result<Lobby> {
+    pub fn new<R: Net>(
+        rt: &R,
+        alloc: Global,
+        mut listener: TcpListener,
+        crowd: Arc<Crowd, Global>,
+    ) -> io::Result<Lobby> {
         let poll = Poll::new(rt)?;
         poll.registry()
             .register(&mut listener, Token(LISTENER), Interest::READABLE)?;
@@ -126,15 +116,17 @@ impl Lobby {
             input: InputWatch::Off,
             poll,
             events: Events::with_capacity(alloc, EVENTS)?,
-            silent: Vec::with_capacity(alloc, ROOM)?,
-            ready: Vec::with_capacity(alloc, ROOM)?,
-            last_token: INPUT,
+            silent: Seats::new(alloc, Arc::try_clone(&crowd)?),
+            idle: Seats::new(alloc, Arc::try_clone(&crowd)?),
+            crowd,
+            woken: VecDeque::new(alloc),
+            queued: 0,
+            last_token: FIRST,
             has_more: false,
             called: 0,
             called_at: 0,
             shortage: None,
             told_at: None,
-            closed: 0,
         })
     }
 
@@ -143,9 +135,24 @@ impl Lobby {
         self.input = InputWatch::begin(self.poll.registry(), Token(INPUT));
     }
 
+    /// What tells it of connections that come back.
+    pub fn registry(&self) -> io::Result<Registry> {
+        self.poll.registry().try_clone()
+    }
+
     /// How many connections were closed that had sent nothing.
-    pub fn closed(&self) -> u64 {
-        self.closed
+    pub fn closed_silent(&self) -> u64 {
+        self.silent.closed()
+    }
+
+    /// How many were closed that had been served.
+    pub fn closed_idle(&self) -> u64 {
+        self.idle.closed()
+    }
+
+    /// Whether standard input is watched and has ended.
+    pub fn has_ended(&self) -> bool {
+        self.input.has_ended()
     }
 
     /// Whether no connection can be taken now.
@@ -153,51 +160,59 @@ impl Lobby {
         self.shortage.is_some()
     }
 
-    /// Waits for a second at most for a connection that has bytes or is at its end.
-    pub fn next<R: rt::Clock + Eprint + Input>(&mut self, rt: &R) -> Heard {
+    /// Waits for a second at most for a connection that has bytes or is at its end, where the queue has none.
+    pub fn next<R: Wait + rt::Clock + Eprint + Input>(
+        &mut self,
+        rt: &R,
+        arrivals: &Mutex<Arrivals>,
+        queue: &Queue,
+    ) -> Heard {
         if self.input.has_ended() {
             return Heard::Failed;
         }
         let now = moment(rt);
         self.called = self.called.saturating_sub(1);
-        if self.ready.is_empty() {
-            let patience = self.patience(now);
-            if let Err(fault) = self.gather(rt, patience) {
-                self.tell(rt, now, &fault);
-                return Heard::Failed;
-            }
-            if self.input.has_ended() || self.gives_up(moment(rt)) {
-                return Heard::Failed;
-            }
+        if let Some(heard) = first_of(rt, queue, &self.crowd) {
+            return heard;
         }
-        if self.ready.is_empty() {
-            return Heard::Nobody;
+        let patience = self.patience(now);
+        if let Err(fault) = self.gather(rt, arrivals, queue, patience) {
+            self.tell(rt, now, &fault);
+            return Heard::Failed;
         }
-        let waiting = self.ready.len();
-        Heard::Guest(self.ready.remove(0), waiting)
+        if self.input.has_ended() || self.gives_up(moment(rt)) {
+            return Heard::Failed;
+        }
+        first_of(rt, queue, &self.crowd).unwrap_or(Heard::Nobody)
     }
 
     /// Sees who waits, without waiting.
-    pub fn look<R: rt::Clock + Eprint + Input>(&mut self, rt: &R) {
+    pub fn look<R: Wait + rt::Clock + Eprint + Input>(
+        &mut self,
+        rt: &R,
+        arrivals: &Mutex<Arrivals>,
+        queue: &Queue,
+    ) {
         if !self.input.has_ended() {
-            let _ = self.gather(rt, 0);
+            let _ = self.gather(rt, arrivals, queue, 0);
         }
     }
 
-    /// Whether a connection waits for which no worker makes room yet. Once standard input has ended all make room.
-    pub fn is_awaited(&mut self, now: Millis) -> bool {
+    /// Whether a connection waits, of so many, for which no worker makes room yet. Once standard input has ended all make
+    /// room.
+    pub fn is_awaited(&mut self, waiting: usize, now: Millis) -> bool {
         if self.input.has_ended() {
             return true;
         }
         if since(self.called_at, now) >= CALL {
             self.called = 0;
         }
-        self.ready.len() > self.called
+        waiting > self.called
     }
 
     /// The same; where one does, whoever asks is to make room for it.
-    pub fn calls(&mut self, now: Millis) -> bool {
-        if !self.is_awaited(now) {
+    pub fn calls(&mut self, waiting: usize, now: Millis) -> bool {
+        if !self.is_awaited(waiting, now) {
             return false;
         }
         self.called = self.called.saturating_add(1);
@@ -225,54 +240,99 @@ impl Lobby {
         }
     }
 
-    // Sees which connections have bytes, and takes the new ones.
-    fn gather<R: rt::Clock + Eprint + Input>(
+    // Sees which connections have bytes, takes the new ones, and puts those with bytes into the queue.
+    fn gather<R: Wait + rt::Clock + Eprint + Input>(
         &mut self,
         rt: &R,
+        arrivals: &Mutex<Arrivals>,
+        queue: &Queue,
         patience: Millis,
     ) -> io::Result<()> {
         self.poll
             .poll(&mut self.events, Some(Duration::from_millis(patience)))?;
         let now = moment(rt);
-        let mut has_input = false;
-        for event in &self.events {
-            match event.token() {
-                Token(LISTENER) => self.has_more = true,
-                Token(INPUT) => has_input = true,
-                Token(token) => wake(&self.poll, &mut self.silent, &mut self.ready, token, now),
-            }
-        }
+        self.admit(rt, arrivals);
+        let has_input = self.wake_all(now);
         if has_input {
-            self.look_at_input(rt);
+            self.look_at_input(rt, queue);
         }
         if !self.input.has_ended() {
-            self.close_silent(now);
+            self.silent.close_after(SILENT, now);
+            self.idle.close_after(SILENT, now);
             self.take_new(rt, now);
+            self.pass_on(rt, queue);
         }
         Ok(())
     }
 
+    // Puts those that woke into the queue.
+    fn pass_on<R: Wait>(&mut self, rt: &R, queue: &Queue) {
+        let mut queue = queue.lock(rt);
+        for _ in 0..self.woken.len() {
+            if let Some(guest) = self.woken.pop_front() {
+                if queue.push_back(guest).is_err() {
+                    self.crowd.go(1);
+                }
+            }
+        }
+        self.queued = queue.len();
+        self.crowd.queues(self.queued);
+    }
+
+    // Takes the connections that have come back. They are watched already, so an event may be of one of them.
+    fn admit<R: Wait>(&mut self, rt: &R, arrivals: &Mutex<Arrivals>) {
+        let mut arrivals = arrivals.lock(rt);
+        for _ in 0..arrivals.len() {
+            if let Some((token, guest)) = arrivals.take() {
+                self.make_room();
+                self.idle.seat(token, guest);
+            }
+        }
+    }
+
+    // The token of an event.
+    fn token_at(&self, place: usize) -> Option<usize> {
+        let event = self.events.iter().nth(place)?;
+        Some(event.token().0)
+    }
+
+    // Sees which connections have bytes, and tells whether standard input has something.
+    fn wake_all(&mut self, now: Millis) -> bool {
+        let mut has_input = false;
+        for place in 0..EVENTS {
+            match self.token_at(place) {
+                None => return has_input,
+                Some(LISTENER) => self.has_more = true,
+                Some(INPUT) => has_input = true,
+                Some(token) => self.wake(token, now),
+            }
+        }
+        has_input
+    }
+
     // Standard input has bytes, or has ended. Then those that wait are closed.
-    fn look_at_input<R: Eprint + Input>(&mut self, rt: &R) {
+    fn look_at_input<R: Wait + Eprint + Input>(&mut self, rt: &R, queue: &Queue) {
         self.input.look(rt, self.poll.registry(), Token(INPUT));
         if self.input.has_ended() {
-            self.closed = self.closed.saturating_add(self.silent.len() as u64);
-            self.silent.clear();
-            self.ready.clear();
+            self.silent.close_all();
+            self.idle.close_all();
+            self.woken.clear();
+            queue.lock(rt).clear();
             let _ = eprintln!(rt; "standard input ended, and no more connections are taken");
         }
     }
 
-    // Takes the connections that wait at the listener, as long as there is room.
+    // Takes connections that wait at the listener, as long as there is room for more that have bytes.
     fn take_new<R: Eprint>(&mut self, rt: &R, now: Millis) {
-        for _ in 0..ROOM {
-            if !self.has_more || self.ready.len() >= ROOM || self.pauses(now) {
+        for _ in 0..EVENTS {
+            if !self.has_more || self.queued >= ROOM || self.pauses(now) {
                 return;
             }
             match self.listener.accept() {
                 Ok((stream, _address)) => {
                     self.shortage = None;
-                    self.seat(stream, now);
+                    self.crowd.comes();
+                    self.seat(Guest::new(stream, now));
                 }
                 Err(fault) if fault.kind() == ErrorKind::WouldBlock => {
                     self.shortage = None;
@@ -292,11 +352,10 @@ impl Lobby {
         }
     }
 
-    // A connection couldn't be taken, mostly for want of descriptors. One that has sent nothing makes room, or it is
+    // A connection couldn't be taken, mostly for want of descriptors. One from which nothing comes makes room, or it is
     // tried again after a pause.
     fn fall_short<R: Eprint>(&mut self, rt: &R, now: Millis, fault: &io::Error) {
-        if !self.silent.is_empty() {
-            self.close_oldest();
+        if self.close_oldest() {
             return;
         }
         let (begin, pause) = match &self.shortage {
@@ -323,51 +382,52 @@ impl Lobby {
     }
 
     // A new connection waits: with those that have bytes, or with those that don't.
-    fn seat(&mut self, mut stream: TcpStream, now: Millis) {
-        let is_silent = would_wait(&stream.peek(&mut [0]));
-        if is_silent {
-            if self.silent.len() + self.ready.len() >= ROOM {
-                self.close_oldest();
-            }
-            self.last_token = self.last_token.wrapping_add(1).max(INPUT + 1);
-        }
-        let token = self.last_token;
-        if !is_silent {
-            let _ = self.ready.push(Guest {
-                stream,
-                token,
-                moment: now,
-            });
+    fn seat(&mut self, mut guest: Guest) {
+        if !guest.is_silent() {
+            self.queue(guest);
             return;
         }
-        let registry = self.poll.registry();
-        if registry
-            .register(&mut stream, Token(token), Interest::READABLE)
-            .is_ok()
-        {
-            let _ = self.silent.push(Guest {
-                stream,
-                token,
-                moment: now,
-            });
+        self.make_room();
+        self.last_token = self.last_token.wrapping_add(2).max(FIRST);
+        if guest.watch(self.poll.registry(), self.last_token).is_ok() {
+            self.silent.seat(self.last_token, guest);
+        } else {
+            self.crowd.go(1);
         }
     }
 
-    // Closes the connection that has sent nothing for longest, where there is one.
-    fn close_oldest(&mut self) {
-        if !self.silent.is_empty() {
-            drop(self.silent.remove(0));
-            self.closed = self.closed.saturating_add(1);
+    // A connection has bytes. Where there is no memory for it, it is closed.
+    fn queue(&mut self, guest: Guest) {
+        if self.woken.push_back(guest).is_err() {
+            self.crowd.go(1);
         }
     }
 
-    // Closes the connections that have sent nothing for too long.
-    fn close_silent(&mut self, now: Millis) {
-        for _ in 0..ROOM {
-            match self.silent.first() {
-                Some(oldest) if since(oldest.moment, now) >= SILENT => self.close_oldest(),
-                _ => return,
-            }
+    // The connection of this token has bytes, or is at its end.
+    fn wake(&mut self, token: usize, now: Millis) {
+        let seats = if token % 2 == 0 {
+            &mut self.silent
+        } else {
+            &mut self.idle
+        };
+        if let Some(mut guest) = seats.take(token) {
+            guest.leave_alone(self.poll.registry());
+            guest.woke(now);
+            self.queue(guest);
         }
+    }
+
+    // Closes a connection where as many wait as may.
+    fn make_room(&mut self) {
+        let idle = self.silent.len().saturating_add(self.idle.len());
+        if idle.saturating_add(self.queued) >= ROOM {
+            self.close_oldest();
+        }
+    }
+
+    // Closes the connection that has sent nothing for longest, or else the one that is idle for longest, and tells whether
+    // there was one.
+    fn close_oldest(&mut self) -> bool {
+        self.silent.close_oldest() || self.idle.close_oldest()
     }
 }

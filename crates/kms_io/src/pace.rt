@@ -5,8 +5,11 @@ use crate::moment::{Millis, since};
 /// be idle at most where somebody does.
 pub const STILL: Millis = 50;
 
+/// How long a connection that had its reply may be idle where there are more connections than workers, of which one is free.
+pub const GRACE: Millis = 2;
+
 /// How often a call looks at most: more often than any limit lasts.
-pub const LOOKS: u32 = 10_000;
+pub const LOOKS: u32 = 100_000;
 
 // How long a connection may be idle.
 const IDLE: Millis = 75_000;
@@ -95,6 +98,11 @@ impl Pace {
         if let Stage::Idle(_) = self.stage {
             self.stage = Stage::Asking(now);
         }
+    }
+
+    /// Whether all that was to go out has gone, and nothing has come since.
+    pub fn is_idle(&self) -> bool {
+        matches!(self.stage, Stage::Idle(_))
     }
 
     /// Bytes are to go out.

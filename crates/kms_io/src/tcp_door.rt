@@ -3,6 +3,7 @@ ghost use Rattle.std.specs.Prelude.{◌≡◌, ◌≤◌, length, All, IfOk};
 ghost use Rattle.kms_io.specs.Door.{IsNewEar};
 ghost use Rattle.kms_io.specs.TcpEar.{counts_of as ear_counts};
 
+use crate::crowd::Crowd;
 use crate::hall::Hall;
 use crate::lobby::Lobby;
 use crate::{Door, Opened, TcpEar};
@@ -22,6 +23,7 @@ use std::{io, rt};
 pub struct TcpDoor<'a, R> {
     rt: &'a R,
     ends_with_input: bool,
+    parks: bool,
     faults: u64,
 }
 
@@ -41,6 +43,7 @@ impl<'a, R> TcpDoor<'a, R> {
         TcpDoor {
             rt,
             ends_with_input: false,
+            parks: false,
             faults: 0,
         }
     }
@@ -59,7 +62,21 @@ impl<'a, R> TcpDoor<'a, R> {
         TcpDoor {
             rt,
             ends_with_input: true,
+            parks: false,
             faults: 0,
+        }
+    }
+
+    /// The same, whose ears give a connection again: one that has had its reply, and from which nothing comes while more
+    /// connections are there than ears, counts as ended for its session, and stays open. Once more comes of it, or its
+    /// end, an ear gives it as a connection again. This wants a session whose reads have a room as long as its first one
+    /// exactly where it holds nothing of a message that isn't answered.
+    pub fn that_parks(self) -> TcpDoor<'a, R>
+        ensures { counts_of result ≡ counts_of self.entry }
+    {
+        TcpDoor {
+            parks: true,
+            ..self
         }
     }
 }
@@ -76,7 +93,7 @@ impl<'a, R: Net + Wait + rt::Clock + Eprint + Input + Sync> Door for TcpDoor<'a,
     fn open(&mut self, address: &str, n: u16, ears: &mut Vec<TcpEar<'a, R>>) -> Opened
         ensures { Opens ear_counts (counts_of self.old) address.now n ears.old.items result (counts_of self.new) ears.new.items }
     {
-        match new_ears(self.rt, *ears.allocator(), self.ends_with_input, address, n) {
+        match new_ears(self, *ears.allocator(), address, n) {
             Ok(mut fresh) => match ears.append(&mut fresh) {
                 Ok(()) => Opened::Open,
                 Err(_) => Opened::NoMemory,
@@ -136,22 +153,24 @@ fn ears_of<'a, R>(
 
 // So many ears on one listener at the address, which standard error is told.
 fn new_ears<'a, R: Net + rt::Clock + Eprint>(
-    rt: &'a R,
+    door: &TcpDoor<'a, R>,
     alloc: Global,
-    ends_with_input: bool,
     address: &str,
     n: u16,
 ) -> io::Result<Vec<TcpEar<'a, R>>>
     ensures number { IfOk result (λ ears. length ears.items ≡ n) }
     ensures each { IfOk result (λ ears. All (λ ear. IsNewEar (ear_counts ear)) ears.items) }
 {
+    let rt = door.rt;
     let listener = listener_at(rt, address)?;
     let at = listener.local_addr()?;
-    let mut lobby = Lobby::new(rt, alloc, listener)?;
-    if ends_with_input {
+    let crowd = Arc::new(alloc, Crowd::new())?;
+    let mut lobby = Lobby::new(rt, alloc, listener, Arc::try_clone(&crowd)?)?;
+    if door.ends_with_input {
         lobby.watch_input();
     }
-    let hall = Arc::new(alloc, Hall::new(rt, alloc, lobby, n))?;
+    let hall = Hall::new(rt, alloc, lobby, crowd, n, door.parks)?;
+    let hall = Arc::new(alloc, hall)?;
     let ears = ears_of(rt, alloc, &hall, n)?;
     let _ = eprintln!(rt; "listening on {at}");
     Ok(ears)

@@ -12,7 +12,7 @@ use std::sync::{Arc, Wait};
 
 /// An ear at a TCP address. It gives a connection once that has bytes or is at its end. It counts a failure where it
 /// couldn't take one for a minute, and at each call once standard input has ended, where its door watches that. It tells
-/// nothing of those given back, which it ends.
+/// nothing of those given back, which it ends, or has wait again and gives again.
 #[derive(Drop)]
 pub struct TcpEar<'a, R> {
     rt: &'a R,
@@ -69,7 +69,7 @@ fn next_stream<'a, R: Wait + rt::Clock + Eprint + Input>(
         match hall.next(rt) {
             Heard::Guest(guest, waiting) => match TimedStream::new(rt, hall, guest, waiting) {
                 Ok(stream) => return Some(stream),
-                Err(_) => {}
+                Err(_) => hall.lose(),
             },
             Heard::Nobody => {}
             Heard::Failed => return None,
@@ -101,10 +101,6 @@ impl<'a, R: Wait + rt::Clock + Eprint + Input> Ear for TcpEar<'a, R> {
 
     fn done(&mut self, conn: TcpLink<'a, R>) {
         self.is_out = false;
-        let stream = conn.into_stream();
-        self.hall.counts.add(stream.cause());
-        if let Some(rest) = stream.leave() {
-            self.hall.see_off(self.rt, rest);
-        }
+        conn.into_stream().give_back();
     }
 }

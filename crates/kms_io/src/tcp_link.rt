@@ -3,11 +3,13 @@ use crate::timed::TimedStream;
 use crate::{Link, Put, Took};
 use std::io::Input;
 use std::rt;
+use std::sync::Wait;
 
-/// A connection over TCP. It counts as ended where it is idle for 75 seconds, or for 50 milliseconds where another
-/// connection waits for a worker; where a message takes 10 seconds to come, or 2 where another waits; and between
-/// two messages where it was served for 250 milliseconds, or for less where many wait, and another waits. A write that waits as long as a
-/// message may take is a fault. What is written goes out at once (TCP_NODELAY). It counts the stream's errors, a
+/// A connection over TCP. It counts as ended where it is idle for 75 seconds, and where a message takes 10 seconds to
+/// come, or 2 where another connection waits for a worker. At a door that parks it counts as ended too where it is to wait
+/// again, once it was answered; at another door, where another waits, between two messages: after 50 milliseconds without
+/// a further byte, or once it was served for 250 milliseconds, or for less where many wait. A write that waits as long as
+/// a message may take is a fault. What is written goes out at once (TCP_NODELAY). It counts the stream's errors, a
 /// write of no bytes among them, and tells nothing of its bytes. A call that a signal cuts short is made again.
 #[derive(Drop)]
 pub struct TcpLink<'a, R> {
@@ -44,7 +46,7 @@ impl<'a, R> TcpLink<'a, R> {
     }
 }
 
-impl<R: rt::Clock + Eprint + Input> Link for TcpLink<'_, R> {
+impl<R: Wait + rt::Clock + Eprint + Input> Link for TcpLink<'_, R> {
     ghost use Rattle.kms_io.specs.TcpLink.{counts_of};
 
     ghost shows = { counts_of };

@@ -166,10 +166,10 @@ served_by (Some file) (Some address) (Some workers) None journal exports = None
 served_by (Some file) (Some address) (Some workers) (Some connections) journal exports =
     Some (serve (record { file = file; address = address; workers = workers; connections = connections; load = journal; exports = exports }))
 
--- 1 to 64 workers (4), each with 1 to 1,000,000,000 connections (as many)
+-- 1 to 64 workers (4), each with 1 to 1,000,000,000 connections (2^57: as many as come)
 abbrev pub serve_of : List Row → Option Command
 serve_of rows =
-    served_by (first_of (codes "config") rows) (first_of (codes "listen") rows) (number_or 4 1 64 (first_of (codes "workers") rows)) (number_or 1000000000 1 1000000000 (first_of (codes "connections") rows)) (first_of (codes "load") rows) (is_given (codes "export") rows)
+    served_by (first_of (codes "config") rows) (first_of (codes "listen") rows) (number_or 4 1 64 (first_of (codes "workers") rows)) (number_or 144115188075855872 1 1000000000 (first_of (codes "connections") rows)) (first_of (codes "load") rows) (is_given (codes "export") rows)
 
 -- both numbers are given, and within their bounds
 abbrev pub loaded_by : Option ℕ → Option ℕ → Option Command

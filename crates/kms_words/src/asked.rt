@@ -43,7 +43,7 @@ pub struct ServeWords<'a> {
     pub address: &'a str,
     /// The number of `--workers`, from 1 to 64 (4).
     pub workers: u16,
-    /// The number of `--connections`, from 1 to 1,000,000,000 (as many).
+    /// The number of `--connections`, from 1 to 1,000,000,000; 2^57 where it isn't given.
     pub connections: u64,
     /// The value of `--load`, where it is given: the file of the journal that it begins with.
     pub load: Option<&'a str>,
@@ -52,7 +52,7 @@ pub struct ServeWords<'a> {
 
     ghost some: { 0 < workers },
     ghost few: { workers ≤ 64 },
-    ghost bounded: { connections ≤ 1000000000 },
+    ghost bounded: { connections ≤ 144115188075855872 },
 }
 
 /// What the words of `load` name.

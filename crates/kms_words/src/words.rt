@@ -2,7 +2,7 @@
 ghost use Rattle.std.specs.Prelude.{◌≡◌, ◌≢◌, ◌≤◌, ◌||◌, [], Err, IfOk, IfSome, codes, option_map, option_and_then, map, string_bytes};
 ghost use Rattle.std.specs.List.{list_any};
 ghost use Rattle.clap.specs.Words.{first_of, rows_of, found_of, subcommand_rows_of};
-ghost use Rattle.kms_words.specs.Numbers.{number_within};
+ghost use Rattle.kms_words.specs.Numbers.{number_within, number_or};
 ghost use Rattle.kms_words.specs.Words.{ends_in_equals, is_valueless, is_stray, values_of, form_of, source_of, is_given, run_of, explain_of, export_of, check_of, served_by, serve_of, loaded_by, load_of, named_command, command_of, source_in, journal_in, shown};
 
 use crate::asked::{Asked, LoadWords, RunWords, ServeWords, SessionAsked, SessionWords};
@@ -12,8 +12,11 @@ use clap::ArgMatches;
 use kms_names::NoMemory;
 use std::alloc::Global;
 
-// The most connections of a worker, which it takes where no number is given.
+// The most connections of a worker that can be asked for.
 const CONNECTIONS: u64 = 1_000_000_000;
+
+// How many it takes where no number is given: more than come in a thousand years.
+const AS_MANY: u64 = 1 << 57;
 
 fn ends_in_equals(text: &[u8]) -> bool
     ensures { result ≡ ends_in_equals text.now }
@@ -160,7 +163,7 @@ fn served_by<'a>(
     exports: bool,
 ) -> Option<Asked<'a>>
     requires workers { IfSome workers (λ number. (1 ≤ number) × (number ≤ 64)) }
-    requires connections { IfSome connections (λ number. (1 ≤ number) × (number ≤ 1000000000)) }
+    requires connections { IfSome connections (λ number. (1 ≤ number) × (number ≤ 144115188075855872)) }
     ensures { option_map shown result ≡ served_by (option_map (λ s. s.now) file.entry) (option_map (λ s. s.now) address.entry) workers connections (option_map (λ s. s.now) load.entry) exports }
 {
     Some(Asked::Serve(ServeWords {
@@ -173,6 +176,17 @@ fn served_by<'a>(
     }))
 }
 
+// How many connections each worker takes.
+fn connections_in(text: Option<&str>) -> Option<u64>
+    ensures number { result ≡ number_or 144115188075855872 1 1000000000 (option_map (λ text. text.now) text.entry) }
+    ensures bounds { IfSome result (λ number. (1 ≤ number) × (number ≤ 144115188075855872)) }
+{
+    match text {
+        Some(text) => number_within(text, 1, CONNECTIONS),
+        None => Some(AS_MANY),
+    }
+}
+
 fn serve_in<'a>(matches: &ArgMatches<'a>) -> Option<Asked<'a>>
     ensures { option_map shown result ≡ serve_of (rows_of (found_of matches.now)) }
 {
@@ -180,12 +194,7 @@ fn serve_in<'a>(matches: &ArgMatches<'a>) -> Option<Asked<'a>>
         value_in(matches, "config"),
         value_in(matches, "listen"),
         number_or(value_in(matches, "workers"), 4, 1, 64),
-        number_or(
-            value_in(matches, "connections"),
-            CONNECTIONS,
-            1,
-            CONNECTIONS,
-        ),
+        connections_in(value_in(matches, "connections")),
         value_in(matches, "load"),
         is_given(matches, "export"),
     )
@@ -239,7 +248,7 @@ fn asked_in<'a>(matches: &ArgMatches<'a>) -> Option<Asked<'a>>
 /// perhaps `--boot` and `--load`; `run` with `--config` and perhaps `--as` and `--load`; `explain` or
 /// `export` with the options of one of these two; `check` with `--config`; `serve` with `--config` and
 /// `--listen`, and perhaps `--workers` (1 to 64, else 4), `--connections` (1 to 1,000,000,000, else as
-/// many), `--load` and `--export`; `load` with `--seed` (0 to 2^64 - 1) and `--requests` (1 to 100,000). A
+/// many as come), `--load` and `--export`; `load` with `--seed` (0 to 2^64 - 1) and `--requests` (1 to 100,000). A
 /// number has 1 to 20 decimal digits. An option is written `--name value` or `--name=value`, and `--export`
 /// without a value; each at most once and in any order.
 pub fn read_words<'a>(alloc: Global, words: &'a [String]) -> Result<Option<Asked<'a>>, NoMemory>

@@ -54,12 +54,13 @@ impl Inbox {
     }
 
     /// Reads once from the link, to the end of the bytes. What is there is moved to the front of the buffer
-    /// where no room is left behind it.
+    /// where no room is left behind it. So the room that the link is given has the whole buffer exactly where
+    /// there are no bytes, which tells the link that none are left to be answered.
     pub fn fill<L: Link>(&mut self, link: &mut L) -> Took
         requires { length self.old < inbox_room }
         ensures { Fills (L.shows link.old) self.old result (L.shows link.new) self.new }
     {
-        if self.end == ROOM {
+        if self.end == ROOM || self.is_empty() {
             settle(&mut self.bytes, &mut self.start, &mut self.end);
         }
         read_into(link, &mut self.bytes, self.start, &mut self.end)
