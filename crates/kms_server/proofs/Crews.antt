@@ -1,5 +1,5 @@
 -- Workers in order, and what their passes learn.
-use Rattle.std.proofs.Common.{◌≡◌, ◌≢◌, ◌↔◌, ◌<◌, ◌≤◌, ◌+◌, ◌*◌, ℕ, zero, suc, List, [], ◌∷◌, ◌++◌, length, length-append, map, get_or, take, drop, below_more, Bool, refl, sym, subst, inr, ap, ap₂, ◌∙◌, arith}
+use Rattle.std.proofs.Common.{◌≡◌, ◌≢◌, ◌↔◌, ◌<◌, ◌≤◌, le_refl, ◌+◌, ◌*◌, ℕ, zero, suc, List, [], ◌∷◌, ◌++◌, length, length-append, map, get_or, take, drop, below_more, Bool, refl, sym, subst, inr, ap, ap₂, ◌∙◌, arith}
 use Rattle.std.specs.Prelude.{All}
 use Rattle.std.proofs.lemmas.List.Sums.{sum-map, sum_by-cons}
 use Rattle.std.proofs.lemmas.List.Elements.{All-map, All-head, All-tail, All-cons}
@@ -10,14 +10,14 @@ use Rattle.account_steps.specs.declared.facts.RealmFacts.{RealmFacts}
 use mathlib.Core.List.{IsPrefix}
 use Rattle.account_steps.specs.History.{Entry}
 use Rattle.published_account.specs.Growing.{Pairs}
-use Rattle.published_account.specs.Pairs.{entries_of, LeadsTo}
+use Rattle.published_account.specs.Pairs.{IsHistory, entries_of, LeadsTo, stays}
 use Rattle.published_account.proofs.Lists.{prefix_self}
 use Rattle.publish_pass.specs.Pass.{Pass, Learns, Meets, fresh_pass, fresh_passes, KeepsHouse, WantsHouse}
 use Rattle.publish_pass.proofs.Meeting.{learns_self, learns_trans}
 use Rattle.session_front.specs.declared.trust.Trust.{Trust}
 use Rattle.kms_server.specs.Work.{WorkerState, Works, takes_all, gives_up}
 use Rattle.kms_server.specs.declared.crew.Kept.{Kept}
-use Rattle.kms_server.specs.Crew.{Pairwise, none, both, Settles, KeepsOf, keeps_nothing, keeps_whole, lacks_memory, Keeps, taken_by}
+use Rattle.kms_server.specs.Crew.{Pairwise, none, both, Settles, HoldsAll, FirstHolds, FirstIsLongest, KeepsOf, Keeps, taken_by}
 
 -- what is so place by place is so in order
 pub pairwise_each : {A X : Type 0} (P : X → X → Type 0) (f : A → X) (xs ys : List A) → length ys ≡ length xs
@@ -68,13 +68,13 @@ pub works_few : {trust : Trust} {n : ℕ} {s t : WorkerState} → Works trust n 
 works_few (takes_all run is in_) = omega (arith, is)
 works_few (gives_up run few h) = let same : _ ≡ _ = ap (λ (w : WorkerState). w.taken) h.others in omega (arith, few, same)
 
-pub taken_few : {trust : Trust} (n : ℕ) (ss ts : List WorkerState) → n ≤ 1000000000 → Pairwise (Works trust n) ss ts → taken_by ts ≤ length ss * 1000000000
+pub taken_few : {trust : Trust} (n : ℕ) (ss ts : List WorkerState) → n ≤ 144115188075855872 → Pairwise (Works trust n) ss ts → taken_by ts ≤ length ss * 144115188075855872
 taken_few n [] [] few none = omega arith
 taken_few n [] (t ∷ ts) few h = elim h [ ]
 taken_few n (s ∷ ss) [] few h = elim h [ ]
 taken_few n (s ∷ ss) (t ∷ ts) few (both p h) =
     let here : t.taken ≤ n = works_few p in
-    let rest : taken_by ts ≤ length ss * 1000000000 = taken_few n ss ts few h in
+    let rest : taken_by ts ≤ length ss * 144115188075855872 = taken_few n ss ts few h in
     let all : taken_by (t ∷ ts) ≡ t.taken + taken_by ts = taken_cons t ts in
     omega arith
 
@@ -118,22 +118,27 @@ meets_after s l t same missed learns =
       leads = subst (λ (p : Pass). LeadsTo p.facts (entries_of p.history) (entries_of t.history)) same learns.leads;
     }
 
--- what a pass held begins what it holds once the account is kept
-pub kept_on : (facts : RealmFacts) (wanted : Bool) (account : Kept) (old new : Pass) → KeepsOf facts wanted account old new → IsPrefix old.history new.history
-kept_on facts wanted account old new keeps_nothing = prefix_self old.history
-kept_on facts wanted account old new (keeps_whole kept met of are) = met.history
-kept_on facts wanted account old new (lacks_memory met) = met.history
+pub meets_self : (s : Pass) → Meets s s
+meets_self s = record { history = prefix_self s.history; others = refl; missed = le_refl s.missed; leads = stays }
 
--- what each took stays once the account is kept
-pub taken_kept : (facts : RealmFacts) (wanted : Bool) (account : Kept) (settled last : List WorkerState) → Keeps facts wanted account settled last → taken_by last ≡ taken_by settled
-taken_kept facts wanted account [] last keeps = absurd keeps
-taken_kept facts wanted account (s ∷ ss) [] keeps = absurd keeps
-taken_kept facts wanted account (s ∷ ss) (t ∷ ts) keeps =
-    let here : t.taken ≡ s.taken = ap (λ (w : WorkerState). w.taken) keeps.1 in
-    let rest : taken_by ts ≡ taken_by ss = ap taken_by keeps.2 in
-    let all : taken_by (t ∷ ts) ≡ t.taken + taken_by ts = taken_cons t ts in
-    let before : taken_by (s ∷ ss) ≡ s.taken + taken_by ss = taken_cons s ss in
-    omega arith
+-- the account of the history that the first of them holds is kept
+pub kept_here : (facts : RealmFacts) (wanted : Bool) (account : Kept) (history : Pairs) (crew : List WorkerState) → FirstHolds history crew
+    → ((pass : Pass) → pass.history ≡ history → KeepsOf facts wanted account pass pass) → Keeps facts wanted account crew crew
+kept_here facts wanted account history [] holds keeps = absurd holds
+kept_here facts wanted account history (s ∷ ss) holds keeps = (keeps s.pass holds, refl, refl)
+
+-- how many entries that is
+pub front_is : (facts : RealmFacts) (passes loaded front : ℕ) (history : Pairs) (crew : List WorkerState) → FirstIsLongest facts passes loaded front crew → FirstHolds history crew
+    → front ≡ length history
+front_is facts passes loaded front history [] longest holds = absurd holds
+front_is facts passes loaded front history (s ∷ ss) longest holds = longest.size ∙ ap length holds
+
+-- the first of them, which holds all that another holds, has so many entries
+pub longest_first : {A : Type 0} (seen : A → WorkerState) (facts : RealmFacts) (passes loaded front : ℕ) (crew : List A) (d : A) → 0 < length crew → HoldsAll (map seen crew)
+    → IsHistory facts passes loaded (seen (get_or crew 0 d)).pass.history → front ≡ length (seen (get_or crew 0 d)).pass.history
+    → FirstIsLongest facts passes loaded front (map seen crew)
+longest_first seen facts passes loaded front [] d some holds is size = absurd (omega arith)
+longest_first seen facts passes loaded front (x ∷ xs) d some holds is size = record { is_history = is; size = size; begins = holds }
 
 -- the first of a list, and what is left of it
 pub first_and_rest : {A : Type 0} (xs rest : List A) (x : A) → 0 < length xs → x ≡ get_or xs 0 x → rest ≡ take 0 xs ++ drop (0 + 1) xs → x ∷ rest ≡ xs

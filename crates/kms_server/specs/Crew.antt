@@ -1,5 +1,5 @@
 -- What the workers of a server do together.
-use Rattle.std.specs.Prelude.{◌≡◌, ◌↔◌, ℕ, List, [], ◌∷◌, length, map, sum, All, IsTrue, Bool, true, false, Option}
+use Rattle.std.specs.Prelude.{◌≡◌, ◌↔◌, ℕ, ◌+◌, List, [], ◌∷◌, length, map, sum, All, IsTrue, Bool, true, false, Option}
 use mathlib.Core.List.{IsPrefix}
 use Rattle.account_steps.specs.declared.facts.RealmFacts.{RealmFacts}
 use Rattle.account_steps.specs.History.{Entry}
@@ -34,6 +34,10 @@ pub record Settles (old new : WorkerState) : Type 0 where
 abbrev pub taken_by : List WorkerState → ℕ
 taken_by crew = sum (map (λ worker. worker.taken) crew)
 
+-- how many entries their passes made together
+abbrev pub made_by : List WorkerState → ℕ
+made_by crew = sum (map (λ worker. length worker.pass.own) crew)
+
 -- each of them took so many
 abbrev pub TookAll : ℕ → List WorkerState → Type 0
 TookAll connections crew = All (λ worker. worker.taken ≡ connections) crew
@@ -48,6 +52,11 @@ pub record BeginsAll (facts : RealmFacts) (passes loaded front : ℕ) (history :
 abbrev pub HoldsAll : List WorkerState → Type 0
 HoldsAll [] = ⊥
 HoldsAll (first ∷ others) = All (λ worker. IsPrefix worker.pass.history first.pass.history) others
+
+-- the first worker's history is this one
+abbrev pub FirstHolds : List (Entry × ℕ) → List WorkerState → Type 0
+FirstHolds history [] = ⊥
+FirstHolds history (first ∷ others) = first.pass.history ≡ history
 
 -- the first worker's history has so many entries, and that of each other is a front of it
 abbrev pub FirstIsLongest : RealmFacts → ℕ → ℕ → ℕ → List WorkerState → Type 0
@@ -65,8 +74,9 @@ abbrev pub Keeps : RealmFacts → Bool → Kept → List WorkerState → List Wo
 Keeps facts wanted account (first ∷ others) (last ∷ rest) = KeepsOf facts wanted account first.pass last.pass × (last ≡ record first { pass = last.pass }) × (rest ≡ others)
 Keeps facts wanted account _ _ = ⊥
 
--- After their work the passes of these workers only learn more of the history, and the first of them holds at last all that another holds. The account of its
--- history is kept where that is wanted. This is what was served, and what their ears show and their clocks tell, in order.
+-- After their work the passes of these workers only learn more of the history, and the first of them holds at last all that another holds: what was loaded, and
+-- then as many entries as all of them made together. The account of its history is kept where that is wanted. This is what was served, and what their ears show and
+-- their clocks tell, in order.
 pub record Finishes (facts : RealmFacts) (passes loaded connections : ℕ) (wanted : Bool) (ends : List WorkerState) (served : Served) (account : Kept) (ears : List Listening)
     (clocks : List (Option (List ℕ))) : Type 0 where
   pub settled : List WorkerState
@@ -74,6 +84,7 @@ pub record Finishes (facts : RealmFacts) (passes loaded connections : ℕ) (want
   pub last : List WorkerState
   pub keeps : Keeps facts wanted account settled last
   pub longest : FirstIsLongest facts passes loaded served.front last
+  pub made : served.front ≡ made_by last + loaded
   pub taken : served.connections ≡ taken_by last
   pub whole : IsTrue served.is_whole ↔ TookAll connections last
   pub ears_are : ears ≡ map (λ worker. worker.ear) last

@@ -9,6 +9,7 @@ use Rattle.session_front.specs.declared.trust.Trust.{Trust}
 use Rattle.session_front.specs.declared.ends.SessionEnd.{SessionEnd}
 use Rattle.session_front.specs.Session.{outside}
 use Rattle.kms_session.specs.Session.{EndsBy}
+use Rattle.kms_session.specs.Complete.{IsComplete}
 
 -- what a worker's pass holds, what its clock and its ear show, and how many connections it took
 pub record WorkerState : Type 0 where
@@ -25,8 +26,8 @@ abbrev pub Awaits : {L : Type 0} → (L → Wire) → Listening → Option L →
 Awaits wire old (Some connection) new = IsNewWire (wire connection) × (new.is_out ≡ true) × KeepsGivenBack old new
 Awaits wire old None new = RoseBy 16 old.faults new.faults × (new.is_out ≡ false) × KeepsGivenBack old new
 
--- A connection that shows this is served to its end and given back. Before its session the pass may learn more of the history; after
--- it housekeeping is done at one more answer of the clock, or for want of memory at most that.
+-- A connection that shows this is served to its end and given back; where nothing disturbs its session, each of its messages is answered.
+-- Before its session the pass may learn more of the history; after it housekeeping is done at one more answer of the clock, or for want of memory at most that.
 pub record Attends (trust : Trust) (old : WorkerState) (wire : Wire) (new : WorkerState) : Type 0 where
   pub met : Pass
   pub learns : Learns old.pass met
@@ -35,6 +36,7 @@ pub record Attends (trust : Trust) (old : WorkerState) (wire : Wire) (new : Work
   pub told : Option (List ℕ)
   pub last : Wire
   pub ends : EndsBy trust end (outside wire old.clock met) (outside last told left)
+  pub complete : IsComplete trust end (outside wire old.clock met) (outside last told left)
   pub back : TakesBack old.ear last new.ear
   pub moment : ℕ
   pub before_year_10000 : moment < year_10000

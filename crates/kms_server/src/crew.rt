@@ -1,17 +1,18 @@
 // The workers of a server, from their passes, ears and clocks to the end of their work.
-ghost use Rattle.std.specs.Prelude.{◌≡◌, ◌↔◌, ◌≤◌, ◌<◌, ◌+◌, ◌++◌, ◌∷◌, ◌^◌, ℕ, [], All, IsTrue, length, map, take, drop, slice_index_or, vec_len, vec_capacity, false};
+ghost use Rattle.std.specs.Prelude.{◌≡◌, ◌↔◌, ◌≤◌, ◌<◌, ◌+◌, ◌++◌, ◌∷◌, ◌^◌, ℕ, [], All, IsTrue, length, map, sum, take, drop, slice_index_or, vec_len, vec_capacity, false};
+ghost use Rattle.std.specs.Sync.Mutex.{mutex_guard_value};
 ghost use mathlib.Core.List.{IsPrefix};
 ghost use Rattle.kms_io.specs.Door.{IsNewEar};
 ghost use Rattle.session_front.specs.Callers.{IsOfAccount};
 ghost use Rattle.kms_server.specs.Work.{Works};
 ghost use Rattle.publish_pass.specs.Pass.{Learns};
-ghost use Rattle.kms_server.specs.Crew.{Pairwise, Settles, HoldsAll, FirstIsLongest, KeepsOf, Keeps, taken_by};
+ghost use Rattle.kms_server.specs.Crew.{Pairwise, Settles, HoldsAll, FirstHolds, FirstIsLongest, KeepsOf, taken_by};
 ghost use Rattle.kms_server.specs.States.{state_of, states_of};
 
 use crate::worker::{Worker, Workshop, work};
 use account_core::Account;
 use kms_io::{Clock, Ear, Gate};
-use publish_pass::{Pass, Realm, Service, Unread};
+use publish_pass::{Desk, Pass, Realm, Service, Tally, Unread};
 use std::sync::{MutexGuard, Wait};
 use std::thread;
 use std::thread::Threads;
@@ -162,23 +163,46 @@ pub fn learn_all<R: Realm, E: Ear, C: Clock + Drop>(crew: &mut Vec<Worker<R, E, 
     put_first(crew, first);
 }
 
-/// Keeps the account of the first worker's history, where it is wanted, and gives how many entries that history has.
-pub fn keep_first<W: Wait, R: Realm, E: Ear, C: Clock + Drop>(
+/// Lets the first worker's pass, which holds all that another holds, learn at the desk, which then stays locked. Its history
+/// is the desk's.
+pub fn settle_first<'a, W: Wait, R: Realm, E: Ear, C: Clock + Drop>(
     rt: &W,
+    service: &'a Service<R>,
     crew: &mut Vec<Worker<R, E, C>>,
-    is_wanted: bool,
-) -> (u64, Kept)
+) -> MutexGuard<'a, Desk<R>>
     requires some { 0 < vec_len crew.old }
     requires longest { HoldsAll (states_of C.told E.shows crew.old.items) }
-    ensures keeps { Keeps R.facts is_wanted result.1 (states_of C.told E.shows crew.old.items) (states_of C.told E.shows crew.new.items) }
-    ensures longest { FirstIsLongest R.facts R.passes R.loaded result.0 (states_of C.told E.shows crew.new.items) }
+    ensures settles { Pairwise Settles (states_of C.told E.shows crew.old.items) (states_of C.told E.shows crew.new.items) }
+    ensures longest { HoldsAll (states_of C.told E.shows crew.new.items) }
+    ensures holds { FirstHolds (mutex_guard_value result) (states_of C.told E.shows crew.new.items) }
     ensures size { vec_len crew.new ≡ vec_len crew.old }
 {
     let mut first = crew.remove(0);
-    let kept = keep(rt, &mut first.pass, is_wanted);
-    let front = first.pass.seen();
+    let desk = first.pass.settle(rt, service);
     put_first(crew, first);
-    (front, kept)
+    desk
+}
+
+/// The account of the desk's history, where it is wanted.
+pub fn keep_here<R: Realm>(desk: &Desk<R>, is_wanted: bool) -> Kept
+    ensures { (pass : _) → pass.history ≡ desk.now → KeepsOf R.facts is_wanted result pass pass }
+{
+    if !is_wanted {
+        return Kept::Nothing;
+    }
+    match desk.share() {
+        Ok(account) => Kept::Whole(account),
+        Err(_) => Kept::NoMemory,
+    }
+}
+
+/// How many entries the first worker's pass holds, which holds all that another holds.
+pub fn front_of<R: Realm, E: Ear, C: Clock + Drop>(crew: &[Worker<R, E, C>]) -> u64
+    requires some { 0 < length crew.now }
+    requires longest { HoldsAll (states_of C.told E.shows crew.now) }
+    ensures { FirstIsLongest R.facts R.passes R.loaded result (states_of C.told E.shows crew.now) }
+{
+    crew[0].pass.seen()
 }
 
 /// How many connections the workers took, of so many that each could take.
@@ -211,19 +235,47 @@ pub fn put_first<T: Drop>(items: &mut Vec<T>, item: T)
     }
 }
 
-/// Puts the workers' ears and clocks, in order, before those that there are.
-pub fn disband<R: Realm, E: Ear, C: Clock + Drop>(
+// Puts the workers' ears and clocks, in order, before those that there are, and adds what their passes made.
+fn disband_others<R: Realm, E: Ear, C: Clock + Drop>(
     mut crew: Vec<Worker<R, E, C>>,
     ears: &mut Vec<E>,
     clocks: &mut Vec<C>,
+    tally: &mut Tally<R>,
 )
     requires ears { vec_len ears.old + vec_len crew ≤ vec_capacity ears.old }
     requires clocks { vec_len clocks.old + vec_len crew ≤ vec_capacity clocks.old }
     ensures ears { ears.new.items ≡ map (λ worker. worker.ear) crew.items ++ ears.old.items }
     ensures clocks { clocks.new.items ≡ map (λ worker. worker.clock) crew.items ++ clocks.old.items }
+    ensures passes { tally.new.passes ≡ tally.old.passes + vec_len crew }
+    ensures made { tally.new.made ≡ tally.old.made + sum (map (λ worker. length worker.pass.own) crew.items) }
 {
     while let Some(worker) = crew.pop() {
         put_first(ears, worker.ear);
         put_first(clocks, worker.clock);
+        tally.add(worker.pass);
     }
+}
+
+/// Puts the workers' ears and clocks, in order, before those that there are, and gives what their passes made together.
+pub fn disband<R: Realm, E: Ear, C: Clock + Drop>(
+    mut crew: Vec<Worker<R, E, C>>,
+    ears: &mut Vec<E>,
+    clocks: &mut Vec<C>,
+) -> Tally<R>
+    requires some { 0 < vec_len crew }
+    requires ears { vec_len ears.old + vec_len crew ≤ vec_capacity ears.old }
+    requires clocks { vec_len clocks.old + vec_len crew ≤ vec_capacity clocks.old }
+    ensures ears { ears.new.items ≡ map (λ worker. worker.ear) crew.items ++ ears.old.items }
+    ensures clocks { clocks.new.items ≡ map (λ worker. worker.clock) crew.items ++ clocks.old.items }
+    ensures passes { result.passes ≡ vec_len crew }
+    ensures made { result.made ≡ sum (map (λ worker. length worker.pass.own) crew.items) }
+{
+    let Some(last) = crew.pop() else {
+        unreachable!()
+    };
+    put_first(ears, last.ear);
+    put_first(clocks, last.clock);
+    let mut tally = Tally::of(last.pass);
+    disband_others(crew, ears, clocks, &mut tally);
+    tally
 }

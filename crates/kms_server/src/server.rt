@@ -10,7 +10,8 @@ ghost use Rattle.kms_server.specs.States.{states_of};
 ghost use Rattle.kms_server.specs.Server.{wanted_by, surroundings, Fulfils};
 
 use crate::crew::{
-    Kept, disband, gather, keep_first, learn_all, settle_all, taken_by, took_all, work_all,
+    Kept, disband, front_of, gather, keep_here, learn_all, settle_all, settle_first, taken_by,
+    took_all, work_all,
 };
 use crate::worker::{Worker, Workshop};
 use account_core::Account;
@@ -19,7 +20,7 @@ use kms_session::Trust;
 use publish_pass::{Opening, Pass, Realm, Service, open_loaded, open_service};
 use std::alloc::Global;
 use std::marker::Brand;
-use std::sync::Wait;
+use std::sync::{MutexGuard, Wait};
 use std::thread::Threads;
 
 /// What is to be served.
@@ -29,7 +30,7 @@ pub struct Order<'a> {
     pub address: &'a str,
     /// How many workers there are, from 1 to 64.
     pub workers: u16,
-    /// How many connections each worker takes, from 1 to 1,000,000,000.
+    /// How many connections each worker takes, from 1 to 2^57.
     pub connections: u64,
     /// Whether the account is kept at the end.
     pub keeps: bool,
@@ -57,8 +58,8 @@ pub enum Outcome {
     NoMemory,
 }
 
-// Ends the work of a crew: its passes learn what the desk holds, the first what the others hold; the account is kept where that is wanted; and its
-// ears and clocks are put before those that there are.
+// Ends the work of a crew. Its passes learn at the desk, the first one what each other holds, and then the desk's history, which stays locked. There the
+// account is shared where that is wanted, and what the passes made is held against the history. The ears and clocks are put before those that there are.
 fn finish<W: Wait, R: Realm, E: Ear, C: Clock + Drop>(
     rt: &W,
     service: &Service<R>,
@@ -68,6 +69,7 @@ fn finish<W: Wait, R: Realm, E: Ear, C: Clock + Drop>(
     clocks: &mut Vec<C>,
 ) -> (Served, Kept)
     requires some { 0 < vec_len crew }
+    requires passes { vec_len crew ≡ R.passes }
     requires few { taken_by (states_of C.told E.shows crew.items) < 2 ^ 64 }
     requires nobody { ears.old.items ≡ [] }
     requires ears { vec_len crew ≤ vec_capacity ears.old }
@@ -76,13 +78,16 @@ fn finish<W: Wait, R: Realm, E: Ear, C: Clock + Drop>(
 {
     settle_all(rt, service, crew.as_mut_slice());
     learn_all(&mut crew);
-    let (front, kept) = keep_first(rt, &mut crew, order.keeps);
+    let mut desk = settle_first(rt, service, &mut crew);
+    let kept = keep_here(&*desk, order.keeps);
     let served = Served {
         connections: taken_by(&crew),
-        front,
+        front: front_of(&crew),
         is_whole: took_all(&crew, order.connections),
     };
-    disband(crew, ears, clocks);
+    let mut tally = disband(crew, ears, clocks);
+    desk.audit(&mut tally);
+    let _ = MutexGuard::unlock(desk);
     (served, kept)
 }
 
@@ -105,7 +110,7 @@ where
     requires passes { vec_len passes ≡ R.passes }
     requires trust { IsOfAccount R.facts.account host.now.trust.now }
     requires workers { (R.passes ≡ order.now.workers) × (0 < order.now.workers) × (order.now.workers ≤ 64) }
-    requires connections { (host.now.connections ≡ order.now.connections) × (order.now.connections ≤ 1000000000) }
+    requires connections { (host.now.connections ≡ order.now.connections) × (order.now.connections ≤ 144115188075855872) }
     requires clocks { vec_len clocks.old ≡ 64 }
     ensures { (entries : List Entry) → passes.items ≡ fresh_passes R.facts R.passes entries R.passes → length entries ≡ R.loaded
         → Fulfils (record { facts = R.facts; entries = entries }) host.now.trust.now (wanted_by order.now) result (surroundings (D.shows door.old) (map C.told clocks.old.items)) (surroundings (D.shows door.new) (map C.told clocks.new.items)) }
@@ -148,7 +153,7 @@ where
     requires ledger { (opening.name ≡ R.name) × (opening.parts ≡ R.parts) }
     requires names { Names R.book R.facts R.passes R.loaded opening.shown }
     requires workers { (opening.shown.whole.passes ≡ order.now.workers) × (0 < order.now.workers) × (order.now.workers ≤ 64) }
-    requires connections { order.now.connections ≤ 1000000000 }
+    requires connections { order.now.connections ≤ 144115188075855872 }
     requires trust { IsOfAccount opening.shown.whole.facts.account trust.now }
     requires clocks { vec_len clocks.old ≡ 64 }
     ensures { Fulfils (account_in opening.shown.whole) trust.now (wanted_by order.now) result (surroundings (D.shows door.old) (map C.told clocks.old.items)) (surroundings (D.shows door.new) (map C.told clocks.new.items)) }
@@ -171,13 +176,13 @@ where
 
 /// Serves an account at a door; what it has as entries was loaded. Each worker has a pass of one service, an ear of the
 /// door and one of the clocks, and takes its connections one after another, each in a thread of its own where
-/// one can be had. The conditions are 1 to 64 workers, at most 1,000,000,000 connections each, 64 clocks, and
+/// one can be had. The conditions are 1 to 64 workers, at most 2^57 connections each, 64 clocks, and
 /// that whoever may be the caller is of the account.
 ///
 /// A worker whose ear fails 16 times in a row takes no more. After the last worker is done the first pass learns
-/// what all others hold, so that its history is the longest; the account at it is kept where that is wanted. Then the
-/// ears go back to the door and the clocks to their places. `Shut` comes only where the door failed, and `NoMemory`
-/// only before anybody worked.
+/// what all others hold, so that its history is the longest; the account at it is kept where that is wanted. It has
+/// as many entries behind the loaded ones as the workers' passes made together. Then the ears go back to the door and
+/// the clocks to their places. `Shut` comes only where the door failed, and `NoMemory` only before anybody worked.
 pub fn serve<W: Threads + Wait + Sync, C: Clock + Send + Drop, D: Door, G: Gate + Sync>(
     rt: &W,
     alloc: Global,
@@ -191,7 +196,7 @@ pub fn serve<W: Threads + Wait + Sync, C: Clock + Send + Drop, D: Door, G: Gate 
 where
     <D::Listener as Ear>::Conn: Send,
     requires workers { (0 < order.now.workers) × (order.now.workers ≤ 64) }
-    requires connections { order.now.connections ≤ 1000000000 }
+    requires connections { order.now.connections ≤ 144115188075855872 }
     requires trust { IsOfAccount account.facts.account trust.now }
     requires clocks { vec_len clocks.old ≡ 64 }
     ensures { Fulfils account trust.now (wanted_by order.now) result (surroundings (D.shows door.old) (map C.told clocks.old.items)) (surroundings (D.shows door.new) (map C.told clocks.new.items)) }

@@ -22,7 +22,7 @@ push_cases true false k j i P Q h e = ap (λ (xs : List ℕ). k ∷ xs) h
 push_cases false true k j i P Q h e = h ∙ ap (λ (a : ℕ). Q ++ a ∷ []) e
 push_cases false false k j i P Q h e = h
 
-places_push : (m k : ℕ) (pairs : List (Entry × ℕ)) (entry : Entry) (n : ℕ) → places_of_maker m k (pairs ++ (entry, n) ∷ []) ≡ cond (m == n) (places_of_maker m k pairs ++ (k + length pairs) ∷ []) (places_of_maker m k pairs)
+pub places_push : (m k : ℕ) (pairs : List (Entry × ℕ)) (entry : Entry) (n : ℕ) → places_of_maker m k (pairs ++ (entry, n) ∷ []) ≡ cond (m == n) (places_of_maker m k pairs ++ (k + length pairs) ∷ []) (places_of_maker m k pairs)
 places_push m k [] entry n = let same : k ≡ k + 0 = omega arith in ap (λ (j : ℕ). cond (m == n) (j ∷ []) []) same
 places_push m k (pair ∷ pairs) entry n =
     push_cases (m == pair.1) (m == n) k (k + 1 + length pairs) (k + length (pair ∷ pairs)) (places_of_maker m (k + 1) (pairs ++ (entry, n) ∷ [])) (places_of_maker m (k + 1) pairs) (places_push m (k + 1) pairs entry n) (omega arith)
@@ -38,18 +38,18 @@ cond_at P m n x y false is here else = else
 -- ---- what an event does
 
 -- behind the first k
-drop_push : (k : ℕ) (pairs : List (Entry × ℕ)) (pair : Entry × ℕ) → k ≤ length pairs → drop k (pairs ++ pair ∷ []) ≡ drop k pairs ++ pair ∷ []
+pub drop_push : (k : ℕ) (pairs : List (Entry × ℕ)) (pair : Entry × ℕ) → k ≤ length pairs → drop k (pairs ++ pair ∷ []) ≡ drop k pairs ++ pair ∷ []
 drop_push zero pairs pair le = refl
 drop_push (suc k) [] pair le = absurd (omega (arith, le))
 drop_push (suc k) (first ∷ pairs) pair le = drop_push k pairs pair (omega (arith, le))
 
-drop_length : (k : ℕ) (pairs : List (Entry × ℕ)) → k ≤ length pairs → length pairs ≡ k + length (drop k pairs)
+pub drop_length : (k : ℕ) (pairs : List (Entry × ℕ)) → k ≤ length pairs → length pairs ≡ k + length (drop k pairs)
 drop_length k pairs le = omega (arith, le, length-drop k pairs)
 
 pub loaded_length : (loaded : List Entry) → length (loaded_pairs loaded) ≡ length loaded
 loaded_length loaded = length-map {B = Entry × ℕ} loaded (λ (entry : Entry). (entry, 0))
 
-drop_loaded : (loaded : List Entry) → drop (length loaded) (loaded_pairs loaded) ≡ []
+pub drop_loaded : (loaded : List Entry) → drop (length loaded) (loaded_pairs loaded) ≡ []
 drop_loaded [] = refl
 drop_loaded (entry ∷ loaded) = drop_loaded loaded
 

@@ -3,3 +3,6 @@ mod Again
 mod Rests
 pub mod CallFacts
 mod EventFacts
+pub mod Makers
+mod Fronts
+pub mod Orders

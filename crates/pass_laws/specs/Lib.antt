@@ -2,3 +2,4 @@ pub mod Machine
 pub mod House
 pub mod Calls
 pub mod Events
+pub mod Orders

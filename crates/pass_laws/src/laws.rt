@@ -3,6 +3,7 @@
 ghost use Rattle.pass_laws.specs.Calls.{FrontsNeverFall, CallsKeepLawful, CallsKeepOpened, DroppedStaysAwayFromPasses, NoVectorOfOnePassTwice, NoVectorOfTwoPasses, NoVectorOfTwoBoots};
 ghost use Rattle.pass_laws.specs.Events.{CallsAreEvents, PassesAreTheMachine};
 ghost use Rattle.pass_laws.specs.House.{OwesNothingMore};
+ghost use Rattle.pass_laws.specs.Orders.{CallsHaveOneOrder};
 ghost use Rattle.pass_laws.specs.Machine.{HoldsAlways, SealedStaysReadable, DroppedStaysAway, NoVectorTwice, NoVectorShared, NoVectorOverBoots};
 
 use account_laws::{
@@ -47,6 +48,14 @@ pub fn calls_are_events()
 {
     times_never_fall();
 }
+
+/// Whatever calls the passes of a service made, each from its beginning on: if one history begins with what each of
+/// them holds, and each entry behind the loaded ones is that pass's own whose number it bears, then the passes made all
+/// these calls together in one order. In it each call that publishes met all that was published, each other one a
+/// beginning of that, and what is published at last is this history.
+pub fn calls_have_one_order()
+    ensures { CallsHaveOneOrder }
+{}
 
 /// Of passes, whatever calls they make: the number of entries that a pass holds never falls, and its history
 /// stays lawful, or stays one that an opened account holds. A pass that holds the drop of a grant is answered at no history where a grant has its id. Two

@@ -1,3 +1,6 @@
 mod OneCut
 mod SessionCalls
 mod GrowingRuns
+mod Makers
+mod Workers
+mod Orders

@@ -1,9 +1,15 @@
 -- What sessions and workers do is calls of their passes.
-use Rattle.std.specs.Prelude.{ℕ, ◌<◌, List, Bool}
+use Rattle.std.specs.Prelude.{◌≡◌, ℕ, ◌<◌, List, [], ◌∷◌, length, map, drop, All, Bool}
 use Rattle.kms_names.specs.Moment.{year_10000}
+use Rattle.account_steps.specs.declared.facts.RealmFacts.{RealmFacts}
+use Rattle.account_steps.specs.History.{Entry}
 use Rattle.account_core.specs.Account.{Account}
+use Rattle.account_laws.specs.Laws.{IsOpened}
 use Rattle.publish_pass.specs.Pass.{Pass, fresh_passes}
-use Rattle.pass_laws.specs.Calls.{Calls}
+use Rattle.pass_laws.specs.Calls.{Calls, Together}
+use Rattle.pass_laws.specs.Events.{AreOneRun}
+use Rattle.pass_laws.specs.Machine.{places_of_maker}
+use Rattle.pass_laws.specs.Orders.{steps_of, steps_in}
 use Rattle.session_front.specs.declared.trust.Trust.{Trust}
 use Rattle.session_front.specs.declared.ends.SessionEnd.{SessionEnd}
 use Rattle.session_front.specs.Callers.{IsOfAccount}
@@ -13,7 +19,7 @@ use Rattle.kms_session.specs.Session.{Outside, EndsBy}
 use Rattle.kms_server.specs.declared.crew.Kept.{Kept}
 use Rattle.kms_server.specs.declared.server.Served.{Served}
 use Rattle.kms_server.specs.Work.{WorkerState, Works}
-use Rattle.kms_server.specs.Crew.{Pairwise}
+use Rattle.kms_server.specs.Crew.{Pairwise, none, both, FirstHolds}
 use Rattle.kms_server.specs.Server.{Wanted, Surroundings, ServesDoor}
 
 -- a turn is no call, or one
@@ -42,3 +48,46 @@ ServersAreCalls =
     (first : Account) (trust : Trust) (wanted : Wanted) (served : Served) (kept : Kept) (old new : Surroundings) → IsOfAccount first.facts.account trust
     → (serves : ServesDoor first trust wanted served kept old new)
     → Pairwise (λ (fresh : Pass) (worker : WorkerState). Calls fresh worker.pass) (fresh_passes first.facts wanted.workers first.entries wanted.workers) serves.finishes.last
+
+-- the own places of each of these workers' passes are exactly those at which the first one's history has its number, behind so many loaded entries
+abbrev pub OwnWhatBearsTheirNumber : ℕ → List WorkerState → Type 0
+OwnWhatBearsTheirNumber loaded [] = ⊥
+OwnWhatBearsTheirNumber loaded (first ∷ others) =
+    All (λ worker. worker.pass.own ≡ places_of_maker worker.pass.number loaded (drop loaded first.pass.history)) (first ∷ others)
+
+-- In a server's history each entry behind the loaded ones is one worker's own: the passes' numbers are 1 to n, of which each such entry bears one, and what a worker's pass made
+-- is exactly what bears its number
+abbrev pub WorkersMadeAll : Type 0
+WorkersMadeAll =
+    (first : Account) (trust : Trust) (wanted : Wanted) (served : Served) (kept : Kept) (old new : Surroundings) → IsOfAccount first.facts.account trust
+    → (serves : ServesDoor first trust wanted served kept old new)
+    → (map (λ worker. worker.pass.number) serves.finishes.last ≡ map (λ pass. pass.number) (fresh_passes first.facts wanted.workers first.entries wanted.workers))
+    × OwnWhatBearsTheirNumber (length first.entries) serves.finishes.last
+
+-- of each of these workers, in order, what each of its calls met, and the pass as it left it
+abbrev pub steps_by : {fresh : List Pass} {workers : List WorkerState} → Pairwise (λ (first : Pass) (worker : WorkerState). Calls first worker.pass) fresh workers
+    → List (List (List (Entry × ℕ) × Pass))
+steps_by none = []
+steps_by (both calls others) = steps_of calls ∷ steps_by others
+
+-- The calls of these workers, whose passes are 1 to n of a service that began with these entries, were made together in one order, by which the history of the first worker is
+-- published. It leaves each pass as the worker has it, and the calls that a pass made in it are the worker's, one by one. So, where what was loaded is an opened account's,
+-- they are one run of the machine
+pub record RanTogether (facts : RealmFacts) (loaded : List Entry) (n : ℕ) (workers : List WorkerState)
+    (did : Pairwise (λ (first : Pass) (worker : WorkerState). Calls first worker.pass) (fresh_passes facts n loaded n) workers) : Type 0 where
+  pub history : List (Entry × ℕ)
+  pub is_first : FirstHolds history workers
+  pub passes : ℕ → Pass
+  pub together : Together facts n loaded passes history
+  pub last_are : map (λ fresh. passes fresh.number) (fresh_passes facts n loaded n) ≡ map (λ worker. worker.pass) workers
+  pub calls_are : map (λ fresh. steps_in fresh.number together) (fresh_passes facts n loaded n) ≡ steps_by did
+  pub is_run : IsOpened facts loaded → AreOneRun facts n loaded passes history
+
+-- What a server does is one run of one machine: whatever calls its workers made with its passes, each from its new pass on (`ServersAreCalls` says that there are such calls),
+-- those were made together
+abbrev pub ServersAreOneRun : Type 0
+ServersAreOneRun =
+    (first : Account) (trust : Trust) (wanted : Wanted) (served : Served) (kept : Kept) (old new : Surroundings) → IsOfAccount first.facts.account trust
+    → (serves : ServesDoor first trust wanted served kept old new)
+    → (did : Pairwise (λ (fresh : Pass) (worker : WorkerState). Calls fresh worker.pass) (fresh_passes first.facts wanted.workers first.entries wanted.workers) serves.finishes.last)
+    → RanTogether first.facts first.entries wanted.workers serves.finishes.last did

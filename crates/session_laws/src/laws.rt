@@ -1,6 +1,8 @@
 // What follows from the definitions alone.
-ghost use Rattle.session_laws.specs.Calls.{TurnsAreCalls, RunsAreCalls, SessionsAreCalls, WorkersAreCalls, ServersAreCalls};
+ghost use Rattle.session_laws.specs.Calls.{TurnsAreCalls, RunsAreCalls, SessionsAreCalls, WorkersAreCalls, ServersAreCalls, WorkersMadeAll, ServersAreOneRun};
 ghost use Rattle.session_laws.specs.Laws.{OneCut, OneEnd, OneReplyText, EachMessageIsAnswered, RunsKeepLawful, RunsKeepOpened, TurnsGoOn, RunsGoOn, OneSessionRepeatsNoIv};
+
+use pass_laws::calls_are_events;
 
 /// A stream is cut into messages in one way: two cuts into as many items have the same rest and the same items,
 /// but that bytes of which no head can come may bear another fault.
@@ -62,3 +64,22 @@ pub fn sessions_are_calls()
     ensures workers { WorkersAreCalls }
     ensures servers { ServersAreCalls }
 {}
+
+/// In the history that a server leaves each entry behind the loaded ones is one worker's own: the workers' passes
+/// have the numbers 1 to n, each such entry bears one of these, and the places of a pass's own entries are exactly
+/// those that have its number.
+pub fn workers_made_all()
+    ensures { WorkersMadeAll }
+{}
+
+/// What a server does is one run of one machine. Whatever calls its workers made with their passes, all of them were
+/// made together in one order: each call that published met all that was published then, each other one a beginning of
+/// that. The order leaves each pass as its worker has it, a pass's calls in it are its worker's, one by one, and what is
+/// published at last is the history that the server leaves. So of what ran all holds that `machine_law` of `pass_laws`
+/// says, where what was loaded is an opened account's history, as one that is read of a journal is.
+pub fn servers_are_one_run()
+    ensures { ServersAreOneRun }
+{
+    workers_made_all();
+    calls_are_events();
+}

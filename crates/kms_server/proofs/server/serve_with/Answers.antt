@@ -52,6 +52,9 @@ finish-kept-requires-clause-some g c =
     let some : 0 < c.args.order.now.workers = c.requires.workers.1 in
     omega (arith, c.args.passes.ok, c.gather.ensures.size)
 
+pub finish-kept-requires-clause-passes : goal.finish-kept-requires-clause-passes
+finish-kept-requires-clause-passes g c = omega (arith, c.args.passes.ok, c.gather.ensures.size, c.requires.passes)
+
 pub finish-kept-requires-clause-few : goal.finish-kept-requires-clause-few
 finish-kept-requires-clause-few g c =
     let seen = state_of g.C.Clock.told g.D.Listener.Ear.shows in
@@ -60,9 +63,9 @@ finish-kept-requires-clause-few g c =
     let passes : length c.args.passes.items ≡ g.R.Realm.passes = sym c.args.passes.ok.0 ∙ c.requires.passes in
     let workers : g.R.Realm.passes ≡ c.args.order.now.workers = c.requires.workers.0 in
     let few : c.args.order.now.workers ≤ 64 = c.requires.workers.2 in
-    let each : c.args.host.now.connections ≤ 1000000000 = omega (arith, c.requires.connections.0, c.requires.connections.1) in
+    let each : c.args.host.now.connections ≤ 144115188075855872 = omega (arith, c.requires.connections.0, c.requires.connections.1) in
     let size : length (map seen begun) ≡ length begun = length-map begun seen in
-    let most : taken_by (map seen ended) ≤ length (map seen begun) * 1000000000 = taken_few c.args.host.now.connections (map seen begun) (map seen ended) each c.work_all.ensures in
+    let most : taken_by (map seen ended) ≤ length (map seen begun) * 144115188075855872 = taken_few c.args.host.now.connections (map seen begun) (map seen ended) each c.work_all.ensures in
     let back = written_back c.gather.new.crew.len ended (drop (length ended) c.gather.new.crew.items) (omega (arith, c.work_all.auto.crew, c.as_mut_slice.ensures.len)) in
     let bound : taken_by (map seen ended) < 2 ^ 64 = omega (arith, c.args.passes.ok, c.gather.ensures.size, c.as_mut_slice.ensures.len) in
     subst (λ workers. taken_by (map seen workers) < 2 ^ 64) (sym back) bound

@@ -11,6 +11,7 @@ returns g c = record {
   told = g.C.Clock.told c.serve_session-end.new.clock;
   last = g.E.Conn.Link.shows c.serve_session-end.new.link;
   ends = c.serve_session-end.ensures.ends;
+  complete = c.serve_session-end.ensures.complete;
   back = c.done.ensures;
   moment = c.now-moment.result;
   before_year_10000 = c.now-moment.ensures.bound;

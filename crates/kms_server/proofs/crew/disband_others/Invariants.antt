@@ -1,5 +1,6 @@
-use Rattle.std.proofs.Common.{◌≡◌, ◌+◌, ◌≤◌, ◌++◌, map, vec_len, vec_capacity}
-use Rattle.kms_server.proofs.crew.disband.Given as goal
+use Rattle.std.proofs.Common.{◌≡◌, ◌+◌, ◌≤◌, ◌++◌, length, map, vec_len, vec_capacity}
+use Rattle.std.specs.Prelude.{sum}
+use Rattle.kms_server.proofs.crew.disband_others.Given as goal
 
 abbrev pub invariant-loop-worker : goal.invariant-loop-worker
 invariant-loop-worker g l = record {
@@ -11,6 +12,8 @@ invariant-loop-worker g l = record {
   clocks_size : vec_len l.clocks + vec_len l.crew ≡ vec_len l.initial.clocks + vec_len l.initial.crew;
   ears_kept : vec_capacity l.initial.ears ≤ vec_capacity l.ears;
   clocks_kept : vec_capacity l.initial.clocks ≤ vec_capacity l.clocks;
+  passes : l.tally.passes + vec_len l.crew ≡ l.initial.tally.passes + vec_len l.initial.crew;
+  made : l.tally.made + sum (map (λ worker. length worker.pass.own) l.crew.items) ≡ l.initial.tally.made + sum (map (λ worker. length worker.pass.own) l.initial.crew.items);
 }
 
 abbrev pub decreases-loop-worker : goal.decreases-loop-worker
