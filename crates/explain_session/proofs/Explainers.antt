@@ -1,6 +1,6 @@
 -- What requests do to an account.
 use Rattle.std.proofs.Common.{◌≡◌, ◌<◌, ◌⊎◌, ◌==◌, ℕ, List, [], ◌∷◌, ◌++◌, length, Bool, true, false, if◌then◌else◌, Option, None, Some, Result, Ok, Err, refl, sym, ap, ap₂, ◌∙◌, subst, inl, inr}
-use Rattle.std.specs.Prelude.{IfOk, OnOk}
+use Rattle.std.specs.Prelude.{IfOk, OnOk, OnErr}
 use Rattle.draw_lines.specs.Line.{Line}
 use Rattle.kms_names.specs.Moment.{year_10000}
 use Rattle.kms_json.specs.declared.asks.Ask.{Ask}
@@ -15,7 +15,7 @@ use Rattle.account_steps.specs.declared.places.Places.{Places}
 use Rattle.account_steps.specs.declared.places.Uses.{Uses}
 use Rattle.account_steps.specs.History.{Entry, housekeeping_of}
 use Rattle.account_steps.specs.Parts.{Outcome, decided_read}
-use Rattle.account_steps.specs.Places.{places_of, line_at, no_places}
+use Rattle.account_steps.specs.Places.{places_of, line_at, no_places, IsWithin}
 use Rattle.account_steps.specs.Steps.{unless}
 use Rattle.account_steps.specs.View.{view_of}
 use Rattle.account_core.specs.declared.decide.Decision.{Decision}
@@ -24,7 +24,7 @@ use Rattle.account_core.specs.Decide.{lacking, decide_body, decide, decision_by,
 use Rattle.account_core.specs.Operations.{change_outcome, read_outcome}
 use Rattle.account_core.proofs.GoingOn.{change_stays, decide_goes_on, same_reply, same_entry, places_at}
 use Rattle.session_front.specs.Early.{IsAskAt}
-use Rattle.explain_session.specs.Explaining.{Explainer, with_entry, decided, after, Answers}
+use Rattle.explain_session.specs.Explaining.{Explainer, with_entry, decided, after, Answers, LeavesHere, partly_used, answered, untouched}
 
 -- what a message asks is proper
 pub proper_at : (facts : RealmFacts) (c : ℕ) (x : Ask) → c < year_10000 → IsAskAt facts.account c x → IsProper facts x
@@ -139,3 +139,21 @@ house_next facts entries clock entry before is = kept clock before is
 -- a request stays proper where housekeeping comes first
 pub proper_kept : (s t : Explainer) (x : Ask) → t.facts ≡ s.facts → IsProper s.facts x → IsProper t.facts x
 proper_kept s t x same proper = subst (λ (f : RealmFacts). IsProper f x) (sym same) proper
+
+-- ---- where memory was wanting
+
+-- for the reply to one that changes nothing
+pub lacks_read : {E : Type 0} (facts : RealmFacts) (entries : List Entry) (x : Ask) (line new : Line) (r : Result Reply E) → OnErr r (IsWithin line new (decide facts entries x (places_of line)).places)
+    → OnErr r (LeavesHere (explainer_at facts entries line) x (explainer_at facts entries new))
+lacks_read facts entries x line new (Ok reply) within = tt
+lacks_read facts entries x line new (Err why) within = partly_used (places_of new) within.up_to
+
+-- before anything was done
+pub lacks_all : {A E : Type 0} (r : Result A E) (s : Explainer) (x : Ask) → OnErr r (LeavesHere s x s)
+lacks_all (Ok value) s x = tt
+lacks_all (Err why) s x = untouched
+
+-- for the line of one that was answered
+pub lacks_line : {A E : Type 0} (r : Result A E) (s : Explainer) (x : Ask) (t : Explainer) → t ≡ after s x → OnErr r (LeavesHere s x t)
+lacks_line (Ok line) s x t is = tt
+lacks_line (Err why) s x t is = subst (LeavesHere s x) (sym is) answered

@@ -1,5 +1,5 @@
 -- What is told of the messages of a stream, one line each.
-use Rattle.std.specs.Prelude.{◌≡◌, ℕ, List, [], ◌∷◌, ◌++◌, codes, Bool, if◌then◌else◌, Option, None, Some, Result, Ok, Err}
+use Rattle.std.specs.Prelude.{◌≡◌, ◌⊎◌, ℕ, List, [], ◌∷◌, ◌++◌, codes, Bool, if◌then◌else◌, Option, None, Some, Result, Ok, Err}
 use Rattle.kms_json.specs.declared.asks.Ask.{Ask}
 use Rattle.kms_json.specs.declared.refusals.Refusal.{Refusal}
 use Rattle.kms_json.specs.declared.replies.Reply.{Reply}
@@ -10,9 +10,10 @@ use Rattle.account_steps.specs.declared.facts.RealmFacts.{RealmFacts}
 use Rattle.account_steps.specs.declared.places.Places.{Places}
 use Rattle.account_steps.specs.History.{Entry, housekeeping_of}
 use Rattle.account_steps.specs.Parts.{Decided}
-use Rattle.account_steps.specs.Places.{no_places}
+use Rattle.account_steps.specs.Places.{no_places, IsUpTo}
 use Rattle.account_core.specs.Account.{Account}
-use Rattle.account_core.specs.Decide.{decide}
+use Rattle.account_core.specs.Decide.{decide, IsProper}
+use Rattle.account_core.specs.Fitting.{IsHeld}
 use Rattle.access_explain.specs.declared.certificates.Certificate.{Certificate}
 use Rattle.access_explain.specs.Certificates.{IsCertificate, early_one}
 use Rattle.access_explain.specs.Lines.{certificate_text}
@@ -61,12 +62,26 @@ pub record Answers (met : Explainer) (x : Ask) (answer : Reply) (t : Explainer) 
   pub reply : answer ≡ (decided met x).reply
   pub next : t ≡ after met x
 
--- the line of a request: its certificate at the account where it is decided, with the exception of its reply
+-- the line of a request: its certificate at the account where it is decided, with the exception of its reply. The request's caller is of
+-- the account, and each entry is one that a request or housekeeping made, or that fitted those before it
 pub record ExplainsAt (met : Explainer) (x : Ask) (line : List ℕ) (t : Explainer) : Type 0 where
+  pub proper : IsProper met.facts x
+  pub held : IsHeld met.facts met.entries
   pub certificate : Certificate
   pub is : IsCertificate met.facts met.entries x certificate
   pub text : line ≡ certificate_text certificate (exception_in (decided met x).reply)
   pub next : t ≡ after met x
+
+-- What is left of an account where memory was wanting for the line of a request that is decided there: the account as it was; or with some of
+-- the places used that the reply uses; or as the reply leaves it.
+pub data LeavesHere (s : Explainer) (x : Ask) : Explainer → Type 0 where
+  untouched : LeavesHere s x s
+  partly_used : (places : Places) → IsUpTo s.places places (after s x).places → LeavesHere s x (record s { places = places })
+  answered : LeavesHere s x (after s x)
+
+-- the same where housekeeping may come before the request, and memory may be wanting for that
+abbrev pub Leaves : Explainer → Ask → Explainer → Type 0
+Leaves s x t = (t ≡ s) ⊎ LeavesHere (met_by s x) x t
 
 -- the line of what is refused before the account is asked, by its exception
 abbrev pub early_line : List ℕ → List ℕ

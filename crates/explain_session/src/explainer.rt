@@ -1,9 +1,9 @@
 // An account whose answers are explained.
-ghost use Rattle.std.specs.Prelude.{◌≡◌, ◌<◌, true, false, IfOk, OnOk};
+ghost use Rattle.std.specs.Prelude.{◌≡◌, ◌<◌, true, false, IfOk, OnOk, OnErr};
 ghost use Rattle.kms_names.specs.Moment.{year_10000};
 ghost use Rattle.kms_json.specs.Asks.{changes_account};
 ghost use Rattle.account_core.specs.Decide.{IsProper};
-ghost use Rattle.explain_session.specs.Explaining.{fresh, keeping_house, met_by, Answers, ExplainsAt};
+ghost use Rattle.explain_session.specs.Explaining.{fresh, keeping_house, met_by, Answers, ExplainsAt, Leaves, LeavesHere};
 
 use crate::lines::exception_in;
 use access_explain::{certificate_line, explain};
@@ -53,6 +53,7 @@ impl Explainer {
     fn keep_house(&mut self, moment: u64) -> Result<(), NoMemory>
         requires { moment < year_10000 }
         ensures kept { OnOk result (self.new ≡ keeping_house self.old moment) }
+        ensures lacking { OnErr result (self.new ≡ self.old) }
         ensures facts { self.new.facts ≡ self.old.facts }
     {
         if let Some(entry) = self.account.housekeeping(moment) {
@@ -66,6 +67,7 @@ impl Explainer {
         requires proper { IsProper self.old.facts ask.now }
         requires reads { changes_account ask.now.body ≡ false }
         ensures answers { IfOk result (λ reply. Answers self.old ask.now reply self.new) }
+        ensures lacking { OnErr result (LeavesHere self.old ask.now self.new) }
         ensures facts { self.new.facts ≡ self.old.facts }
     {
         self.account.decide_read(alloc, ask, &mut self.draws)
@@ -76,6 +78,7 @@ impl Explainer {
         requires proper { IsProper self.old.facts ask.now }
         requires changes { changes_account ask.now.body ≡ true }
         ensures answers { IfOk result (λ reply. Answers self.old ask.now reply self.new) }
+        ensures lacking { OnErr result (LeavesHere self.old ask.now self.new) }
         ensures facts { self.new.facts ≡ self.old.facts }
     {
         match self.account.decide_change(alloc, ask)? {
@@ -91,6 +94,7 @@ impl Explainer {
     fn answer(&mut self, alloc: Global, ask: &Ask) -> Result<Reply, NoMemory>
         requires { IsProper self.old.facts ask.now }
         ensures answers { IfOk result (λ reply. Answers self.old ask.now reply self.new) }
+        ensures lacking { OnErr result (LeavesHere self.old ask.now self.new) }
         ensures facts { self.new.facts ≡ self.old.facts }
     {
         if ask.changes() {
@@ -104,18 +108,22 @@ impl Explainer {
     fn explain_here(&mut self, alloc: Global, ask: &Ask) -> Result<Bytes, NoMemory>
         requires { IsProper self.old.facts ask.now }
         ensures line { IfOk result (λ line. ExplainsAt self.old ask.now line self.new) }
+        ensures lacking { OnErr result (LeavesHere self.old ask.now self.new) }
         ensures facts { self.new.facts ≡ self.old.facts }
     {
+        let _entries = self.account.entries();
         let certificate = explain(alloc, &self.account, ask)?;
         let reply = self.answer(alloc, ask)?;
         certificate_line(alloc, &certificate, exception_in(&reply))
     }
 
     /// The line of a request: its certificate, with the exception of its reply or `Ok`. A request that
-    /// changes the account comes after housekeeping at its moment, and its entry is appended.
+    /// changes the account comes after housekeeping at its moment, and its entry is appended. Where memory is wanting, the
+    /// account is as it was, or after housekeeping, or as the reply leaves it, and no more places are used than the reply uses.
     pub fn explain(&mut self, alloc: Global, ask: &Ask) -> Result<Bytes, NoMemory>
         requires { IsProper self.old.facts ask.now }
         ensures line { IfOk result (λ line. ExplainsAt (met_by self.old ask.now) ask.now line self.new) }
+        ensures lacking { OnErr result (Leaves self.old ask.now self.new) }
         ensures facts { self.new.facts ≡ self.old.facts }
     {
         if ask.changes() {

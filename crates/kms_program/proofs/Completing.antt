@@ -1,23 +1,33 @@
 -- What the program comes to where nothing disturbs it, by what it does.
-use Rattle.std.proofs.Common.{◌≡◌, ◌≤◌, inl, inr, ℕ, List, Bool, true, false, Option, None, Some, refl, ap, ◌∙◌, subst, arith}
+use Rattle.std.proofs.Common.{◌≡◌, ◌≤◌, ◌⊎◌, inl, inr, ℕ, List, [], Bool, true, false, Option, None, Some, refl, sym, ap, ◌∙◌, subst, arith}
 use Rattle.std.specs.Prelude.{IfSome}
 use Rattle.kms_io.specs.Shelf.{Shelf}
-use Rattle.kms_io.specs.Wire.{RoseBy}
-use Rattle.session_front.specs.Items.{Item}
-use Rattle.session_front.specs.Complete.{end_of}
-use Rattle.session_front.specs.Session.{Outside, outside}
-use Rattle.session_front.proofs.Complete.{each_is_answered}
+use Rattle.kms_io.specs.Wire.{Wire, RoseBy}
+use Rattle.kms_io.specs.QuietLink.{LiesBeneath}
+use Rattle.session_front.specs.declared.ends.SessionEnd.{SessionEnd}
+use Rattle.session_front.specs.declared.ends.SessionEnd.TheVariants.{Ended, Closed, CutOff, ReadFault, WriteFault, NoMemory}
+use Rattle.session_front.specs.Items.{Item, Cuts}
+use Rattle.session_front.specs.Runs.{Run}
+use Rattle.session_front.specs.Sending.{SendsWhole}
+use Rattle.session_front.specs.Complete.{AnswersEach, IsAsked, end_of}
+use Rattle.session_front.specs.Session.{Outside, Serves, outside}
+use Rattle.session_front.proofs.Complete.{each_is_answered, ended, closed, not_inside, front_of, all_taken}
 use Rattle.account_steps.specs.declared.facts.RealmFacts.{RealmFacts}
+use Rattle.account_steps.specs.History.{Entry}
+use Rattle.published_account.specs.Pairs.{entries_of}
+use Rattle.journal_file.specs.Journal.{journal_text}
+use Rattle.kms_server.specs.declared.crew.Kept.{Kept}
 use Rattle.account_core.specs.Account.{Account}
 use Rattle.kms_session.specs.Run.{turns}
+use Rattle.kms_session.specs.Session.{EndsBy}
 use Rattle.kms_words.specs.Words.{Command, Source, RunValues, of_values, of_file, run, explain, export, check, serve, load, command_of}
 use Rattle.publish_pass.specs.Pass.{Pass, fresh_pass}
 use Rattle.kms_config.specs.declared.config.Config.{Config}
 use Rattle.kms_program.specs.declared.settings.Settings.{Settings}
 use Rattle.kms_program.specs.Statuses.{well, no_memory}
 use Rattle.kms_program.specs.Journals.{IsBegun}
-use Rattle.kms_program.specs.Program.{Around, around, Everything, one_of, status_of_end, Serves, Explains, Rests, whole, short, WithValues, right, refuses, lacks, too_long, fails, WithConfig, FromSource, AsksSource, NoAccount, no_journal, unread_journal, no_room, begun, not_begun, WithSession, with_settings, no_settings, Checks, tells, WithFile, configured, not_configured, Sums, sums, Does, Runs}
-use Rattle.kms_program.specs.Complete.{ServesEach, ExplainsEach, IsRight, ComesTo, comes_to_each, is_refused, is_starved, IsCalm, OnMessages, RunCompletes, ExplainCompletes, CheckComesTo, tells_numbers, is_no_config, has_no_memory, LoadComesTo, sums_up, lacks_memory, Completes}
+use Rattle.kms_program.specs.Program.{Around, around, Everything, one_of, status_of_end, Serves as ServesSession, Explains, quiet_over, IsKeptOf, WritesKept, keeps_journal, lacks_journal, EndsExport, Exports, Rests, whole, short, WithValues, right, refuses, lacks, too_long, fails, WithConfig, FromSource, AsksSource, NoAccount, no_journal, unread_journal, no_room, begun, not_begun, WithSession, with_settings, no_settings, Checks, tells, WithFile, configured, not_configured, Sums, sums, Does, Runs}
+use Rattle.kms_program.specs.Complete.{ServesEach, ExplainsEach, ExportsEach, IsRight, ComesTo, comes_to_each, is_refused, is_starved, IsCalm, OnMessages, RunCompletes, ExplainCompletes, ExportCompletes, CheckComesTo, tells_numbers, is_no_config, has_no_memory, LoadComesTo, sums_up, lacks_memory, Completes}
 
 status_of : (closes : Bool) → status_of_end (end_of closes) ≡ well
 status_of true = refl
@@ -32,6 +42,7 @@ begun_before old met (Some name) facts account same is = record {
   facts_are = is.facts_are;
   is = is.is;
   read = is.read;
+  held = is.held;
 }
 
 same_content : (source : Source) (old met : Shelf) → AsksSource source old met → met.content ≡ old.content
@@ -45,10 +56,35 @@ no_fewer (of_file file caller) old met asks = asks.faults
 rose_before : (by old met new : ℕ) → old ≤ met → RoseBy by met new → RoseBy by old new
 rose_before by old met new le rose = omega (arith, le, rose)
 
+-- the replies of a run over items are those of the same items
+answered : {S : Type 0} (Step : S → Item → ℕ → Bool → List ℕ → S → Type 0) {before after : Outside S} {closes : Bool} {count : ℕ} {rest : List ℕ} {items : List Item}
+    (s : Serves Step before after closes count rest) → items ≡ s.items → AnswersEach Step items before after
+answered Step {before = before} {after = after} s same = record {
+  clocks = s.clocks;
+  text = s.text;
+  run = subst (λ (all : List Item). Run Step before.state after.state all s.clocks s.text) (sym same) s.run;
+  written = s.written;
+}
+
+-- ---- what is written of an export leaves the count of faults of reads
+
+sent_reads : (left : Kept) (status : ℕ) (old new : Wire) → WritesKept left status old new → old.read_faults ≤ new.read_faults
+sent_reads left status old new (keeps_journal account is (inl both)) = let e = both.0.sends.read_faults in omega (arith, e)
+sent_reads left status old new (keeps_journal account is (inr both)) = let e = both.0.sends.read_faults in omega (arith, e)
+sent_reads left status old new (lacks_journal same is) = let e = ap (λ (w : Wire). w.read_faults) same in omega (arith, e)
+
+reads_stay : (end : SessionEnd) (left : Kept) (status : ℕ) (old new : Wire) → EndsExport end left status old new → old.read_faults ≤ new.read_faults
+reads_stay Ended left status old new does = sent_reads left status old new does
+reads_stay Closed left status old new does = sent_reads left status old new does
+reads_stay CutOff left status old new does = let e = ap (λ (w : Wire). w.read_faults) does.0 in omega (arith, e)
+reads_stay ReadFault left status old new does = let e = ap (λ (w : Wire). w.read_faults) does.0 in omega (arith, e)
+reads_stay WriteFault left status old new does = let e = ap (λ (w : Wire). w.read_faults) does.0 in omega (arith, e)
+reads_stay NoMemory left status old new does = let e = ap (λ (w : Wire). w.read_faults) does.0 in omega (arith, e)
+
 module _ (status : ℕ) (old new : Around) where
   -- a session that is served
   comes_served : (Right : Settings → Account → Type 0) (settings : Settings) (account : Account) (met : Shelf) → Right settings account
-      → Serves account settings.trust status (around old.wire old.clock met) new → RunCompletes Right status old new
+      → ServesSession account settings.trust status (around old.wire old.clock met) new → RunCompletes Right status old new
   comes_served Right settings account met fit s input closes items calm gives asked =
       let before = outside old.wire old.clock (fresh_pass account.facts 1 account.entries 1) in
       let after = outside new.wire new.clock s.serving.pass in
@@ -67,6 +103,64 @@ module _ (status : ℕ) (old new : Around) where
         | inl none ↦ is_starved (s.status_is ∙ ap status_of_end none.0) tt
         | inr each ↦ comes_to_each settings account fit (record { last = s.explained.last; each = each.1; status_is = s.status_is ∙ ap status_of_end each.0 ∙ status_of closes })
       ]
+
+  -- one whose replies are kept back, and the journal that is written of it
+  writes_kept : (pass : Pass) (left : Kept) (beneath : Wire) → IsKeptOf pass left → beneath.write_faults ≡ old.wire.write_faults → ¬ (RoseBy 1 old.wire.write_faults new.wire.write_faults)
+      → WritesKept left status beneath new.wire → ((status ≡ no_memory) × (new.wire ≡ beneath)) ⊎ ((status ≡ well) × SendsWhole beneath new.wire (journal_text pass.facts (entries_of pass.history)))
+  writes_kept pass left beneath kept same calm (keeps_journal account is (inl both)) =
+      let fits = subst (IsKeptOf pass) is kept in
+      inr (
+        both.1,
+        subst (λ (facts : RealmFacts). SendsWhole beneath new.wire (journal_text facts (entries_of pass.history))) fits.0
+            (subst (λ (entries : List Entry). SendsWhole beneath new.wire (journal_text account.facts entries)) fits.1 both.0),
+      )
+  writes_kept pass left beneath kept same calm (keeps_journal account is (inr both)) = absurd (calm (subst (λ (n : ℕ). RoseBy 1 n new.wire.write_faults) same both.0.rose))
+  writes_kept pass left beneath kept same calm (lacks_journal none is) = inl (is, none)
+
+  module _ (Right : Settings → Account → Type 0) (settings : Settings) (account : Account) (fit : Right settings account) (items : List Item) (closes : Bool) where
+    abbrev Exported : Type 0
+    Exported = ComesTo Right (λ settings account. ExportsEach items account settings.trust status old new) (new.wire.written ≡ old.wire.written) status
+
+    exports_each : (pass : Pass) (left : Kept) (quiet beneath : Wire) → IsKeptOf pass left → LiesBeneath old.wire quiet beneath → ¬ (RoseBy 1 old.wire.write_faults new.wire.write_faults)
+        → AnswersEach (turns settings.trust) items (outside (quiet_over old.wire) old.clock (fresh_pass account.facts 1 account.entries 1)) (outside quiet new.clock pass)
+        → WritesKept left status beneath new.wire → Exported
+    exports_each pass left quiet beneath kept lies calm each writes =
+        elim (writes_kept pass left beneath kept lies.unwritten.write_faults calm writes) as (λ _. Exported) [
+          | inl none ↦ is_starved none.0 (ap (λ (w : Wire). w.written) none.1 ∙ lies.unwritten.written)
+          | inr written ↦ comes_to_each settings account fit (record { pass = pass; quiet = quiet; each = each; beneath = beneath; lies = lies; writes = written.1; status_is = written.0 })
+        ]
+
+    exports_none : (quiet beneath : Wire) → LiesBeneath old.wire quiet beneath → (new.wire ≡ beneath) × (status ≡ no_memory) → Exported
+    exports_none quiet beneath lies both = is_starved both.1 (ap (λ (w : Wire). w.written) both.0 ∙ lies.unwritten.written)
+
+    module _ (input : List ℕ) (calm : IsCalm old new) (gives : old.wire.left ≡ Some input) (asked : IsAsked input closes items) where
+      comes_by : (end : SessionEnd) (left : Kept) (quiet beneath : Wire) (pass : Pass)
+          → EndsBy settings.trust end (outside (quiet_over old.wire) old.clock (fresh_pass account.facts 1 account.entries 1)) (outside quiet new.clock pass)
+          → IsKeptOf pass left → LiesBeneath old.wire quiet beneath → beneath.read_faults ≤ new.wire.read_faults → EndsExport end left status beneath new.wire → Exported
+      comes_by Ended left quiet beneath pass ends kept lies reads does =
+          let f = front_of quiet.left input ends.serves.input (sym gives ∙ ends.serves.left) in
+          let all : ends.serves.input ≡ input = all_taken f ends.at_end in
+          let both = ended input closes items ends.serves.items asked (subst (λ (bytes : List ℕ). Cuts bytes false ends.serves.items []) all ends.serves.cuts) in
+          exports_each pass left quiet beneath kept lies calm.writes (answered (turns settings.trust) ends.serves both.1) does
+      comes_by Closed left quiet beneath pass ends kept lies reads does =
+          let f = front_of quiet.left input ends.serves.input (sym gives ∙ ends.serves.left) in
+          let both = closed ends.serves.input f.left closes items ends.serves.items ends.rest (subst (λ (bytes : List ℕ). IsAsked bytes closes items) f.joined asked) ends.serves.cuts in
+          exports_each pass left quiet beneath kept lies calm.writes (answered (turns settings.trust) ends.serves both.1) does
+      comes_by CutOff left quiet beneath pass ends kept lies reads does =
+          let f = front_of quiet.left input ends.serves.input (sym gives ∙ ends.serves.left) in
+          let all : ends.serves.input ≡ input = all_taken f ends.at_end in
+          absurd (not_inside input closes items ends.serves.items ends.rest asked (subst (λ (bytes : List ℕ). Cuts bytes false ends.serves.items ends.rest) all ends.serves.cuts) ends.awaits ends.some)
+      comes_by ReadFault left quiet beneath pass ends kept lies reads does =
+          absurd (calm.reads (omega (arith, ends.rose, lies.read_faults, reads)))
+      comes_by WriteFault left quiet beneath pass ends kept lies reads does = exports_none quiet beneath lies does
+      comes_by NoMemory left quiet beneath pass ends kept lies reads does = exports_none quiet beneath lies does
+
+  comes_exported : (Right : Settings → Account → Type 0) (settings : Settings) (account : Account) (met : Shelf) → Right settings account
+      → Exports account settings.trust status (around old.wire old.clock met) new → ExportCompletes Right status old new
+  comes_exported Right settings account met fit both input closes items calm gives asked =
+      let exports = both.0 in
+      comes_by Right settings account fit items closes input calm gives asked exports.end exports.left exports.quiet exports.beneath exports.held.serving.pass exports.held.serving.ends
+      exports.held.keeps exports.lies (reads_stay exports.end exports.left status exports.beneath new.wire exports.ends) exports.ends
 
   -- ---- whatever is done with settings and an account
 
@@ -119,10 +213,10 @@ module _ (status : ℕ) (old new : Around) where
     of_session source journal so (with_settings settings met is policies asks (not_begun none)) = no_account settings.facts journal met (no_fewer source old.shelf met asks) none
     of_session source journal so (no_settings none) = none_from source none
 
-  of_run : (source : Source) (journal : Option (List ℕ)) → WithSession source journal status old new (λ settings account met. Serves account settings.trust status met new)
+  of_run : (source : Source) (journal : Option (List ℕ)) → WithSession source journal status old new (λ settings account met. ServesSession account settings.trust status met new)
       → RunCompletes (IsRight old.shelf source journal) status old new
   of_run source journal does =
-      of_session (IsRight old.shelf source journal) (λ settings account met. Serves account settings.trust status met new)
+      of_session (IsRight old.shelf source journal) (λ settings account met. ServesSession account settings.trust status met new)
       (λ items settings account. ServesEach items account settings.trust status old new) (new.wire ≡ old.wire) (comes_served (IsRight old.shelf source journal)) (λ same. same) source journal
       (λ settings account is. is) does
 
@@ -132,6 +226,13 @@ module _ (status : ℕ) (old new : Around) where
       of_session (IsRight old.shelf source journal) (λ settings account met. Explains account settings.trust status met new)
       (λ items settings account. ExplainsEach items account settings.trust status old new) (Unit {0}) (comes_explained (IsRight old.shelf source journal)) (λ same. tt) source journal
       (λ settings account is. is) does
+
+  of_export : (source : Source) (journal : Option (List ℕ)) → WithSession source journal status old new (λ settings account met. Exports account settings.trust status met new)
+      → ExportCompletes (IsRight old.shelf source journal) status old new
+  of_export source journal does =
+      of_session (IsRight old.shelf source journal) (λ settings account met. Exports account settings.trust status met new)
+      (λ items settings account. ExportsEach items account settings.trust status old new) (new.wire.written ≡ old.wire.written) (comes_exported (IsRight old.shelf source journal))
+      (λ same. ap (λ (w : Wire). w.written) same) source journal (λ settings account is. is) does
 
   of_check : (file : List ℕ) → WithFile file status old new (λ config. Checks config status old new) → IsCalm old new → CheckComesTo file status old new
   of_check file (configured config is policies asks (tells (whole sends st clock))) calm = tells_numbers (record { config = config; is = is; tells = sends }) st
@@ -151,7 +252,7 @@ module _ (status : ℕ) (old new : Around) where
   of_want None rests = tt
   of_want (Some (run source journal)) rests = λ input closes items calm gives asked. is_starved rests.status_is rests.nothing
   of_want (Some (explain source journal)) rests = λ input closes items calm gives asked. is_starved rests.status_is tt
-  of_want (Some (export source journal)) rests = tt
+  of_want (Some (export source journal)) rests = λ input closes items calm gives asked. is_starved rests.status_is (ap (λ (w : Wire). w.written) rests.nothing)
   of_want (Some (check file)) rests = λ calm. has_no_memory rests.status_is
   of_want (Some (serve values)) rests = tt
   of_want (Some (load seed requests)) rests = λ calm. lacks_memory rests.status_is
@@ -160,7 +261,7 @@ of_command : (status : ℕ) (old new : Everything) (command : Option Command) �
 of_command status old new None does = tt
 of_command status old new (Some (run source journal)) does = of_run status (one_of old) (one_of new) source journal does.0
 of_command status old new (Some (explain source journal)) does = of_explain status (one_of old) (one_of new) source journal does.0
-of_command status old new (Some (export source journal)) does = tt
+of_command status old new (Some (export source journal)) does = of_export status (one_of old) (one_of new) source journal does.0
 of_command status old new (Some (check file)) does = of_check status (one_of old) (one_of new) file does.0
 of_command status old new (Some (serve values)) does = tt
 of_command status old new (Some (load seed requests)) does = of_load status (one_of old) (one_of new) seed requests does.0

@@ -1,6 +1,7 @@
 -- What the program comes to where nothing disturbs it.
 use Rattle.std.specs.Prelude.{◌≡◌, ℕ, List, Bool, Option, None, Some, length}
 use Rattle.kms_io.specs.Wire.{Wire, RoseBy}
+use Rattle.kms_io.specs.QuietLink.{LiesBeneath}
 use Rattle.kms_config.specs.declared.config.Config.{Config}
 use Rattle.session_front.specs.Items.{Item}
 use Rattle.session_front.specs.Sending.{SendsWhole}
@@ -10,16 +11,18 @@ use Rattle.session_front.specs.Complete.{AnswersEach}
 use Rattle.kms_session.specs.Run.{turns}
 use Rattle.kms_words.specs.Words.{Command, Source, run, explain, export, check, serve, load}
 use Rattle.explain_session.specs.Explaining.{Explainer, fresh, tells}
+use Rattle.published_account.specs.Pairs.{entries_of}
 use Rattle.publish_pass.specs.Pass.{Pass, fresh_pass}
 use Rattle.kms_workload.specs.Summary.{Summarizes}
 use Rattle.kms_program.specs.declared.settings.Settings.{Settings}
 use Rattle.account_core.specs.Account.{Account}
+use Rattle.journal_file.specs.Journal.{journal_text}
 use Rattle.session_front.specs.declared.trust.Trust.{Trust}
 use Rattle.kms_io.specs.Shelf.{Shelf}
 use Rattle.kms_program.specs.Journals.{IsBegun}
 use Rattle.kms_program.specs.Files.{IsFileOf}
 use Rattle.kms_program.specs.Statuses.{well, refused, no_memory}
-use Rattle.kms_program.specs.Program.{Around, IsFrom, checked_line}
+use Rattle.kms_program.specs.Program.{Around, IsFrom, checked_line, quiet_over}
 
 -- neither count of the link's faults rises, nor that of the files'
 pub record IsCalm (old new : Around) : Type 0 where
@@ -37,6 +40,17 @@ pub record ServesEach (items : List Item) (account : Account) (trust : Trust) (s
 pub record ExplainsEach (items : List Item) (account : Account) (trust : Trust) (status : ℕ) (old new : Around) : Type 0 where
   pub last : Explainer
   pub each : AnswersEach (tells trust) items (outside old.wire old.clock (fresh account)) (outside new.wire new.clock last)
+  pub status_is : status ≡ well
+
+-- A session of this account was served with its replies kept back, each of these messages was answered, once and in order, and nothing but the journal of the account
+-- that they leave was written. The status is 0.
+pub record ExportsEach (items : List Item) (account : Account) (trust : Trust) (status : ℕ) (old new : Around) : Type 0 where
+  pub pass : Pass
+  pub quiet : Wire
+  pub each : AnswersEach (turns trust) items (outside (quiet_over old.wire) old.clock (fresh_pass account.facts 1 account.entries 1)) (outside quiet new.clock pass)
+  pub beneath : Wire
+  pub lies : LiesBeneath old.wire quiet beneath
+  pub writes : SendsWhole beneath new.wire (journal_text pass.facts (entries_of pass.history))
   pub status_is : status ≡ well
 
 -- the right settings of a session, and the account that it begins with
@@ -64,6 +78,11 @@ abbrev pub ExplainCompletes : (Settings → Account → Type 0) → ℕ → Arou
 ExplainCompletes Right status old new =
     OnMessages old new (λ items. ComesTo Right (λ settings account. ExplainsEach items account settings.trust status old new) (Unit {0}) status)
 
+-- each is answered, and the journal of what they leave is written; where memory was wanting nothing is written
+abbrev pub ExportCompletes : (Settings → Account → Type 0) → ℕ → Around → Around → Type 0
+ExportCompletes Right status old new =
+    OnMessages old new (λ items. ComesTo Right (λ settings account. ExportsEach items account settings.trust status old new) (new.wire.written ≡ old.wire.written) status)
+
 -- `check` writes the line of the file's numbers whole
 pub record TellsNumbers (old : Around) (file : List ℕ) (before after : Wire) : Type 0 where
   pub config : Config
@@ -80,12 +99,12 @@ pub data LoadComesTo (seed requests status : ℕ) (old new : Wire) : Type 0 wher
   sums_up : (lines : List ℕ) → Summarizes seed requests lines → SendsWhole old new lines → status ≡ well → LoadComesTo seed requests status old new
   lacks_memory : status ≡ no_memory → LoadComesTo seed requests status old new
 
--- what a command comes to; of a server each connection says it, and of an export the session whose replies it keeps back
+-- what a command comes to; of a server each connection says it
 abbrev pub Completes : Option Command → ℕ → Around → Around → Type 0
 Completes None status old new = Unit {0}
 Completes (Some (run source journal)) status old new = RunCompletes (IsRight old.shelf source journal) status old new
 Completes (Some (explain source journal)) status old new = ExplainCompletes (IsRight old.shelf source journal) status old new
-Completes (Some (export source journal)) status old new = Unit {0}
+Completes (Some (export source journal)) status old new = ExportCompletes (IsRight old.shelf source journal) status old new
 Completes (Some (check file)) status old new = IsCalm old new → CheckComesTo file status old new
 Completes (Some (serve values)) status old new = Unit {0}
 Completes (Some (load seed requests)) status old new = IsCalm old new → LoadComesTo seed requests status old.wire new.wire

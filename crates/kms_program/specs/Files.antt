@@ -7,6 +7,8 @@ use Rattle.kms_names.specs.declared.principals.Principal.{Principal}
 use Rattle.authority.specs.Setting.{callers_policies}
 use Rattle.authority.specs.Allowed.{AreIdentityPolicies}
 use Rattle.account_steps.specs.declared.facts.RealmFacts.{RealmFacts}
+use Rattle.session_front.specs.Callers.{IsOfAccount}
+use Rattle.session_front.specs.declared.trust.Trust.{Trust}
 use Rattle.kms_config.specs.Config.{IsConfigOf, IsRefusedAt}
 use Rattle.kms_config.specs.declared.config.Config.{Config}
 use Rattle.kms_program.specs.declared.files.Loaded.{Loaded}
@@ -24,6 +26,11 @@ IsFileOf shelf name config = (bytes : List ℕ) × Holds shelf name bytes × IsC
 pub record HasIdentityPolicies (facts : RealmFacts) : Type 0 where
   pub own : (caller : Principal) → AreIdentityPolicies (callers_policies facts.identities caller)
   pub ceiling : AreIdentityPolicies facts.ceiling
+
+-- the same, and whoever may call is of the account
+pub record KnowsCallers (facts : RealmFacts) (trust : Trust) : Type 0 where
+  pub policies : HasIdentityPolicies facts
+  pub callers : IsOfAccount facts.account trust
 
 -- the first fault of the file's content stands at this path
 abbrev pub IsFileRefused : Shelf → List ℕ → List ℕ → Type 0

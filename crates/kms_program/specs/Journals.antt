@@ -5,6 +5,7 @@ use Rattle.kms_io.specs.Wire.{RoseBy}
 use Rattle.kms_io.specs.Files.{Asks, MayAsk}
 use Rattle.account_steps.specs.declared.facts.RealmFacts.{RealmFacts}
 use Rattle.account_core.specs.Account.{Account}
+use Rattle.account_core.specs.Fitting.{IsHeld}
 use Rattle.journal_file.specs.Faults.{IsJournalOf, IsFault, IsReadBack}
 use Rattle.journal_file.specs.declared.faults.JournalFault.{JournalFault}
 use Rattle.journal_file.specs.declared.faults.JournalFault.TheVariants.{At, OldBoot, NoMemory}
@@ -12,13 +13,15 @@ use Rattle.kms_program.specs.declared.accounts.Read.{Read}
 use Rattle.kms_program.specs.declared.accounts.Read.TheVariants as read
 use Rattle.kms_program.specs.Files.{Holds}
 
--- the file is the journal of this account, whose facts are these, and of each of its entries the line is read as that entry
+-- the file is the journal of this account, whose facts are these; of each of its entries the line is read as that entry, and each is one that a
+-- request or housekeeping made, or that fitted those before it
 pub record IsJournalFile (shelf : Shelf) (name : List ℕ) (facts : RealmFacts) (account : Account) : Type 0 where
   pub bytes : List ℕ
   pub holds : Holds shelf name bytes
   pub facts_are : account.facts ≡ facts
   pub is : IsJournalOf facts bytes account.entries
   pub read : All IsReadBack account.entries
+  pub held : IsHeld account.facts account.entries
 
 -- an account without entries, or where a journal is named, that of the journal
 abbrev pub IsBegun : Shelf → Option (List ℕ) → RealmFacts → Account → Type 0
@@ -54,7 +57,7 @@ MayAskJournal (Some name) old new = MayAsk old name new
 
 -- what bytes come to
 abbrev pub IsReadOf : List ℕ → RealmFacts → Read → Type 0
-IsReadOf bytes facts (read.Account account) = (account.facts ≡ facts) × IsJournalOf facts bytes account.entries × All IsReadBack account.entries
+IsReadOf bytes facts (read.Account account) = (account.facts ≡ facts) × IsJournalOf facts bytes account.entries × All IsReadBack account.entries × IsHeld account.facts account.entries
 IsReadOf bytes facts (read.At line) = IsFault facts bytes (At line)
 IsReadOf bytes facts read.OldBoot = IsFault facts bytes OldBoot
 IsReadOf bytes facts read.TooLong = ⊥

@@ -33,7 +33,7 @@ use Rattle.kms_server.specs.Server.{Wanted, Surroundings, surroundings, ServesDo
 use Rattle.kms_workload.specs.Summary.{Summarizes}
 use Rattle.kms_words.specs.Words.{Command, Source, RunValues, ServeValues, of_values, of_file, run, explain, export, check, serve, load, command_of}
 use Rattle.kms_program.specs.Settings.{IsSettings, IsRefusedAt, IsConfigured, IsNobody}
-use Rattle.kms_program.specs.Files.{IsFileOf, HasIdentityPolicies, IsFileRefused, IsFileTooLong}
+use Rattle.kms_program.specs.Files.{IsFileOf, KnowsCallers, IsFileRefused, IsFileTooLong}
 
 -- what the link and the files show, and what the first clock tells
 pub record Around : Type 0 where
@@ -164,7 +164,7 @@ pub data Checks (config : Config) (status : ℕ) (old new : Around) : Type 0 whe
 
 -- what a command with a file does, where this is what it does with a configuration
 pub data WithFile (file : List ℕ) (status : ℕ) (old new : Around) (Does : Config → Type 0) : Type 0 where
-  configured : (config : Config) → IsFileOf old.shelf file config → HasIdentityPolicies config.facts → Asks old.shelf file new.shelf → Does config → WithFile file status old new Does
+  configured : (config : Config) → IsFileOf old.shelf file config → KnowsCallers config.facts (Signed config.credentials) → Asks old.shelf file new.shelf → Does config → WithFile file status old new Does
   not_configured : RunsNoFile file status old new → Asks old.shelf file new.shelf → WithFile file status old new Does
   lacks : Rests no_memory status old new → MayAsk old.shelf file new.shelf → WithFile file status old new Does
 
@@ -208,7 +208,7 @@ pub data Begins (facts : RealmFacts) (journal : Option (List ℕ)) (status : ℕ
 
 -- what a command about a session does, where this is what it does with its settings and the account that it begins with; or there are no settings
 pub data WithSession (source : Source) (journal : Option (List ℕ)) (status : ℕ) (old new : Around) (Does : Settings → Account → Around → Type 0) : Type 0 where
-  with_settings : (settings : Settings) (met : Shelf) → IsFrom old.shelf source settings → HasIdentityPolicies settings.facts → AsksSource source old.shelf met
+  with_settings : (settings : Settings) (met : Shelf) → IsFrom old.shelf source settings → KnowsCallers settings.facts settings.trust → AsksSource source old.shelf met
       → Begins settings.facts journal status (around old.wire old.clock met) new (Does settings) → WithSession source journal status old new Does
   no_settings : FromSource source status old new (λ settings. ⊥) → WithSession source journal status old new Does
 
@@ -254,10 +254,10 @@ pub record AsksNothing (old new : Everything) : Type 0 where
 abbrev pub wanted_of : ServeValues → Wanted
 wanted_of values = record { address = values.address; workers = values.workers; connections = values.connections; keeps = values.exports }
 
--- Lines are written. If all is well the status is 0, or 6 where they can't be written whole; else it is 5 whether they can or not.
+-- Lines are written, and the status is 0 if all is well, and else 5; or they can't be written whole, and it is 6.
 abbrev pub Reports : Bool → List ℕ → ℕ → Wire → Wire → Type 0
 Reports true lines status old new = (SendsWhole old new lines × (status ≡ well)) ⊎ (SendsShort old new lines × (status ≡ unwritten))
-Reports false lines status old new = SaysLine lines old new × (status ≡ unread)
+Reports false lines status old new = (SendsWhole old new lines × (status ≡ unread)) ⊎ (SendsShort old new lines × (status ≡ unwritten))
 
 abbrev pub around_door : Everything → Surroundings
 around_door all = surroundings all.door all.clocks
@@ -290,7 +290,7 @@ with_shelf all shelf = everything all.wire shelf all.door all.clocks
 
 -- what `serve` does: the file was asked for first
 pub data ServesFile (values : ServeValues) (status : ℕ) (old new : Everything) : Type 0 where
-  configured : (config : Config) (met : Shelf) → IsFileOf old.shelf values.file config → HasIdentityPolicies config.facts → Asks old.shelf values.file met
+  configured : (config : Config) (met : Shelf) → IsFileOf old.shelf values.file config → KnowsCallers config.facts (Signed config.credentials) → Asks old.shelf values.file met
       → ServesConfig config values status (with_shelf old met) new → ServesFile values status old new
   otherwise : WithFile values.file status (one_of old) (one_of new) (λ config. ⊥) → AsksNone old new → ServesFile values status old new
 

@@ -38,7 +38,10 @@ fn read_bytes(alloc: Global, facts: RealmFacts, bytes: &[u8]) -> Read
     ensures { IsReadOf bytes.now facts result }
 {
     match read_journal(alloc, facts, bytes) {
-        Ok(account) => Read::Account(account),
+        Ok(account) => {
+            let _entries = account.entries();
+            Read::Account(account)
+        }
         Err(JournalFault::At(line)) => Read::At(line),
         Err(JournalFault::OldBoot) => Read::OldBoot,
         Err(JournalFault::NoMemory) => Read::NoMemory,

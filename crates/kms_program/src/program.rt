@@ -140,24 +140,25 @@ where
 /// * `check --config FILE`: writes how many credentials and how many principals with policies the file
 ///   has.
 /// * `serve --config FILE --listen ADDRESS`, and perhaps `--workers W` (1 to 64, else 4) and
-///   `--connections K` (1 to 1,000,000,000, else as many): the door is opened once, at the address, and W
+///   `--connections K` (1 to 1,000,000,000, else as many as come): the door is opened once, at the address, and W
 ///   workers take K connections each, one after another, with the first W clocks. Messages are signed. In
-///   the end a line tells how many connections were taken, and the most entries that a pass holds; with
-///   `--export` the journal of the account follows it.
+///   the end a line tells how many connections were taken, and how many entries there are: those that were loaded,
+///   and those that the workers' passes made; with `--export` the journal of the account follows it.
 /// * `load --seed N --requests M` (M from 1 to 100,000): the workload of the seed is served in memory, and
 ///   five lines sum it up.
 ///
 /// Status 2 is for other words (a usage line is written); 3 for a configuration that is refused, the
 /// first value of `run` that has not its form, or a journal that is refused (a line names the path, `/` and
 /// the option, or `/load` and the line); 4 for input that ended inside a message; 5 for a read that failed, of the link or of the file, for a door that
-/// couldn't be opened, and where the ear of a worker failed 16 times in a row; 6 for a write that failed; 7
-/// for want of memory (of `run` with nothing taken; of `explain` also where it is wanting for a line, after the lines
-/// before it); and 0 otherwise. Where the line of status 2, 3 or 5
+/// couldn't be opened, and where the ear of a worker failed 16 times in a row; 6 for a write that failed, whatever else
+/// the status of `serve` would be; 7 for want of memory (of `run` with nothing taken; of `explain` also where it is wanting for a line, after the lines
+/// before it); and 0 otherwise. Where the line of status 2 or 3
 /// can't be written whole the status stays. The files are asked for the file of `--config` and then for that of
 /// `--load` alone, each once, and the door is opened by `serve` alone.
 ///
 /// Where no count of faults rises and the link has only whole messages to give, or some up to one that closes, `run` answers each
-/// of them, once and in order, writes nothing else, and ends with status 0; so `explain` writes one line for each; `check` and `load` write their lines whole, with status
+/// of them, once and in order, writes nothing else, and ends with status 0; so `explain` writes one line for each, and `export` the journal
+/// of the account that the answers leave; `check` and `load` write their lines whole, with status
 /// 0. Else the status is 3, for what is refused, or 7, for want of memory (`Completes`).
 pub fn kms_main<
     W: Threads + Wait + Sync,

@@ -35,10 +35,10 @@ fn report<L: Link>(alloc: Global, link: &mut L, served: Served, kept: &Kept) -> 
         served.front,
         journal.as_slice(),
     )?;
-    Ok(match (served.is_whole, is_told) {
+    Ok(match (is_told, served.is_whole) {
         (true, true) => 0,
-        (true, false) => UNWRITTEN,
-        (false, _) => UNREAD,
+        (true, false) => UNREAD,
+        (false, _) => UNWRITTEN,
     })
 }
 

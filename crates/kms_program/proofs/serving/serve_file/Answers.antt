@@ -14,7 +14,7 @@ returns-in-Ok g c =
     let after = everything (g.L.Link.shows c.serve_config.new.link) new (g.D.Door.shows c.serve_config.new.door) (map told c.serve_config.new.clocks.items) in
     let found = c.in-Ok.ensures.config in
     let values = serve_values_in c.args.words.now in
-    configured c.in-Ok.config met found.0 c.in-Ok.ensures.policies found.1
+    configured c.in-Ok.config met found.0 (record { policies = c.in-Ok.ensures.policies; callers = c.in-Ok.ensures.callers }) found.1
     (subst (λ (wire : Wire). ServesConfig c.in-Ok.config values c.serve_config.result (everything wire met door clocks) after) found.2 c.serve_config.ensures)
 
 pub returns-in-Err : goal.returns-in-Err

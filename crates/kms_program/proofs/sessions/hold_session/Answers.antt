@@ -12,6 +12,6 @@ returns-in-Ok g c =
     let settings = c.in-Ok.settings in
     let found = c.in-Ok.ensures.settings in
     let status = c.begin_session.result in
-    with_settings settings met found.0 c.in-Ok.ensures.policies found.1
+    with_settings settings met found.0 (record { policies = c.in-Ok.ensures.policies; callers = c.in-Ok.ensures.trust }) found.1
     (subst (λ (wire : Wire). Begins settings.facts (journal_in c.args.session) status (around wire told met) after (λ account here. Conducts c.args.task account settings.trust status here after)) found.2
     c.begin_session.ensures)

@@ -12,7 +12,7 @@ returns-in-Ok-clause-status g c =
     let found = c.in-Ok.ensures.config in
     let caller = option_map (λ caller. caller.now) c.args.caller in
     on_status c.settings_of_config.result
-    (λ status none clock. configured c.in-Ok.config found.0 c.in-Ok.ensures.policies found.1
+    (λ status none clock. configured c.in-Ok.config found.0 (record { policies = c.in-Ok.ensures.policies; callers = c.in-Ok.ensures.callers }) found.1
     (subst (λ (wire : Wire). WithConfig c.in-Ok.config caller status (around wire clock old) (around after clock new) (λ settings. ⊥)) found.2 (none clock old new)))
     c.settings_of_config.ensures.status
 

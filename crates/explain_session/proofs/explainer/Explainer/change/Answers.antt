@@ -2,7 +2,7 @@ use Rattle.std.proofs.Common.{subst, sym, ap, ◌∙◌}
 use Rattle.account_core.specs.Account.{Account}
 use Rattle.account_core.specs.Decide.{IsProper}
 use Rattle.explain_session.specs.Explaining.{Explainer, Answers}
-use Rattle.explain_session.proofs.Explainers.{explainer_at, answers_none, answers_one, next_entry}
+use Rattle.explain_session.proofs.Explainers.{explainer_at, answers_none, answers_one, next_entry, lacks_all}
 use Rattle.explain_session.proofs.explainer.Explainer.change.Goals as goal
 
 pub apply-requires : goal.apply-requires
@@ -26,3 +26,9 @@ returns-in-Refused-clause-answers c =
     let account = c.self.inside.account in
     subst (λ (s : Explainer). Answers s c.args.ask.now c.in-Refused.reply s) c.self.view_is
     (answers_none account.facts account.entries c.args.ask.now c.self.inside.draws c.requires.changes c.in-Refused.reply _ c.in-Refused.is c.in_ok-reply.ensures)
+
+pub returns-in_err-reply-clause-lacking : goal.returns-in_err-reply-clause-lacking
+returns-in_err-reply-clause-lacking c = lacks_all c.from_residual.result c.args.self.now c.args.ask.now
+
+pub returns-in_err-self-inside-in-Change-clause-lacking : goal.returns-in_err-self-inside-in-Change-clause-lacking
+returns-in_err-self-inside-in-Change-clause-lacking c = lacks_all c.from_residual-in_err-self-inside-in-Change.result c.args.self.now c.args.ask.now
