@@ -1,5 +1,6 @@
 // The calls of the operating system that make a file ready, and write to it.
 ghost use Rattle.std.specs.Prelude.{◌≤◌, ◌^◌, length, IfOk};
+ghost use Rattle.kept_file.specs.Errors.{IsOpenError, words_of};
 
 use kept_log::MAX_LEN;
 use os::RangeLock;
@@ -26,6 +27,8 @@ pub enum OpenError {
 }
 
 impl From<io::Error> for OpenError {
+    ghost from_gives = { λ error e. IsOpenError error e };
+
     fn from(error: io::Error) -> OpenError {
         if error.kind() == ErrorKind::OutOfMemory {
             OpenError::NoMemory
@@ -36,6 +39,8 @@ impl From<io::Error> for OpenError {
 }
 
 impl fmt::Display for OpenError {
+    ghost output = { λ e. words_of e };
+
     fn fmt<W: fmt::Write>(&self, f: &mut fmt::Formatter<W>) -> fmt::Result {
         match self {
             OpenError::InUse => f.write_str("in use"),
