@@ -7,6 +7,7 @@ ghost use Rattle.persist_map.specs.Pairs.{value_at};
 ghost use Rattle.account_rows.specs.declared.keys.Due.{Due as DueValue};
 ghost use Rattle.account_rows.specs.Keys.{date_of, due_at, due_on, AreDatesOf};
 
+use crate::counted::value_in;
 use crate::entries::{Entry, What};
 use crate::held::{DefaultPolicy, HeldKey};
 use crate::replay::{Change, days_after, is_gone, new_key, place_in, rotated_if_due, same_key};
@@ -63,7 +64,7 @@ fn date_of(row: &KeyRow) -> Option<u64>
 fn date_at(rows: &PMap<u64, HeldKey>, place: u64) -> Option<u64>
     ensures { result ≡ date_found (value_at nat_cmp rows.now place) }
 {
-    match rows.look_up(&place) {
+    match value_in(rows, &place) {
         Some(held) => date_of(held.row()),
         None => None,
     }
@@ -154,7 +155,7 @@ impl HeldKeys {
     fn at(&self, place: u64) -> Option<&HeldKey>
         ensures { option_map (λ held. held.now) result ≡ row_at self.now place }
     {
-        self.rows.look_up(&place)
+        value_in(&self.rows, &place)
     }
 
     /// The key of an id. No memory is taken.

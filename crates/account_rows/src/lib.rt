@@ -4,6 +4,7 @@
 #![tactic(auto)]
 
 mod aliases;
+mod counted;
 mod entries;
 mod grants;
 mod held;

@@ -9,6 +9,7 @@ ghost use Rattle.std.specs.Prelude.{filter};
 ghost use Rattle.key_states.specs.declared.rows.KeyRow.{KeyRow};
 
 use crate::aliases::{HeldAliases, aliases_after};
+use crate::counted::value_in;
 use crate::entries::{Entry, What};
 use crate::grants::{HeldGrants, grants_after};
 use crate::held::{DefaultPolicy, HeldKey};
@@ -201,7 +202,7 @@ impl Rows {
     pub fn entry(&self, place: u64) -> Option<&Entry>
         ensures { option_map (λ entry. entry.now) result ≡ slice_get self.now place }
     {
-        self.entries.look_up(&place)
+        value_in(&self.entries, &place)
     }
 
     /// The number of keys. Each was made before those behind it.

@@ -4,16 +4,17 @@ ghost use Rattle.std.specs.Prelude.{◌≡◌, ◌<◌, [], length, filter, Matc
 ghost use Rattle.std.specs.Option.{option_map};
 ghost use Rattle.std.specs.Cmp.Lexicographic.{slice_cmp};
 ghost use Rattle.std.specs.Ordering.{nat_cmp};
-ghost use Rattle.persist_map.specs.Pairs.{with_pair};
+ghost use Rattle.persist_map.specs.Pairs.{value_at, with_pair};
 ghost use Rattle.alias_map.specs.Aliases.{names_key, row_named, row_after, row_of_key, with_row, without, without_keys, MayPut, IsThere, AreAliases};
 ghost use Rattle.alias_map.specs.Kept.{of_others};
 
 use crate::iterators::RowsOfKey;
 use crate::rows::AliasRow;
-use kms_names::{AliasName, KeyId, NoMemory};
+use kms_names::{AliasName, KeyId, NoMemory, Steps};
 use persist_map::{PGroups, PMap, Shared};
 use std::alloc::Global;
-use std::marker::Model;
+use std::marker::{Brand, Model};
+use std::sync::ledger::{Blank, Ledger};
 
 /// The aliases of an account. Contracts see it as the list of its rows in order of making. A changed map is a new one,
 /// which shares what stays with the old one; the old one stays as it was.
@@ -36,6 +37,31 @@ impl Model for AliasMap {
     ghost view = { λ m. rows_in m.rows };
 
     ghost invariant = { λ m. AreKept m.rows m.by_name m.by_key };
+}
+
+// The row of a name, whose comparisons are counted from 0.
+fn row_from<'a, L: Ledger>(
+    by_name: &'a PMap<AliasName, Shared<AliasRow>>,
+    name: &AliasName,
+    blank: Blank,
+) -> Option<&'a Shared<AliasRow>>
+    requires name { blank.name ≡ L.name }
+    requires parts { blank.parts ≡ L.parts }
+    requires some { 0 < blank.parts }
+    ensures { option_map (λ row. row.now) result ≡ value_at (slice_cmp nat_cmp) by_name.now name.now }
+{
+    let (book, share) = blank.open::<L>();
+    by_name.get(name, &mut Steps::new(book, share))
+}
+
+// The row of a name.
+fn row_in<'a>(
+    by_name: &'a PMap<AliasName, Shared<AliasRow>>,
+    name: &AliasName,
+) -> Option<&'a Shared<AliasRow>>
+    ensures { option_map (λ row. row.now) result ≡ value_at (slice_cmp nat_cmp) by_name.now name.now }
+{
+    row_from::<Brand>(by_name, name, Blank::new(1))
 }
 
 // The rows by their names, with one in place of the one of its name, or one more.
@@ -74,7 +100,7 @@ impl AliasMap {
     pub fn resolve(&self, name: &AliasName) -> Option<&AliasRow>
         ensures { option_map (λ row. row.now) result ≡ row_named self.now name.now }
     {
-        let row = self.by_name.look_up(name)?;
+        let row = row_in(&self.by_name, name)?;
         Some(row.value())
     }
 
@@ -110,7 +136,7 @@ impl AliasMap {
         requires { MayPut self.now row }
         ensures { IfOk result (λ map. map ≡ with_row self.now row) }
     {
-        let by_key = match self.by_name.look_up(&row.name) {
+        let by_key = match row_in(&self.by_name, &row.name) {
             Some(old) => self.by_key.remove(old.value().key, old.value().born)?,
             None => self.by_key.share()?,
         };
@@ -130,7 +156,7 @@ impl AliasMap {
         requires { IsThere self.now name.now }
         ensures { IfOk result (λ map. map ≡ without self.now name.now) }
     {
-        let Some(row) = self.by_name.look_up(name) else {
+        let Some(row) = row_in(&self.by_name, name) else {
             return self.share();
         };
         let row = row.value();

@@ -15,8 +15,9 @@ use crate::integers::Reading;
 use crate::moments::read_moment;
 use crate::numbers::read_number;
 use crate::operators::{Kind, Order};
+use crate::read_texts::is_like_read;
 use crate::truths::read_truth;
-use glob_patterns::{Letters, matches_read};
+use glob_patterns::Letters;
 use std::alloc::Global;
 use std::marker::Model;
 
@@ -160,7 +161,7 @@ impl<'a> ReadValue<'a> {
         match &self.form {
             Form::Exact => self.value == policy,
             Form::IgnoringCase => self.value.eq_ignore_ascii_case(policy),
-            Form::Letters(letters) => matches_read(policy, self.value, letters),
+            Form::Letters(letters) => is_like_read(self.value, letters, policy),
             Form::Number(order, left) => number_relates(*order, *left, policy),
             Form::Date(order, left) => date_relates(*order, *left, policy),
             Form::Truth(wanted) => truth_relates(*wanted, policy),

@@ -1,4 +1,5 @@
 pub mod FitFacts
-pub mod MarkFacts
 pub mod LetterFacts
+pub mod MarkFacts
 pub mod PartFacts
+pub mod StepFacts

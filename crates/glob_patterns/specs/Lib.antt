@@ -1,3 +1,3 @@
 pub mod Letters
 pub mod Fits
-pub mod Pattern
+pub mod Costs

@@ -1,14 +1,16 @@
 //! Patterns part by part.
 
-ghost use Rattle.std.specs.Prelude.{◌≡◌, ◌↔◌, ◌∷◌, ◌++◌, IsTrue, MatchOption, drop, false, length, true};
+ghost use Rattle.std.specs.Prelude.{◌≡◌, ◌↔◌, ◌+◌, ◌*◌, ◌/◌, ◌≤◌, ◌∷◌, ◌++◌, IfSome, IsTrue, MatchOption, drop, false, length, true};
 ghost use Rattle.std.specs.Str.{chars};
 ghost use Rattle.kms_names.specs.Glob.{Globs, star};
 ghost use Rattle.glob_patterns.specs.Fits.{HasNoStar, fits};
-ghost use Rattle.glob_patterns.specs.Letters.{letters, read_as};
+ghost use Rattle.glob_patterns.specs.Letters.{letters, read_as, units_of};
 
 use crate::cases::Case;
 use crate::fitting::{behind_first_fit, character_count, fits_at};
 use crate::units::Units;
+use kms_names::Steps;
+use std::sync::ledger::Ledger;
 
 // What stands before and behind the first `*`.
 fn at_star(pattern: &str) -> Option<(&str, &str)>
@@ -18,33 +20,42 @@ fn at_star(pattern: &str) -> Option<(&str, &str)>
 }
 
 // Whether the part of a pattern behind its last `*` stands at the end.
-fn is_end(segment: &str, units: Units<'_>, case: Case) -> bool
+fn is_end<L: Ledger>(segment: &str, units: Units<'_>, case: Case, steps: &mut Steps<L>) -> bool
     requires { HasNoStar (chars segment.now) }
-    ensures { IsTrue result ↔ Globs (star ∷ letters case segment.now) (read_as case units.entry) }
+    ensures value { IsTrue result ↔ Globs (star ∷ letters case segment.now) (read_as case units.entry) }
+    ensures cost { steps.new ≤ steps.old + length (chars segment.now) }
 {
     let count = character_count(segment);
     let len = units.len();
-    count <= len && fits_at(segment, units, case, len - count)
+    count <= len && fits_at(segment, units, case, len - count, steps)
 }
 
 // Whether a pattern without `*` matches.
-fn is_whole(segment: &str, units: Units<'_>, case: Case) -> bool
+fn is_whole<L: Ledger>(segment: &str, units: Units<'_>, case: Case, steps: &mut Steps<L>) -> bool
     requires { HasNoStar (chars segment.now) }
-    ensures { IsTrue result ↔ Globs (letters case segment.now) (read_as case units.entry) }
+    ensures value { IsTrue result ↔ Globs (letters case segment.now) (read_as case units.entry) }
+    ensures cost { steps.new ≤ steps.old + length (chars segment.now) }
 {
     let count = character_count(segment);
-    units.len() == count && fits_at(segment, units, case, 0)
+    units.len() == count && fits_at(segment, units, case, 0, steps)
 }
 
 // What is left behind a part of a pattern that fits at the front.
-fn behind_front<'a>(front: &str, units: Units<'a>, case: Case) -> Option<Units<'a>>
-    ensures { MatchOption result (fits (letters case front.now) (read_as case units.entry) ≡ false) (λ rest. (fits (letters case front.now) (read_as case units.entry) ≡ true) × (read_as case rest ≡ drop (length (letters case front.now)) (read_as case units.entry))) }
+fn behind_front<'a, L: Ledger>(
+    front: &str,
+    units: Units<'a>,
+    case: Case,
+    steps: &mut Steps<L>,
+) -> Option<Units<'a>>
+    ensures value { MatchOption result (fits (letters case front.now) (read_as case units.entry) ≡ false) (λ rest. (fits (letters case front.now) (read_as case units.entry) ≡ true) × (read_as case rest ≡ drop (length (letters case front.now)) (read_as case units.entry))) }
+    ensures shorter { IfSome result (λ rest. length (units_of rest) ≤ length (units_of units.entry)) }
+    ensures cost { steps.new ≤ steps.old + length (chars front.now) }
 {
     let count = character_count(front);
     if units.len() < count {
         return None;
     }
-    if fits_at(front, units, case, 0) {
+    if fits_at(front, units, case, 0, steps) {
         Some(units.from(count))
     } else {
         None
@@ -53,30 +64,42 @@ fn behind_front<'a>(front: &str, units: Units<'a>, case: Case) -> Option<Units<'
 
 // Whether `*` and then a pattern matches. Each part between two `*` is sought where the one before it ends: its first
 // place leaves the most to what follows.
-fn matches_behind_star(pattern: &str, units: Units<'_>, case: Case) -> bool
-    ensures { IsTrue result ↔ Globs (star ∷ letters case pattern.now) (read_as case units.entry) }
+fn matches_behind_star<L: Ledger>(
+    pattern: &str,
+    units: Units<'_>,
+    case: Case,
+    steps: &mut Steps<L>,
+) -> bool
+    ensures value { IsTrue result ↔ Globs (star ∷ letters case pattern.now) (read_as case units.entry) }
+    ensures cost { steps.new ≤ steps.old + length (chars pattern.now) * (length (units_of units.entry) / 256 + 1) }
 {
     let mut rest = pattern;
     let mut left = units;
     while let Some((segment, others)) = at_star(rest) {
-        let Some(behind) = behind_first_fit(segment, left, case) else {
+        let Some(behind) = behind_first_fit(segment, left, case, steps) else {
             return false;
         };
         left = behind;
         rest = others;
     }
-    is_end(rest, left, case)
+    is_end(rest, left, case, steps)
 }
 
 /// Whether a pattern matches.
-pub fn matches_units(pattern: &str, units: Units<'_>, case: Case) -> bool
-    ensures { IsTrue result ↔ Globs (letters case pattern.now) (read_as case units.entry) }
+pub fn matches_units<L: Ledger>(
+    pattern: &str,
+    units: Units<'_>,
+    case: Case,
+    steps: &mut Steps<L>,
+) -> bool
+    ensures value { IsTrue result ↔ Globs (letters case pattern.now) (read_as case units.entry) }
+    ensures cost { steps.new ≤ steps.old + length (chars pattern.now) * (length (units_of units.entry) / 256 + 1) }
 {
     let Some((front, rest)) = at_star(pattern) else {
-        return is_whole(pattern, units, case);
+        return is_whole(pattern, units, case, steps);
     };
-    match behind_front(front, units, case) {
-        Some(left) => matches_behind_star(rest, left, case),
+    match behind_front(front, units, case, steps) {
+        Some(left) => matches_behind_star(rest, left, case, steps),
         None => false,
     }
 }

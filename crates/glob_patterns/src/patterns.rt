@@ -1,30 +1,25 @@
 //! Patterns that are kept.
 
-ghost use Rattle.std.specs.Prelude.{◌≡◌, ◌↔◌, IfOk, IsTrue};
-ghost use Rattle.std.specs.Str.{chars};
+ghost use Rattle.std.specs.Prelude.{◌≡◌, ◌↔◌, ◌+◌, ◌≤◌, IfOk, IsTrue};
+ghost use Rattle.std.specs.Str.{chars, IsAscii};
 ghost use Rattle.kms_names.specs.Glob.{Globs};
+ghost use Rattle.glob_patterns.specs.Costs.{match_cost};
 ghost use Rattle.glob_patterns.specs.Letters.{AreLettersOf};
+ghost use Rattle.glob_patterns.specs.declared.letters.Letters.{Letters as LettersValue};
+ghost use Rattle.glob_patterns.specs.declared.letters.Letters.TheVariants as kept;
 
 use crate::letters::Letters;
 use crate::texts::{matches, matches_read};
-use kms_names::{NoMemory, Pattern as FrontPattern, Text};
+use kms_names::{NoMemory, Steps, Text};
 use std::alloc::Global;
 use std::marker::Model;
-
-// How a pattern is matched.
-#[derive(Drop)]
-enum Shape {
-    /// Without `?`, and with no `*` but one at the end: by one comparison of texts.
-    Front(FrontPattern),
-    /// Anything else, part by part.
-    Parts(Text),
-}
+use std::sync::ledger::Ledger;
 
 /// A pattern with `*` and `?`. Contracts see it as its text.
 #[derive(Drop)]
 pub struct Pattern {
     alloc: Global,
-    shape: Shape,
+    text: Text,
 }
 
 impl Model for Pattern {
@@ -32,15 +27,7 @@ impl Model for Pattern {
 
     ghost Value = { List ℕ };
 
-    ghost use Rattle.glob_patterns.specs.Pattern.{pattern_text};
-
-    ghost view = { λ p. pattern_text p.shape };
-}
-
-// Whether neither `*` nor `?` stands in a text but a `*` at its end.
-fn is_front(text: &str) -> bool {
-    let front = text.strip_suffix('*').unwrap_or(text);
-    !front.bytes().any(|byte| byte == b'*' || byte == b'?')
+    ghost view = { λ p. p.text };
 }
 
 impl Pattern {
@@ -48,44 +35,33 @@ impl Pattern {
     pub fn new(alloc: Global, text: &str) -> Result<Pattern, NoMemory>
         ensures { IfOk result (λ pattern. pattern ≡ text.now) }
     {
-        let shape = if is_front(text) {
-            Shape::Front(FrontPattern::new(alloc, text)?)
-        } else {
-            Shape::Parts(Text::from_str(alloc, text)?)
-        };
-        Ok(Pattern { alloc, shape })
+        let text = Text::from_str(alloc, text)?;
+        Ok(Pattern { alloc, text })
     }
 
-    /// Whether it matches a text, exactly as `matches` does.
-    pub fn matches(&self, text: &str) -> bool
-        ensures { IsTrue result ↔ Globs (chars self.now) (chars text.now) }
+    /// Whether it matches a text, exactly as `matches` does, in as many steps and with as much memory.
+    pub fn matches<L: Ledger>(&self, text: &str, steps: &mut Steps<L>) -> bool
+        ensures value { IsTrue result ↔ Globs (chars self.now) (chars text.now) }
+        ensures cost { (read : LettersValue) × AreLettersOf text.now read × (IsAscii text.now → read ≡ kept.Ascii) × (steps.new ≤ steps.old + match_cost self.now text.now read) }
     {
-        match &self.shape {
-            Shape::Front(pattern) => pattern.matches(text),
-            Shape::Parts(pattern) => matches(self.alloc, pattern.as_str(), text),
-        }
+        matches(self.alloc, self.text.as_str(), text, steps)
     }
 
-    /// As `matches`, for a text whose characters were read.
-    pub fn matches_read(&self, text: &str, read: &Letters) -> bool
+    /// As `matches`, for a text whose characters were read. No memory is taken.
+    pub fn matches_read<L: Ledger>(&self, text: &str, read: &Letters, steps: &mut Steps<L>) -> bool
         requires { AreLettersOf text.now read.now }
-        ensures { IsTrue result ↔ Globs (chars self.now) (chars text.now) }
+        ensures value { IsTrue result ↔ Globs (chars self.now) (chars text.now) }
+        ensures cost { steps.new ≤ steps.old + match_cost self.now text.now read.now }
     {
-        match &self.shape {
-            Shape::Front(pattern) => pattern.matches(text),
-            Shape::Parts(pattern) => matches_read(pattern.as_str(), text, read),
-        }
+        matches_read(self.text.as_str(), text, read, steps)
     }
 
     /// A copy that equals its source.
     pub fn copy(&self) -> Result<Pattern, NoMemory>
         ensures { IfOk result (λ pattern. pattern ≡ self.now) }
     {
-        let shape = match &self.shape {
-            Shape::Front(pattern) => Shape::Front(pattern.copy()?),
-            Shape::Parts(text) => Shape::Parts(text.copy()?),
-        };
+        let text = self.text.copy()?;
         let alloc = self.alloc;
-        Ok(Pattern { alloc, shape })
+        Ok(Pattern { alloc, text })
     }
 }

@@ -7,6 +7,7 @@ ghost use Rattle.kms_names.specs.declared.principals.Principal.{Principal as Pri
 ghost use Rattle.persist_map.specs.Groups.{group_of, group_with};
 ghost use Rattle.grant_table.specs.Tables.{groups_at, grantee_group, grantee_group_with, grantee_group_without};
 
+use crate::counted::value_in;
 use crate::rows::GrantRow;
 use kms_names::{KeyId, NoMemory, Principal};
 use persist_map::{PFrom, PGroups, PMap, Shared};
@@ -45,7 +46,7 @@ impl Grantees {
     ) -> Option<PFrom<'_, u64, Shared<GrantRow>>>
         ensures { unwrap_or result [] ≡ grantee_group ⟦<Principal as Ord>⟧.cmp self.now key.now grantee.now }
     {
-        Some(self.keys.look_up(key)?.group(grantee))
+        Some(value_in(&self.keys, key)?.group(grantee))
     }
 
     // The groups of a row's key with the row.
@@ -59,7 +60,7 @@ impl Grantees {
         let key = row.value().key;
         let born = row.value().born;
         let grantee = row.value().grantee.copy()?;
-        match self.keys.look_up(&key) {
+        match value_in(&self.keys, &key) {
             Some(groups) => groups.insert(grantee, born, row),
             None => PGroups::new(alloc).insert(grantee, born, row),
         }
@@ -80,7 +81,7 @@ impl Grantees {
     fn without_row(&self, row: &GrantRow) -> Result<Grantees, NoMemory>
         ensures { IfOk result (λ grantees. (key : List ℕ) (grantee : PrincipalValue) → grantee_group ⟦<Principal as Ord>⟧.cmp grantees key grantee ≡ grantee_group_without ⟦<Principal as Ord>⟧.cmp self.now row.now key grantee) }
     {
-        let Some(groups) = self.keys.look_up(&row.key) else {
+        let Some(groups) = value_in(&self.keys, &row.key) else {
             return self.share();
         };
         let groups = groups.remove(row.grantee.copy()?, row.born)?;

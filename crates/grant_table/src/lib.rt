@@ -2,6 +2,7 @@
 #![tactic(auto)]
 
 mod constraints;
+mod counted;
 mod grantees;
 mod principals;
 mod rows;

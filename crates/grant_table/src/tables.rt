@@ -7,6 +7,7 @@ ghost use Rattle.persist_map.specs.Groups.{group_of, group_with, group_without};
 ghost use Rattle.grant_table.specs.Tables.{is_of_grantee, rows_of};
 
 use crate::constraints::Constraint;
+use crate::counted::value_in;
 use crate::grantees::Grantees;
 use crate::principals::copy_of_principal;
 use crate::rows::GrantRow;
@@ -116,7 +117,7 @@ impl GrantTable {
     pub fn get(&self, grant: &GrantId) -> Option<&GrantRow>
         ensures { option_map (λ row. row.now) result ≡ grant_with self.now grant.now }
     {
-        Some(self.by_id.look_up(grant)?.value())
+        Some(value_in(&self.by_id, grant)?.value())
     }
 
     // The grants of a key that have a grantee, by place; None where the key has no grants.

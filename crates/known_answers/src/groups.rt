@@ -1,7 +1,7 @@
 //! Values in groups, and values that are shared.
 
 use crate::cases::Case;
-use crate::maps::{Digest, Order, put_digest, read_order, value_of};
+use crate::maps::{Digest, Order, counted, put_digest, read_order, value_of};
 use kms_names::{NoMemory, Text};
 use persist_map::{PFrom, PGroups, PMap, Shared};
 use std::alloc::Global;
@@ -177,7 +177,7 @@ fn holders_from(
 
 /// Writes the text of a key, or that it isn't there.
 fn put_held(case: &mut Case<'_>, map: &PMap<u64, Shared<Text>>, key: u64) {
-    match map.look_up(&key) {
+    match counted(map, &key) {
         Some(value) => case.put_text(" ", value.value().as_str()),
         None => case.put("-"),
     }

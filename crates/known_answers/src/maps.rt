@@ -115,27 +115,29 @@ pub fn put_digest(case: &mut Case<'_>, mark: &str, digest: Digest) {
     case.put_number(digest.sum);
 }
 
-fn counted_from<L: Ledger>(map: &PMap<u64, u64>, key: &u64, blank: Blank) -> Option<u64>
+fn counted_from<'a, V: Drop, L: Ledger>(
+    map: &'a PMap<u64, V>,
+    key: &u64,
+    blank: Blank,
+) -> Option<&'a V>
     requires name { blank.name ≡ L.name }
     requires parts { blank.parts ≡ L.parts }
     requires some { 0 < blank.parts }
 {
     let (book, share) = blank.open::<L>();
-    map.get(key, &mut Steps::new(book, share)).copied()
+    map.get(key, &mut Steps::new(book, share))
 }
 
 /// The value of a key, with its comparisons counted.
-fn counted(map: &PMap<u64, u64>, key: &u64) -> Option<u64> {
-    counted_from::<Brand>(map, key, Blank::new(1))
+pub fn counted<'a, V: Drop>(map: &'a PMap<u64, V>, key: &u64) -> Option<&'a V> {
+    counted_from::<V, Brand>(map, key, Blank::new(1))
 }
 
 /// What a map answers of a key: the pairs from it on, and its value.
 fn put_key(case: &mut Case<'_>, map: &PMap<u64, u64>, key: u64) {
     put_digest(case, "; ", digest_of(map.from(&key)));
-    let value = counted(map, &key);
-    case.require(value == map.look_up(&key).copied());
-    match value {
-        Some(value) => case.put_number(value),
+    match counted(map, &key) {
+        Some(value) => case.put_number(*value),
         None => case.put("-"),
     }
 }
@@ -205,7 +207,7 @@ fn grown(
     group: u64,
     key: u64,
 ) -> Result<PMap<u64, PMap<u64, u64>>, NoMemory> {
-    let inner = match map.look_up(&group) {
+    let inner = match counted(map, &group) {
         Some(inner) => inner.insert(key, value_of(key))?,
         None => PMap::new(alloc).insert(key, value_of(key))?,
     };

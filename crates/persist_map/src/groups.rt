@@ -1,15 +1,17 @@
 //! Values in groups.
 
-ghost use Rattle.std.specs.Prelude.{◌≡◌, [], length, IfOk};
+ghost use Rattle.std.specs.Prelude.{◌≡◌, ◌<◌, [], length, IfOk};
+ghost use Rattle.std.specs.Option.{option_map};
 ghost use Rattle.std.specs.Ordering.{nat_cmp};
-ghost use Rattle.persist_map.specs.Pairs.{Ascends};
+ghost use Rattle.persist_map.specs.Pairs.{Ascends, value_at};
 ghost use Rattle.persist_map.specs.Groups.{group_of, group_with, group_without, pairs_behind};
 
 use crate::iterators::PFrom;
 use crate::maps::PMap;
-use kms_names::NoMemory;
+use kms_names::{NoMemory, Steps};
 use std::alloc::Global;
-use std::marker::Model;
+use std::marker::{Brand, Model};
+use std::sync::ledger::{Blank, Ledger};
 
 /// Values in groups: each has the key of its group and a place in it. Contracts see it as the list of its groups, each a
 /// key and the pairs of a place and a value, and read it by `group_of`. No group is empty: one whose last value is taken
@@ -30,6 +32,31 @@ impl<K: Ord, V> Model for PGroups<K, V> {
     ghost invariant = { λ g. HaveSome g.groups };
 }
 
+// The group of a key, whose comparisons are counted from 0.
+fn group_from<'a, K: Ord + Drop, V: Drop, L: Ledger>(
+    groups: &'a PMap<K, PMap<u64, V>>,
+    key: &K,
+    blank: Blank,
+) -> Option<&'a PMap<u64, V>>
+    requires name { blank.name ≡ L.name }
+    requires parts { blank.parts ≡ L.parts }
+    requires some { 0 < blank.parts }
+    ensures { option_map (λ group. group.now) result ≡ value_at K.cmp groups.now key.now }
+{
+    let (book, share) = blank.open::<L>();
+    groups.get(key, &mut Steps::new(book, share))
+}
+
+// The group of a key.
+fn group_in<'a, K: Ord + Drop, V: Drop>(
+    groups: &'a PMap<K, PMap<u64, V>>,
+    key: &K,
+) -> Option<&'a PMap<u64, V>>
+    ensures { option_map (λ group. group.now) result ≡ value_at K.cmp groups.now key.now }
+{
+    group_from::<K, V, Brand>(groups, key, Blank::new(1))
+}
+
 impl<K: Ord + Drop, V: Drop> PGroups<K, V> {
     /// No groups. What is made of it keeps the allocator. No memory is taken.
     pub fn new(alloc: Global) -> PGroups<K, V>
@@ -45,7 +72,7 @@ impl<K: Ord + Drop, V: Drop> PGroups<K, V> {
         ensures pairs { result ≡ group_of K.cmp self.now key.now }
         ensures ascends { Ascends nat_cmp result }
     {
-        let Some(group) = self.groups.look_up(key) else {
+        let Some(group) = group_in(&self.groups, key) else {
             return PFrom::none();
         };
         group.iter()
@@ -56,7 +83,7 @@ impl<K: Ord + Drop, V: Drop> PGroups<K, V> {
         ensures pairs { result ≡ pairs_behind (group_of K.cmp self.now key.now) after }
         ensures ascends { Ascends nat_cmp result }
     {
-        let Some(group) = self.groups.look_up(key) else {
+        let Some(group) = group_in(&self.groups, key) else {
             return PFrom::none();
         };
         group.behind(after)
@@ -66,7 +93,7 @@ impl<K: Ord + Drop, V: Drop> PGroups<K, V> {
     pub fn group_len(&self, key: &K) -> usize
         ensures { result ≡ length (group_of K.cmp self.now key.now) }
     {
-        match self.groups.look_up(key) {
+        match group_in(&self.groups, key) {
             Some(group) => group.len(),
             None => 0,
         }
@@ -76,7 +103,7 @@ impl<K: Ord + Drop, V: Drop> PGroups<K, V> {
     pub fn insert(&self, key: K, place: u64, value: V) -> Result<PGroups<K, V>, NoMemory>
         ensures { IfOk result (λ groups. (other : K) → group_of K.cmp groups other ≡ group_with K.cmp self.now key place value other) }
     {
-        let group = match self.groups.look_up(&key) {
+        let group = match group_in(&self.groups, &key) {
             Some(group) => group.insert(place, value)?,
             None => PMap::new(self.groups.allocator()).insert(place, value)?,
         };
@@ -90,7 +117,7 @@ impl<K: Ord + Drop, V: Drop> PGroups<K, V> {
     pub fn remove(&self, key: K, place: u64) -> Result<PGroups<K, V>, NoMemory>
         ensures { IfOk result (λ groups. (other : K) → group_of K.cmp groups other ≡ group_without K.cmp self.now key place other) }
     {
-        let Some(group) = self.groups.look_up(&key) else {
+        let Some(group) = group_in(&self.groups, &key) else {
             return self.share();
         };
         let group = group.remove(&place)?;

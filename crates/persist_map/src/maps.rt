@@ -189,15 +189,6 @@ impl<K: Ord + Drop, V: Drop> PMap<K, V> {
         parts[place.part].value_at(place.pair, key)
     }
 
-    /// As `get`, with no count.
-    pub fn look_up(&self, key: &K) -> Option<&V>
-        ensures { option_map (λ value. value.now) result ≡ value_at K.cmp self.now key.now }
-    {
-        let parts = self.parts.as_slice();
-        let place = place_in(parts, key)?;
-        parts[place.part].value_at(place.pair, key)
-    }
-
     /// How many pairs there are with one more, which may replace one.
     fn len_with(&self, replaces: bool) -> Result<usize, NoMemory>
         ensures { IfOk result (λ len. len ≡ (if replaces then length self.now else length self.now + 1)) }

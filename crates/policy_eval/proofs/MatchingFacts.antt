@@ -3,7 +3,7 @@ use Rattle.std.proofs.Common.{◌≡◌, ◌≢◌, inl, inr, ℕ, Bool, true, f
 use Rattle.std.specs.Prelude.{◌↔◌, IsTrue, Any}
 use Rattle.std.proofs.lemmas.Bool.{eqb-true}
 use Rattle.std.proofs.lemmas.List.{get_or_default}
-use Rattle.kms_names.proofs.Decisions.{any_of, any_there}
+use Rattle.kms_names.proofs.Decisions.{any_here, any_of, any_there}
 use Rattle.policy_eval.specs.Matching.{ElementMatches}
 
 module _ (P : List ℕ → Type 0) (texts : List (List ℕ)) where
@@ -37,3 +37,7 @@ none_first P all left rest x is not says = (
   λ any. elim (any_of P x rest (subst (Any P) is (says.0 any))) [ inl h ↦ absurd (not h) | inr later ↦ later ],
   λ later. says.1 (subst (Any P) (sym is) (any_there P x rest later)),
 )
+
+-- the first of those that are left does
+pub some_first : {X : Type 0} (P : X → Type 0) (all left rest : List X) (x : X) → left ≡ x ∷ rest → P x → Any P all ↔ Any P left → IsTrue true ↔ Any P all
+some_first P all left rest x is so says = (λ _. says.1 (subst (Any P) (sym is) (any_here P x rest so)), λ _. refl)

@@ -8,10 +8,11 @@ ghost use Rattle.resource_tags.specs.Tags.{by_bytes, with_tags, without_tags, ta
 ghost use Rattle.resource_tags.specs.declared.maps.TagFault.TheVariants.{TooMany, NoMemory as OutOfMemory};
 
 use crate::tags::Tag;
-use kms_names::{NoMemory, Text};
+use kms_names::{NoMemory, Steps, Text};
 use persist_map::{PFrom, PMap};
 use std::alloc::Global;
-use std::marker::Model;
+use std::marker::{Brand, Model};
+use std::sync::ledger::{Blank, Ledger};
 
 /// The most tags that a resource has (AWS KMS Developer Guide, "Tags in AWS KMS").
 pub const MOST_TAGS: usize = 50;
@@ -38,6 +39,21 @@ fn is_above(text: &Text, bytes: &[u8]) -> bool
     ensures { result ≡ is_gt (by_bytes text.now bytes.now) }
 {
     text.as_str().as_bytes().cmp(bytes).is_gt()
+}
+
+// The value of a key, whose comparisons are counted from 0.
+fn value_from<'a, L: Ledger>(
+    tags: &'a PMap<Text, Text>,
+    key: &Text,
+    blank: Blank,
+) -> Option<&'a Text>
+    requires name { blank.name ≡ L.name }
+    requires parts { blank.parts ≡ L.parts }
+    requires some { 0 < blank.parts }
+    ensures { option_map (λ value. value.now) result ≡ value_at by_bytes tags.now key.now }
+{
+    let (book, share) = blank.open::<L>();
+    tags.get(key, &mut Steps::new(book, share))
 }
 
 /// The tags of a resource, at most 50. Contracts see them as the list of their keys and values, in ascending byte order of
@@ -132,7 +148,7 @@ impl TagMap {
     pub fn get(&self, key: &Text) -> Option<&Text>
         ensures { option_map (λ value. value.now) result ≡ value_at by_bytes self.now key.now }
     {
-        self.tags.look_up(key)
+        value_from::<Brand>(&self.tags, key, Blank::new(1))
     }
 
     /// The first tag whose key is above this one in byte order. It takes no memory.

@@ -104,9 +104,17 @@ impl KeptKey {
         }
     }
 
-    /// The HMAC, of no parts so far, under the signing key of a secret for the service in a region
-    /// on a day. The key is made only where it isn't the one that is held, and is then held in its
-    /// place; where memory is wanting for that, none is held.
+    /// An HMAC of no parts so far under the signing key of a secret access key for the key service
+    /// (`kms`) in a region on a day, which is eight digits. What the message is, the caller adds.
+    ///
+    /// Where that key is the one that is held, the call compares the three with those that are
+    /// held and copies the HMAC: no memory is taken. Else it makes the key by four HMACs with
+    /// SHA-256, each of one of these texts, and holds it in the place of the one before. That takes
+    /// memory for `AWS4` and the secret until the key is made, and for copies of the secret, the day
+    /// and the region, which are held with 64 bytes of state for the HMAC.
+    ///
+    /// `NoMemory` comes only where the key isn't held and there is no memory to make it: what was
+    /// held stays. Where memory is wanting only for the copies, the HMAC comes and no key is held.
     pub fn mac_under(
         &mut self,
         alloc: Global,

@@ -6,7 +6,7 @@ use Rattle.glob_patterns.proofs.MarkFacts.{fits_behind}
 use Rattle.glob_patterns.proofs.fitting.fits_at.Goals as goal
 
 pub loop-wanted-preserved : goal.loop-wanted-preserved
-loop-wanted-preserved c =
+loop-wanted-preserved g c =
     let case = c.args.case in
     let whole = letters case c.loop-wanted.rest.now in
     let left = letters case c.in-Some.others.now in
@@ -15,6 +15,7 @@ loop-wanted-preserved c =
     record {
       utf8 = search rules;
       room = omega (arith, one);
+      cost = omega (arith, one);
       as_good = c.loop-wanted.invariant.as_good
           ∙ fits_behind c.in-Some.wanted c.letter_at-letter.result whole left (read_as case c.args.units) c.loop-wanted.place c.in-Some.ensures.0 within c.letter_at-letter.ensures (sym c.takes_letter.ensures ∙ c.if-not-takes_letter.false);
     }

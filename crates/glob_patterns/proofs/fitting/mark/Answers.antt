@@ -8,7 +8,7 @@ use Rattle.glob_patterns.proofs.fitting.mark.Goals as goal
 use Rattle.glob_patterns.proofs.fitting.mark.Goals.{then-wanted-ne63, else-wanted-ne63}
 
 pub loop-wanted-preserved : goal.loop-wanted-preserved
-loop-wanted-preserved c =
+loop-wanted-preserved g c =
     let wanted = c.in-Some.wanted in
     let left = letters c.args.case c.in-Some.others.now in
     let text = read_as c.args.case c.args.units in
@@ -27,4 +27,5 @@ loop-wanted-preserved c =
       utf8 = search rules;
       room = omega (arith, one, same);
       marks = marks_one _ text wanted left place flags narrowed same room clears (rw c.in-Some.ensures.0 at c.loop-wanted.invariant.marks);
+      cost = omega (arith, one);
     }

@@ -6,16 +6,16 @@ use Rattle.glob_patterns.proofs.LetterFacts.{letters_long, read_long, no_star}
 use Rattle.glob_patterns.proofs.PartFacts.{end_room, end_none}
 use Rattle.glob_patterns.proofs.matching.is_end.Goals as goal
 
-pub returns-then-count-len : goal.returns-then-count-len
-returns-then-count-len c =
+pub returns-then-count-len-clause-value : goal.returns-then-count-len-clause-value
+returns-then-count-len-clause-value g c =
     end_room (letters c.args.case c.args.segment.now) (read_as c.args.case c.args.units) (no_star c.args.case c.args.segment.now c.requires)
     c.character_count-count.result c.len-len.result
     (c.character_count-count.ensures ∙ sym (letters_long c.args.case c.args.segment.now))
     (c.len-len.ensures.value ∙ sym (read_long c.args.case c.args.units))
-    c.if-count-len.true c.fits_at.result c.fits_at.ensures
+    c.if-count-len.true c.fits_at.result c.fits_at.ensures.value
 
-pub returns-else-count-len : goal.returns-else-count-len
-returns-else-count-len c =
+pub returns-else-count-len-clause-value : goal.returns-else-count-len-clause-value
+returns-else-count-len-clause-value g c =
     end_none (letters c.args.case c.args.segment.now) (read_as c.args.case c.args.units) (no_star c.args.case c.args.segment.now c.requires)
     c.character_count-count.result c.len-len.result
     (c.character_count-count.ensures ∙ sym (letters_long c.args.case c.args.segment.now))

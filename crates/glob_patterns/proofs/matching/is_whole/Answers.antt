@@ -6,16 +6,16 @@ use Rattle.glob_patterns.proofs.LetterFacts.{letters_long, read_long, no_star}
 use Rattle.glob_patterns.proofs.PartFacts.{whole_room, whole_none}
 use Rattle.glob_patterns.proofs.matching.is_whole.Goals as goal
 
-pub returns-then-len-count : goal.returns-then-len-count
-returns-then-len-count c =
+pub returns-then-len-count-clause-value : goal.returns-then-len-count-clause-value
+returns-then-len-count-clause-value g c =
     whole_room (letters c.args.case c.args.segment.now) (read_as c.args.case c.args.units) (no_star c.args.case c.args.segment.now c.requires)
     c.character_count-count.result c.len.result
     (c.character_count-count.ensures ∙ sym (letters_long c.args.case c.args.segment.now))
     (c.len.ensures.value ∙ sym (read_long c.args.case c.args.units))
-    c.if-len-count.true c.fits_at.result c.fits_at.ensures
+    c.if-len-count.true c.fits_at.result c.fits_at.ensures.value
 
-pub returns-else-len-count : goal.returns-else-len-count
-returns-else-len-count c =
+pub returns-else-len-count-clause-value : goal.returns-else-len-count-clause-value
+returns-else-len-count-clause-value g c =
     whole_none (letters c.args.case c.args.segment.now) (read_as c.args.case c.args.units) (no_star c.args.case c.args.segment.now c.requires)
     c.character_count-count.result c.len.result
     (c.character_count-count.ensures ∙ sym (letters_long c.args.case c.args.segment.now))

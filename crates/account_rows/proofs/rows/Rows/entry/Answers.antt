@@ -5,4 +5,4 @@ use Rattle.account_rows.proofs.EntryFacts.{entry_at}
 use Rattle.account_rows.proofs.rows.Rows.entry.Goals as goal
 
 pub returns : goal.returns
-returns c = c.look_up.ensures ∙ entry_at c.self.inside.entries c.self.invariant.counted c.args.place ∙ ap (λ (history : List Entry). slice_get history c.args.place) c.self.view_is
+returns c = c.value_in.ensures ∙ entry_at c.self.inside.entries c.self.invariant.counted c.args.place ∙ ap (λ (history : List Entry). slice_get history c.args.place) c.self.view_is

@@ -1,4 +1,0 @@
-use Rattle.glob_patterns.proofs.plain.plain_matches.Given as goal
-
-abbrev pub ghosts-plain_from : goal.ghosts-plain_from
-ghosts-plain_from a = record { name = a.blank.name; parts = a.blank.parts }

@@ -1,0 +1,4 @@
+use Rattle.resource_tags.proofs.maps.TagMap.get.Given as goal
+
+abbrev pub ghosts-value_from : goal.ghosts-value_from
+ghosts-value_from a = record { name = a.blank.name; parts = a.blank.parts }
