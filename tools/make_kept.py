@@ -290,4 +290,5 @@ def main():
         out.write(f"cases.txt: {count} cases, {count} answered as wanted\n")
 
 
-main()
+if __name__ == "__main__":
+    main()

@@ -1,4 +1,5 @@
 // Why a case can't be tried.
+use kms_names::NoMemory;
 use std::alloc::{AllocError, AllocFailed};
 use std::io;
 
@@ -10,6 +11,12 @@ pub enum Failure {
     Unfit,
     /// A file couldn't be read, or a line couldn't be written.
     Workshop(io::ErrorKind),
+}
+
+impl From<NoMemory> for Failure {
+    fn from(_e: NoMemory) -> Failure {
+        Failure::NoMemory
+    }
 }
 
 impl From<AllocError> for Failure {

@@ -1,5 +1,7 @@
 mod Adding
 mod Chain
+mod Following
+mod Histories
 mod Opening
 mod Printable
 mod Readings

@@ -19,7 +19,7 @@ front_same [] (y ∷ b) s t e size = absurd (omega (arith, ap length e, size, le
 front_same (x ∷ a) [] s t e size = absurd (omega (arith, ap length e, size, length-append a s))
 front_same (x ∷ a) (y ∷ b) s t e size = let parts : (x ≡ y) × (a ++ s ≡ b ++ t) = (cc, cc) in ap₂ (λ (z : ℕ) (l : List ℕ). z ∷ l) parts.0 (front_same a b s t parts.1 size)
 
-hex_length : (seal : List ℕ) → length (encode_lower seal) ≡ length seal + length seal
+pub hex_length : (seal : List ℕ) → length (encode_lower seal) ≡ length seal + length seal
 unfolding encode_with
 hex_length [] = refl
 hex_length (b ∷ seal) = omega (arith, hex_length seal)

@@ -1,8 +1,8 @@
 -- What the whole lines of a file tell.
-use Rattle.std.proofs.Common.{◌≡◌, ◌≢◌, inl, inr, ℕ, ◌<◌, ◌≤◌, true, false, Some, All, List, [], ◌∷◌, ◌++◌, length, drop, replicate, refl, sym, ◌∙◌, ap, ap₂, subst, arith, append_assoc, length-append}
+use Rattle.std.proofs.Common.{◌≡◌, ◌≢◌, inl, inr, ℕ, ◌<◌, ◌≤◌, true, false, Some, All, List, [], ◌∷◌, ◌++◌, length, drop, replicate, refl, sym, ◌∙◌, ap, ap₂, subst, arith, append_assoc, length-append, Bool, ◌+◌, ne_eqb}
 use Rattle.std.specs.Char.{is_ascii_digit}
 use Rattle.std.specs.List.{AllPass}
-use Rattle.std.specs.Prelude.{Result, Ok, Err, IfErr}
+use Rattle.std.specs.Prelude.{Result, Ok, Err, IfErr, ◌==◌, if◌then◌else◌}
 use Rattle.std.proofs.lemmas.List.{append-nil}
 use Rattle.std.proofs.lemmas.List.Elements.{All-nil, All-cons, All-head, All-tail, All-append}
 use Rattle.std.proofs.lemmas.Bool.{cases_eq}
@@ -84,6 +84,30 @@ lines_same (x ∷ a) (y ∷ b) p q e =
 no_bodies : (bodies : List (List ℕ)) → length (lines bodies) ≡ 0 → bodies ≡ []
 no_bodies [] e = refl
 no_bodies (b ∷ bodies) e = absurd (omega (arith, e, length-append (line b) (lines bodies)))
+
+-- ---- how many lines there are
+
+abbrev pub feed_count : List ℕ → ℕ
+feed_count [] = 0
+feed_count (byte ∷ text) = (if byte == 10 then 1 else 0) + feed_count text
+
+feed_in : (body rest : List ℕ) → IsPlain body → feed_count (body ++ 10 ∷ rest) ≡ 1 + feed_count rest
+feed_in [] rest plain = refl
+feed_in (byte ∷ body) rest plain =
+    let sum : 0 + feed_count (body ++ 10 ∷ rest) ≡ 1 + feed_count rest = omega (arith, feed_in body rest (All-tail Plain byte body plain)) in
+    ap (λ (b : Bool). (if b then 1 else 0) + feed_count (body ++ 10 ∷ rest)) (ne_eqb byte 10 (All-head Plain byte body plain).0) ∙ sum
+
+feeds_are : (bodies : List (List ℕ)) → All IsPlain bodies → feed_count (lines bodies) ≡ length bodies
+feeds_are [] plain = refl
+feeds_are (body ∷ bodies) plain =
+    let first : feed_count (lines (body ∷ bodies)) ≡ 0 + feed_count (body ++ 10 ∷ lines bodies) = ap (λ (l : List ℕ). feed_count (123 ∷ l)) (append_assoc body (10 ∷ []) (lines bodies)) in
+    let feed = feed_in body (lines bodies) (All-head IsPlain body bodies plain) in
+    let rest = feeds_are bodies (All-tail IsPlain body bodies plain) in
+    let sum : 0 + feed_count (body ++ 10 ∷ lines bodies) ≡ length (body ∷ bodies) = omega (arith, feed, rest) in
+    first ∙ sum
+
+pub lines_counted : (bytes : List ℕ) → feed_count (lines (recovered bytes)) ≡ length (recovered bytes)
+lines_counted bytes = feeds_are (recovered bytes) (plain_outside bytes)
 
 -- ---- and so are those of a journal
 

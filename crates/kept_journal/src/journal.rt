@@ -5,6 +5,8 @@ ghost use Rattle.kept_log.specs.Log.{IsPlain, recovered, lines, IsBeforeOrAfter}
 ghost use Rattle.kept_log.specs.declared.log.KeepFault.TheVariants.{NoMemory as OutOfMemory, Full, Failed as Broke, Shut};
 ghost use Rattle.kept_journal.specs.Lines.{Head, Recovers, text_of, key_of, seal_of, sealed, head_text, records_of, last_seal};
 ghost use Rattle.kept_journal.specs.Reading.{IsReading, head_of, opening};
+ghost use Rattle.kept_journal.specs.Keeping.{IsKeptJournal};
+ghost use Rattle.kept_journal.specs.Starts.{entries_of};
 ghost use Rattle.kept_journal.specs.Tells.{Tells, Begins, record_of};
 ghost use Rattle.kept_journal.specs.declared.told.Told.{Told as ToldValue};
 ghost use Rattle.kept_journal.specs.declared.told.Told.TheVariants.{Start, Change};
@@ -128,6 +130,10 @@ pub fn open_kept<D: Device>(
         → IfOk result (λ journal. IsTrue journal.log.is_open × Tells journal (head_of read.now.account.facts) (told ++ Start read.now.account.facts.boot ∷ [])) }
     ensures durable { IfOk result (λ journal. Only (D.seen journal.log.device) (D.may_leave journal.log.device)) }
 
+    // From now on the entries that were read are kept, and a crash leaves nothing else.
+    ensures keeps { (told : List ToldValue) → IsReading read.now.account.facts bytes.now told read.now
+        → IfOk result (λ journal. IsKeptJournal read.now.account.facts (D.moment journal.log.device) (length (entries_of told)) journal (entries_of told)) }
+
     // A crash at any moment leaves the lines from before, with the start or without it.
     ensures any_moment { (told : List ToldValue) → IsReading read.now.account.facts bytes.now told read.now → MatchResult result
         (λ journal. Begins D.moment D.left_since device journal.log.device (recovered bytes.now) (head_of read.now.account.facts) (told ++ Start read.now.account.facts.boot ∷ []))
@@ -158,7 +164,7 @@ impl<D: Device> KeptJournal<D> {
     /// is recovered with it. At `Failed` the journal is shut, and a crash leaves the lines from before,
     /// with this one or without it. At each other error the journal is as it was. `Full` comes where the
     /// file would have more than 2^31 bytes.
-    pub fn keep(&mut self, alloc: Global, entry: &Entry) -> Result<(), KeepFault>
+    pub fn keep_change(&mut self, alloc: Global, entry: &Entry) -> Result<(), KeepFault>
         ensures kept { OnOk result (IsTrue self.old.log.is_open × IsTrue self.new.log.is_open
             × ((head : Head) (told : List ToldValue) → Tells self.old head told → Tells self.new head (told ++ Change entry.now ∷ []))) }
         ensures durable { OnOk result (Only (D.seen self.new.log.device) (D.may_leave self.new.log.device)) }
@@ -182,7 +188,7 @@ impl<D: Device> KeptJournal<D> {
     }
 
     /// Nothing more is kept. The device is as it was.
-    pub fn shut(&mut self)
+    pub fn close(&mut self)
         ensures shut { IsFalse self.new.log.is_open }
         ensures device { self.new.log.device ≡ self.old.log.device }
         ensures tells { (head : Head) (told : List ToldValue) → Tells self.old head told → Tells self.new head told }

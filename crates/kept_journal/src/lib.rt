@@ -4,8 +4,10 @@
 
 mod faults;
 mod journal;
+mod keeping;
 mod laws;
 mod lines;
+mod lost;
 mod reading;
 mod starts;
 mod told;

@@ -1,16 +1,18 @@
 // A kept journal, read.
-ghost use Rattle.std.specs.Prelude.{◌≡◌, ◌≢◌, ◌⊎◌, ◌++◌, ◌<◌, ◌-◌, ◌+◌, ◌^◌, ◌∷◌, [], ℕ, List, length, take, drop, IsTrue, ◌↔◌, IfOk, IfErr, MatchOption, option_map};
+ghost use Rattle.std.specs.Prelude.{◌≡◌, ◌≢◌, ◌⊎◌, ◌++◌, ◌<◌, ◌-◌, ◌+◌, ◌^◌, ◌∷◌, [], ℕ, List, length, take, drop, IsTrue, ◌↔◌, IfOk, IfErr, OnOk, MatchOption, option_map};
 ghost use Rattle.journal_lines.specs.Cuts.{number_of};
 ghost use Rattle.journal_lines.specs.Frames.{behind};
 ghost use Rattle.kept_log.specs.Log.{line, lines, recovered};
 ghost use Rattle.kept_journal.specs.Lines.{key_of, last_seal, seal_of, text_of, sealed, head_text, first_seal};
 ghost use Rattle.kept_journal.specs.Reading.{IsReadBack, IsReading, IsReadOf, IsFault, IsSoFar, IsOddLine, IsOneMore, FitsBehind, head_of, line_of, start_in, text_at, IsRoom, behind_lines};
+ghost use Rattle.kept_journal.specs.Lost.{HasLost, IsFileFault};
 ghost use Rattle.kept_journal.specs.declared.told.Told.{Told as ToldValue};
 ghost use Rattle.kept_journal.specs.declared.told.Told.TheVariants.{Start, Change};
 ghost use Rattle.kept_journal.specs.declared.faults.KeptFault.TheVariants.{NoMemory as OutOfMemory};
 
 use crate::faults::KeptFault;
 use crate::lines::{head_text, key_of, seal_of, sealed_text};
+use crate::lost::{count_lines, has_lost};
 use crate::told::Told;
 use account_core::{Account, FitFault};
 use account_steps::RealmFacts;
@@ -93,7 +95,7 @@ fn line_with(alloc: Global, text: &[u8], seal: &[u8; 32]) -> Result<Vec<u8>, NoM
 }
 
 // The text of a line that has the right seal behind one of this seal, and that seal.
-fn sealed_in<'a>(
+pub(crate) fn sealed_in<'a>(
     alloc: Global,
     key: &[u8; 32],
     last: &[u8; 32],
@@ -191,14 +193,8 @@ impl Read {
     }
 }
 
-/// What the whole lines of a file of these bytes tell, as a kept journal of these facts.
-///
-/// It is read where the file has no whole line, or its lines are what a journal under these facts'
-/// account, region and root secret tells, sealed throughout, whose starts rise and whose changes fit.
-/// Else `At` tells the first line, counted from 1, that hasn't its form or its seal, or doesn't fit.
-/// `OldBoot` comes where all is right but the boot number of the facts isn't above the last start.
-/// Want of memory may replace each answer.
-pub fn read_kept(alloc: Global, facts: RealmFacts, bytes: &[u8]) -> Result<Read, KeptFault>
+// What the whole lines of a file of these bytes tell, as a kept journal of these facts.
+fn read_lines(alloc: Global, facts: RealmFacts, bytes: &[u8]) -> Result<Read, KeptFault>
     ensures ok { IfOk result (λ read. (told : List ToldValue) × IsReading facts bytes.now told read) }
     ensures fault { IfErr result (IsFault facts (lines (recovered bytes.now))) }
 {
@@ -226,6 +222,33 @@ pub fn read_kept(alloc: Global, facts: RealmFacts, bytes: &[u8]) -> Result<Read,
     let read = none.with_lines(alloc, &key, rest)?;
     if boot <= read.last_start {
         return Err(KeptFault::OldBoot);
+    }
+    Ok(read)
+}
+
+/// What the whole lines of a file of these bytes tell, as a kept journal of these facts.
+///
+/// It is read where the file has no whole line, or its lines are what a journal under these facts'
+/// account, region and root secret tells, sealed throughout, whose starts rise and whose changes fit.
+/// Else `At` tells the first line, counted from 1, that hasn't its form or its seal, or doesn't fit.
+/// `OldBoot` comes where all is right but the boot number of the facts isn't above the last start.
+///
+/// `At` also tells the line behind the whole ones where it was lost, as one without its brace is, and
+/// one with a tab in it: behind it stands a line that has the right seal behind the one before it. What
+/// a crash leaves is never refused: of an append it leaves the bytes of its own line, which no line
+/// follows, and tabs. Only the first line is written with another behind it; there a third one is
+/// looked for. Behind a closed gate, a tab in a brace's place, nothing is looked for.
+///
+/// Want of memory may replace each answer.
+pub fn read_kept(alloc: Global, facts: RealmFacts, bytes: &[u8]) -> Result<Read, KeptFault>
+    ensures ok { IfOk result (λ read. (told : List ToldValue) × IsReading facts bytes.now told read) }
+    ensures none_lost { OnOk result (¬ (HasLost (key_of facts.root) bytes.now)) }
+    ensures fault { IfErr result (IsFileFault facts bytes.now) }
+{
+    let key = key_of(&facts.root);
+    let read = read_lines(alloc, facts, bytes)?;
+    if has_lost(alloc, &key, bytes)? {
+        return Err(KeptFault::At(count_lines(bytes) + 1));
     }
     Ok(read)
 }

@@ -5,6 +5,7 @@ use Rattle.kept_journal.specs.Lines.{Recovers, text_of, key_of, seal_of, sealed}
 use Rattle.kept_journal.specs.Reading.{head_of, opening}
 use Rattle.kept_journal.specs.declared.told.Told.TheVariants.{Start}
 use Rattle.kept_journal.proofs.Adding.{widened, joined}
+use Rattle.kept_journal.proofs.Histories.{kept_since_start}
 use Rattle.kept_journal.proofs.Opening.{opens, last_is, begun}
 use Rattle.kept_journal.proofs.journal.open_kept.Goals as goal
 
@@ -31,6 +32,12 @@ returns-in-Ok-append_behind-clause-started g c told r =
         seal = λ _. last_is read bytes told r seal start seal_now start_now;
       },
     )
+
+pub returns-in-Ok-append_behind-clause-keeps : goal.returns-in-Ok-append_behind-clause-keeps
+returns-in-Ok-append_behind-clause-keeps g c told r =
+    let facts = c.args.read.now.account.facts in
+    let started = returns-in-Ok-append_behind-clause-started g c told r in
+    kept_since_start facts (record { log = c.append_behind.new.log; key = c.key_of-key.result; seal = c.in-Ok.made.1 }) told facts.boot started.0 started.1 c.in-Ok-append_behind.ensures.durable g.met.D.Device.only_now
 
 pub returns-in-Ok-append_behind-clause-any_moment : goal.returns-in-Ok-append_behind-clause-any_moment
 returns-in-Ok-append_behind-clause-any_moment g c told r =

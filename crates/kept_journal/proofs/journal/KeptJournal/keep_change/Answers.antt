@@ -3,7 +3,7 @@ use Rattle.kept_log.specs.Log.{recovered}
 use Rattle.kept_journal.specs.Lines.{text_of, seal_of, sealed}
 use Rattle.kept_journal.specs.declared.told.Told.TheVariants.{Change}
 use Rattle.kept_journal.proofs.Adding.{widened, told_by, tells_on}
-use Rattle.kept_journal.proofs.journal.KeptJournal.keep.Goals as goal
+use Rattle.kept_journal.proofs.journal.KeptJournal.keep_change.Goals as goal
 
 pub returns-in_err-append-clause-any_moment : goal.returns-in_err-append-clause-any_moment
 returns-in_err-append-clause-any_moment g c head told tells is_open =
