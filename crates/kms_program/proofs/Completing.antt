@@ -88,7 +88,7 @@ module _ (status : ℕ) (old new : Around) where
   comes_served Right settings account met fit s input closes items calm gives asked =
       let before = outside old.wire old.clock (fresh_pass account.facts 1 account.entries 1) in
       let after = outside new.wire new.clock s.serving.pass in
-      elim (each_is_answered (turns settings.trust) (after ≡ before) s.end before after s.serving.ends input closes items (record { gives = gives; reads = calm.reads; writes = calm.writes }) asked)
+      elim (each_is_answered (turns false settings.trust) (after ≡ before) s.end before after s.serving.ends input closes items (record { gives = gives; reads = calm.reads; writes = calm.writes }) asked)
       as (λ _. ComesTo Right (λ settings account. ServesEach items account settings.trust status old new) (new.wire ≡ old.wire) status) [
         | inl none ↦ is_starved (s.status_is ∙ ap status_of_end none.0) (ap (λ (o : Outside Pass). o.wire) none.1)
         | inr each ↦ comes_to_each settings account fit (record { pass = s.serving.pass; each = each.1; status_is = s.status_is ∙ ap status_of_end each.0 ∙ status_of closes })
@@ -122,7 +122,7 @@ module _ (status : ℕ) (old new : Around) where
     Exported = ComesTo Right (λ settings account. ExportsEach items account settings.trust status old new) (new.wire.written ≡ old.wire.written) status
 
     exports_each : (pass : Pass) (left : Kept) (quiet beneath : Wire) → IsKeptOf pass left → LiesBeneath old.wire quiet beneath → ¬ (RoseBy 1 old.wire.write_faults new.wire.write_faults)
-        → AnswersEach (turns settings.trust) items (outside (quiet_over old.wire) old.clock (fresh_pass account.facts 1 account.entries 1)) (outside quiet new.clock pass)
+        → AnswersEach (turns false settings.trust) items (outside (quiet_over old.wire) old.clock (fresh_pass account.facts 1 account.entries 1)) (outside quiet new.clock pass)
         → WritesKept left status beneath new.wire → Exported
     exports_each pass left quiet beneath kept lies calm each writes =
         elim (writes_kept pass left beneath kept lies.unwritten.write_faults calm writes) as (λ _. Exported) [
@@ -135,17 +135,17 @@ module _ (status : ℕ) (old new : Around) where
 
     module _ (input : List ℕ) (calm : IsCalm old new) (gives : old.wire.left ≡ Some input) (asked : IsAsked input closes items) where
       comes_by : (end : SessionEnd) (left : Kept) (quiet beneath : Wire) (pass : Pass)
-          → EndsBy settings.trust end (outside (quiet_over old.wire) old.clock (fresh_pass account.facts 1 account.entries 1)) (outside quiet new.clock pass)
+          → EndsBy false settings.trust end (outside (quiet_over old.wire) old.clock (fresh_pass account.facts 1 account.entries 1)) (outside quiet new.clock pass)
           → IsKeptOf pass left → LiesBeneath old.wire quiet beneath → beneath.read_faults ≤ new.wire.read_faults → EndsExport end left status beneath new.wire → Exported
       comes_by Ended left quiet beneath pass ends kept lies reads does =
           let f = front_of quiet.left input ends.serves.input (sym gives ∙ ends.serves.left) in
           let all : ends.serves.input ≡ input = all_taken f ends.at_end in
           let both = ended input closes items ends.serves.items asked (subst (λ (bytes : List ℕ). Cuts bytes false ends.serves.items []) all ends.serves.cuts) in
-          exports_each pass left quiet beneath kept lies calm.writes (answered (turns settings.trust) ends.serves both.1) does
+          exports_each pass left quiet beneath kept lies calm.writes (answered (turns false settings.trust) ends.serves both.1) does
       comes_by Closed left quiet beneath pass ends kept lies reads does =
           let f = front_of quiet.left input ends.serves.input (sym gives ∙ ends.serves.left) in
           let both = closed ends.serves.input f.left closes items ends.serves.items ends.rest (subst (λ (bytes : List ℕ). IsAsked bytes closes items) f.joined asked) ends.serves.cuts in
-          exports_each pass left quiet beneath kept lies calm.writes (answered (turns settings.trust) ends.serves both.1) does
+          exports_each pass left quiet beneath kept lies calm.writes (answered (turns false settings.trust) ends.serves both.1) does
       comes_by CutOff left quiet beneath pass ends kept lies reads does =
           let f = front_of quiet.left input ends.serves.input (sym gives ∙ ends.serves.left) in
           let all : ends.serves.input ≡ input = all_taken f ends.at_end in

@@ -5,3 +5,4 @@ mod Clocks
 mod Completing
 mod Keeping
 mod Sending
+mod Outcomes

@@ -1,5 +1,5 @@
 -- What the program comes to where nothing disturbs it.
-use Rattle.std.specs.Prelude.{◌≡◌, ℕ, List, Bool, Option, None, Some, length}
+use Rattle.std.specs.Prelude.{◌≡◌, ℕ, List, Bool, false, Option, None, Some, length}
 use Rattle.kms_io.specs.Wire.{Wire, RoseBy}
 use Rattle.kms_io.specs.QuietLink.{LiesBeneath}
 use Rattle.kms_config.specs.declared.config.Config.{Config}
@@ -33,7 +33,7 @@ pub record IsCalm (old new : Around) : Type 0 where
 -- A session of this account was served, each of these messages was answered, once and in order, and nothing else was written. The status is 0.
 pub record ServesEach (items : List Item) (account : Account) (trust : Trust) (status : ℕ) (old new : Around) : Type 0 where
   pub pass : Pass
-  pub each : AnswersEach (turns trust) items (outside old.wire old.clock (fresh_pass account.facts 1 account.entries 1)) (outside new.wire new.clock pass)
+  pub each : AnswersEach (turns false trust) items (outside old.wire old.clock (fresh_pass account.facts 1 account.entries 1)) (outside new.wire new.clock pass)
   pub status_is : status ≡ well
 
 -- A session of this account was explained, each of these messages had its line, once and in order, and nothing else was written. The status is 0.
@@ -47,7 +47,7 @@ pub record ExplainsEach (items : List Item) (account : Account) (trust : Trust) 
 pub record ExportsEach (items : List Item) (account : Account) (trust : Trust) (status : ℕ) (old new : Around) : Type 0 where
   pub pass : Pass
   pub quiet : Wire
-  pub each : AnswersEach (turns trust) items (outside (quiet_over old.wire) old.clock (fresh_pass account.facts 1 account.entries 1)) (outside quiet new.clock pass)
+  pub each : AnswersEach (turns false trust) items (outside (quiet_over old.wire) old.clock (fresh_pass account.facts 1 account.entries 1)) (outside quiet new.clock pass)
   pub beneath : Wire
   pub lies : LiesBeneath old.wire quiet beneath
   pub writes : SendsWhole beneath new.wire (journal_text pass.facts (entries_of pass.history))

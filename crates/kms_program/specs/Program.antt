@@ -24,6 +24,7 @@ use Rattle.session_front.specs.Sending.{SendsWhole, SendsShort}
 use Rattle.session_front.specs.Session.{outside}
 use Rattle.kms_session.specs.Session.{EndsBy}
 use Rattle.account_core.specs.Account.{Account}
+use Rattle.account_steps.specs.History.{Entry}
 use Rattle.journal_file.specs.Journal.{journal_text}
 use Rattle.kms_program.specs.Journals.{IsBegun, AsksJournal, MayAskJournal, IsJournalRefused}
 use Rattle.kms_server.specs.declared.crew.Kept.{Kept}
@@ -82,11 +83,11 @@ status_of_end ReadFault = unread
 status_of_end WriteFault = unwritten
 status_of_end NoMemory = no_memory
 
--- One session is served by the one pass of a service that begins with the entries of this account, and ends so. The history is at last exactly these, and then
+-- One session is served by the one pass of a service that begins with the entries of this account and keeps nothing, and ends so. The history is at last exactly these, and then
 -- the session's own entries, and each answer stands on a beginning of it.
 pub record Serving (account : Account) (trust : Trust) (end : SessionEnd) (old : Wire) (told : Option (List ℕ)) (new : Wire) (later : Option (List ℕ)) : Type 0 where
   pub pass : Pass
-  pub ends : EndsBy trust end (outside old told (fresh_pass account.facts 1 account.entries 1)) (outside new later pass)
+  pub ends : EndsBy false trust end (outside old told (fresh_pass account.facts 1 account.entries 1)) (outside new later pass)
   pub made_all : first_places (length pass.history) ≡ first_places (length account.entries) ++ pass.own
 
 -- one session of this account is served, and the status is that of its end
@@ -271,9 +272,10 @@ IsJournalKept kept.NoMemory journal = ⊥
 -- what `serve` does with the account that it begins with: its connections are served, and then comes the line of what was served, and the journal where that is
 -- wanted, unless there is no memory for these; or the door can't be opened; or there is no memory to serve
 pub data ServesAccount (account : Account) (trust : Trust) (values : ServeValues) (status : ℕ) (old new : Everything) : Type 0 where
-  serves : (served : Served) (kept : Kept) (journal : List ℕ) → ServesDoor account trust (wanted_of values) served kept (around_door old) (around_door new) → IsJournalKept kept journal
+  serves : (history : List (Entry × ℕ)) (served : Served) (kept : Kept) (journal : List ℕ)
+      → ServesDoor false account trust (wanted_of values) history served kept (around_door old) (around_door new) → IsJournalKept kept journal
       → Reports served.is_whole (served_line served.connections served.front ++ journal) status old.wire new.wire → ServesAccount account trust values status old new
-  serves_unsaid : (served : Served) (kept : Kept) → ServesDoor account trust (wanted_of values) served kept (around_door old) (around_door new)
+  serves_unsaid : (history : List (Entry × ℕ)) (served : Served) (kept : Kept) → ServesDoor false account trust (wanted_of values) history served kept (around_door old) (around_door new)
       → new.wire ≡ old.wire → status ≡ no_memory → ServesAccount account trust values status old new
   finds_shut : FindsShut (wanted_of values) (around_door old) (around_door new) → new.wire ≡ old.wire → status ≡ unread → ServesAccount account trust values status old new
   lacks : OpensNothing (wanted_of values) (around_door old) (around_door new) → new.wire ≡ old.wire → status ≡ no_memory → ServesAccount account trust values status old new

@@ -9,7 +9,7 @@ use account_core::Account;
 use kms_io::{Clock, Gate, Link};
 use kms_server::{Kept, keep};
 use kms_session::{SessionEnd, Trust, serve_session};
-use publish_pass::{Opening, Realm, open_loaded, open_service};
+use publish_pass::{Nothing, Opening, Realm, open_loaded, open_service};
 use std::alloc::Global;
 use std::marker::Brand;
 use std::sync::{MutexGuard, Wait};
@@ -31,7 +31,8 @@ fn serve_once<W: Wait, R: Realm, L: Link, C: Clock, G: Gate>(
     requires trust { IsOfAccount opening.shown.whole.facts.account trust.now }
     ensures { Holding (account_in opening.shown.whole) trust.now result.0 result.1 (L.shows link.old) (C.told clock.old) (L.shows link.new) (C.told clock.new) }
 {
-    let Ok((service, mut passes)) = open_service::<W, R>(rt, alloc, opening) else {
+    let Ok((service, mut passes)) = open_service::<W, R, Nothing>(rt, alloc, opening, Nothing)
+    else {
         return (SessionEnd::NoMemory, Kept::NoMemory);
     };
     let pass = &mut passes[0];

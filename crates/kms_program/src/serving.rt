@@ -18,6 +18,7 @@ use kms_names::NoMemory;
 use kms_server::{Kept, Order, Outcome, Served, serve};
 use kms_session::Trust;
 use kms_words::ServeWords;
+use publish_pass::Nothing;
 use std::alloc::Global;
 use std::sync::Wait;
 use std::thread::Threads;
@@ -74,7 +75,10 @@ where
         connections: words.connections,
         keeps: words.exports,
     };
-    match serve(rt, alloc, account, trust, &order, clocks, door, gate) {
+    let (outcome, _nothing) = serve(
+        rt, alloc, account, Nothing, trust, &order, clocks, door, gate,
+    );
+    match outcome {
         Outcome::Served(served, kept) => match report(alloc, link, served, &kept) {
             Ok(status) => status,
             Err(NoMemory) => NO_MEMORY,

@@ -64,11 +64,11 @@ taken_settled (s ∷ ss) (t ∷ ts) (both p h) =
     taken_cons t ts ∙ ap₂ (λ m n. m + n) (ap (λ (w : WorkerState). w.taken) p.others) (taken_settled ss ts h) ∙ sym (taken_cons s ss)
 
 -- a worker takes no more than it may
-pub works_few : {trust : Trust} {n : ℕ} {s t : WorkerState} → Works trust n s t → t.taken ≤ n
+pub works_few : {keeping : Bool} {trust : Trust} {n : ℕ} {s t : WorkerState} → Works keeping trust n s t → t.taken ≤ n
 works_few (takes_all run is in_) = omega (arith, is)
 works_few (gives_up run few h) = let same : _ ≡ _ = ap (λ (w : WorkerState). w.taken) h.others in omega (arith, few, same)
 
-pub taken_few : {trust : Trust} (n : ℕ) (ss ts : List WorkerState) → n ≤ 144115188075855872 → Pairwise (Works trust n) ss ts → taken_by ts ≤ length ss * 144115188075855872
+pub taken_few : {keeping : Bool} {trust : Trust} (n : ℕ) (ss ts : List WorkerState) → n ≤ 144115188075855872 → Pairwise (Works keeping trust n) ss ts → taken_by ts ≤ length ss * 144115188075855872
 taken_few n [] [] few none = omega arith
 taken_few n [] (t ∷ ts) few h = elim h [ ]
 taken_few n (s ∷ ss) [] few h = elim h [ ]
@@ -139,6 +139,15 @@ pub longest_first : {A : Type 0} (seen : A → WorkerState) (facts : RealmFacts)
     → FirstIsLongest facts passes loaded front (map seen crew)
 longest_first seen facts passes loaded front [] d some holds is size = absurd (omega arith)
 longest_first seen facts passes loaded front (x ∷ xs) d some holds is size = record { is_history = is; size = size; begins = holds }
+
+-- its history
+pub told_first : {A : Type 0} (seen : A → WorkerState) (crew : List A) (d : A) (history : Pairs) → 0 < length crew → history ≡ (seen (get_or crew 0 d)).pass.history → FirstHolds history (map seen crew)
+told_first seen [] d history some is = absurd (omega arith)
+told_first seen (x ∷ xs) d history some is = sym is
+
+pub one_first : (one other : Pairs) (crew : List WorkerState) → FirstHolds one crew → FirstHolds other crew → one ≡ other
+one_first one other [] here there = absurd here
+one_first one other (s ∷ ss) here there = sym here ∙ there
 
 -- the first of a list, and what is left of it
 pub first_and_rest : {A : Type 0} (xs rest : List A) (x : A) → 0 < length xs → x ≡ get_or xs 0 x → rest ≡ take 0 xs ++ drop (0 + 1) xs → x ∷ rest ≡ xs

@@ -74,16 +74,17 @@ abbrev pub Keeps : RealmFacts → Bool → Kept → List WorkerState → List Wo
 Keeps facts wanted account (first ∷ others) (last ∷ rest) = KeepsOf facts wanted account first.pass last.pass × (last ≡ record first { pass = last.pass }) × (rest ≡ others)
 Keeps facts wanted account _ _ = ⊥
 
--- After their work the passes of these workers only learn more of the history, and the first of them holds at last all that another holds: what was loaded, and
--- then as many entries as all of them made together. The account of its history is kept where that is wanted. This is what was served, and what their ears show and
+-- After their work the passes of these workers only learn more of the history, and the first of them holds at last this one, all that another holds: what was
+-- loaded, and then as many entries as all of them made together. The account of its history is kept where that is wanted. This is what was served, and what their ears show and
 -- their clocks tell, in order.
-pub record Finishes (facts : RealmFacts) (passes loaded connections : ℕ) (wanted : Bool) (ends : List WorkerState) (served : Served) (account : Kept) (ears : List Listening)
+pub record Finishes (facts : RealmFacts) (passes loaded connections : ℕ) (wanted : Bool) (history : List (Entry × ℕ)) (ends : List WorkerState) (served : Served) (account : Kept) (ears : List Listening)
     (clocks : List (Option (List ℕ))) : Type 0 where
   pub settled : List WorkerState
   pub settles : Pairwise Settles ends settled
   pub last : List WorkerState
   pub keeps : Keeps facts wanted account settled last
   pub longest : FirstIsLongest facts passes loaded served.front last
+  pub holds : FirstHolds history last
   pub made : served.front ≡ made_by last + loaded
   pub taken : served.connections ≡ taken_by last
   pub whole : IsTrue served.is_whole ↔ TookAll connections last

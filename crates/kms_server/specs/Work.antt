@@ -1,5 +1,5 @@
 -- What one worker does.
-use Rattle.std.specs.Prelude.{◌≡◌, ◌<◌, ◌+◌, ℕ, List, [], ◌∷◌, Option, Some, None, true, false}
+use Rattle.std.specs.Prelude.{◌≡◌, ◌<◌, ◌+◌, ℕ, List, [], ◌∷◌, Option, Some, None, Bool, true, false}
 use Rattle.kms_names.specs.Moment.{year_10000}
 use Rattle.kms_io.specs.Wire.{Wire, TellsMore, RoseBy}
 use Rattle.kms_io.specs.Listening.{Listening}
@@ -26,17 +26,17 @@ abbrev pub Awaits : {L : Type 0} → (L → Wire) → Listening → Option L →
 Awaits wire old (Some connection) new = IsNewWire (wire connection) × (new.is_out ≡ true) × KeepsGivenBack old new
 Awaits wire old None new = RoseBy 16 old.faults new.faults × (new.is_out ≡ false) × KeepsGivenBack old new
 
--- A connection that shows this is served to its end and given back; where nothing disturbs its session, each of its messages is answered.
+-- A connection that shows this is served to its end, by a service that keeps its changes or doesn't, and given back; where nothing disturbs its session, each of its messages is answered.
 -- Before its session the pass may learn more of the history; after it housekeeping is done at one more answer of the clock, or for want of memory at most that.
-pub record Attends (trust : Trust) (old : WorkerState) (wire : Wire) (new : WorkerState) : Type 0 where
+pub record Attends (keeping : Bool) (trust : Trust) (old : WorkerState) (wire : Wire) (new : WorkerState) : Type 0 where
   pub met : Pass
   pub learns : Learns old.pass met
   pub end : SessionEnd
   pub left : Pass
   pub told : Option (List ℕ)
   pub last : Wire
-  pub ends : EndsBy trust end (outside wire old.clock met) (outside last told left)
-  pub complete : IsComplete trust end (outside wire old.clock met) (outside last told left)
+  pub ends : EndsBy keeping trust end (outside wire old.clock met) (outside last told left)
+  pub complete : IsComplete keeping trust end (outside wire old.clock met) (outside last told left)
   pub back : TakesBack old.ear last new.ear
   pub moment : ℕ
   pub before_year_10000 : moment < year_10000
@@ -45,14 +45,14 @@ pub record Attends (trust : Trust) (old : WorkerState) (wire : Wire) (new : Work
   pub taken : new.taken ≡ old.taken
 
 -- a worker takes one connection, which is new, and serves it
-pub record TakesOne (trust : Trust) (old new : WorkerState) : Type 0 where
+pub record TakesOne (keeping : Bool) (trust : Trust) (old new : WorkerState) : Type 0 where
   pub heard : Listening
   pub wire : Wire
   pub is_new : IsNewWire wire
   pub is_out : heard.is_out ≡ true
   pub keeps : KeepsGivenBack old.ear heard
   pub served : WorkerState
-  pub attends : Attends trust (record old { ear = heard }) wire served
+  pub attends : Attends keeping trust (record old { ear = heard }) wire served
   pub one_more : new ≡ record served { taken = served.taken + 1 }
 
 -- a worker's ear fails 16 times in a row, and nothing else changes
@@ -63,11 +63,11 @@ pub record GivesUp (old new : WorkerState) : Type 0 where
   pub others : new ≡ record old { ear = new.ear }
 
 -- a worker takes connections one after another
-pub data WorkerRun (trust : Trust) (start : WorkerState) : WorkerState → Type 0 where
-  begins : WorkerRun trust start start
-  goes_on : {old new : WorkerState} → WorkerRun trust start old → TakesOne trust old new → WorkerRun trust start new
+pub data WorkerRun (keeping : Bool) (trust : Trust) (start : WorkerState) : WorkerState → Type 0 where
+  begins : WorkerRun keeping trust start start
+  goes_on : {old new : WorkerState} → WorkerRun keeping trust start old → TakesOne keeping trust old new → WorkerRun keeping trust start new
 
 -- it takes so many, or gives up before
-pub data Works (trust : Trust) (connections : ℕ) (start : WorkerState) : WorkerState → Type 0 where
-  takes_all : {end : WorkerState} → WorkerRun trust start end → end.taken ≡ connections → end.ear.is_out ≡ false → Works trust connections start end
-  gives_up : {last end : WorkerState} → WorkerRun trust start last → last.taken < connections → GivesUp last end → Works trust connections start end
+pub data Works (keeping : Bool) (trust : Trust) (connections : ℕ) (start : WorkerState) : WorkerState → Type 0 where
+  takes_all : {end : WorkerState} → WorkerRun keeping trust start end → end.taken ≡ connections → end.ear.is_out ≡ false → Works keeping trust connections start end
+  gives_up : {last end : WorkerState} → WorkerRun keeping trust start last → last.taken < connections → GivesUp last end → Works keeping trust connections start end

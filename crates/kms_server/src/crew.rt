@@ -12,7 +12,7 @@ ghost use Rattle.kms_server.specs.States.{state_of, states_of};
 use crate::worker::{Worker, Workshop, work};
 use account_core::Account;
 use kms_io::{Clock, Ear, Gate};
-use publish_pass::{Desk, Pass, Realm, Service, Tally, Unread};
+use publish_pass::{Desk, Keeps, Pass, Realm, Service, Tally, Told, Unread};
 use std::sync::{MutexGuard, Wait};
 use std::thread;
 use std::thread::Threads;
@@ -64,17 +64,18 @@ pub fn gather<R: Realm, E: Ear, C: Clock + Drop>(
 fn work_each<
     W: Threads + Wait + Sync,
     R: Realm + Send + Sync,
+    K: Keeps + Send,
     G: Gate + Sync,
     E: Ear + Send,
     C: Clock + Send + Drop,
->(host: &Workshop<'_, W, R, G>, crew: &mut [Worker<R, E, C>])
+>(host: &Workshop<'_, W, R, K, G>, crew: &mut [Worker<R, E, C>])
 where
     E::Conn: Send,
     requires some { 0 < length crew.old }
     requires trust { IsOfAccount R.facts.account host.now.trust.now }
     requires is_in { All (λ worker. (E.shows worker.ear).is_out ≡ false) crew.old }
     requires new { All (λ worker. worker.taken ≡ 0) crew.old }
-    ensures { (i : ℕ) (d : _) → i < length crew.old → Works host.now.trust.now host.now.connections (state_of C.told E.shows (slice_index_or crew.old i d)) (state_of C.told E.shows (slice_index_or crew.new i d)) }
+    ensures { (i : ℕ) (d : _) → i < length crew.old → Works K.keeps host.now.trust.now host.now.connections (state_of C.told E.shows (slice_index_or crew.old i d)) (state_of C.told E.shows (slice_index_or crew.new i d)) }
 {
     let threads = crew.len();
     thread::for_each_mut(host.rt, crew, threads, &|_, worker| work(host, worker));
@@ -84,25 +85,26 @@ where
 pub fn work_all<
     W: Threads + Wait + Sync,
     R: Realm + Send + Sync,
+    K: Keeps + Send,
     G: Gate + Sync,
     E: Ear + Send,
     C: Clock + Send + Drop,
->(host: &Workshop<'_, W, R, G>, crew: &mut [Worker<R, E, C>])
+>(host: &Workshop<'_, W, R, K, G>, crew: &mut [Worker<R, E, C>])
 where
     E::Conn: Send,
     requires some { 0 < length crew.old }
     requires trust { IsOfAccount R.facts.account host.now.trust.now }
     requires is_in { All (λ worker. (E.shows worker.ear).is_out ≡ false) crew.old }
     requires new { All (λ worker. worker.taken ≡ 0) crew.old }
-    ensures { Pairwise (Works host.now.trust.now host.now.connections) (states_of C.told E.shows crew.old) (states_of C.told E.shows crew.new) }
+    ensures { Pairwise (Works K.keeps host.now.trust.now host.now.connections) (states_of C.told E.shows crew.old) (states_of C.told E.shows crew.new) }
 {
     work_each(host, crew);
 }
 
 // Lets a worker's pass learn at the desk: its history goes on, and nothing else of the worker changes.
-fn settle<W: Wait, R: Realm, E: Ear, C: Clock + Drop>(
+fn settle<W: Wait, R: Realm, K: Keeps, E: Ear, C: Clock + Drop>(
     rt: &W,
-    service: &Service<R>,
+    service: &Service<R, K>,
     worker: &mut Worker<R, E, C>,
 )
     ensures { Settles (state_of C.told E.shows worker.old) (state_of C.told E.shows worker.new) }
@@ -111,9 +113,9 @@ fn settle<W: Wait, R: Realm, E: Ear, C: Clock + Drop>(
 }
 
 /// Lets each worker's pass learn at the desk, one after another: their histories go on, and nothing else changes.
-pub fn settle_all<W: Wait, R: Realm, E: Ear, C: Clock + Drop>(
+pub fn settle_all<W: Wait, R: Realm, K: Keeps, E: Ear, C: Clock + Drop>(
     rt: &W,
-    service: &Service<R>,
+    service: &Service<R, K>,
     crew: &mut [Worker<R, E, C>],
 )
     ensures { Pairwise Settles (states_of C.told E.shows crew.old) (states_of C.told E.shows crew.new) }
@@ -165,16 +167,16 @@ pub fn learn_all<R: Realm, E: Ear, C: Clock + Drop>(crew: &mut Vec<Worker<R, E, 
 
 /// Lets the first worker's pass, which holds all that another holds, learn at the desk, which then stays locked. Its history
 /// is the desk's.
-pub fn settle_first<'a, W: Wait, R: Realm, E: Ear, C: Clock + Drop>(
+pub fn settle_first<'a, W: Wait, R: Realm, K: Keeps, E: Ear, C: Clock + Drop>(
     rt: &W,
-    service: &'a Service<R>,
+    service: &'a Service<R, K>,
     crew: &mut Vec<Worker<R, E, C>>,
-) -> MutexGuard<'a, Desk<R>>
+) -> MutexGuard<'a, Desk<R, K>>
     requires some { 0 < vec_len crew.old }
     requires longest { HoldsAll (states_of C.told E.shows crew.old.items) }
     ensures settles { Pairwise Settles (states_of C.told E.shows crew.old.items) (states_of C.told E.shows crew.new.items) }
     ensures longest { HoldsAll (states_of C.told E.shows crew.new.items) }
-    ensures holds { FirstHolds (mutex_guard_value result) (states_of C.told E.shows crew.new.items) }
+    ensures holds { FirstHolds (mutex_guard_value result).pairs (states_of C.told E.shows crew.new.items) }
     ensures size { vec_len crew.new ≡ vec_len crew.old }
 {
     let mut first = crew.remove(0);
@@ -184,8 +186,8 @@ pub fn settle_first<'a, W: Wait, R: Realm, E: Ear, C: Clock + Drop>(
 }
 
 /// The account of the desk's history, where it is wanted.
-pub fn keep_here<R: Realm>(desk: &Desk<R>, is_wanted: bool) -> Kept
-    ensures { (pass : _) → pass.history ≡ desk.now → KeepsOf R.facts is_wanted result pass pass }
+pub fn keep_here<R: Realm, K: Keeps>(desk: &Desk<R, K>, is_wanted: bool) -> Kept
+    ensures { (pass : _) → pass.history ≡ desk.now.pairs → KeepsOf R.facts is_wanted result pass pass }
 {
     if !is_wanted {
         return Kept::Nothing;
@@ -194,6 +196,14 @@ pub fn keep_here<R: Realm>(desk: &Desk<R>, is_wanted: bool) -> Kept
         Ok(account) => Kept::Whole(account),
         Err(_) => Kept::NoMemory,
     }
+}
+
+/// What the first worker's pass tells.
+pub fn told_by_first<R: Realm, E: Ear, C: Clock + Drop>(crew: &[Worker<R, E, C>]) -> Told<R>
+    requires { 0 < length crew.now }
+    ensures { FirstHolds result (states_of C.told E.shows crew.now) }
+{
+    crew[0].pass.tell()
 }
 
 /// How many entries the first worker's pass holds, which holds all that another holds.

@@ -6,7 +6,7 @@ ghost use Rattle.kms_server.specs.States.{state_of};
 
 use kms_io::{Clock, Ear, Gate, Next};
 use kms_session::{Trust, serve_session};
-use publish_pass::{Pass, Realm, Service};
+use publish_pass::{Keeps, Pass, Realm, Service};
 use std::alloc::Global;
 use std::sync::Wait;
 
@@ -15,10 +15,10 @@ const PATIENCE: u64 = 16;
 
 /// What all workers serve with.
 #[derive(Drop)]
-pub struct Workshop<'a, W: Wait, R: Realm, G: Gate> {
+pub struct Workshop<'a, W: Wait, R: Realm, K: Keeps, G: Gate> {
     pub rt: &'a W,
     pub alloc: Global,
-    pub service: &'a Service<R>,
+    pub service: &'a Service<R, K>,
     pub trust: &'a Trust,
     pub gate: &'a G,
     /// How many connections each worker takes.
@@ -50,14 +50,14 @@ fn await_connection<E: Ear>(ear: &mut E) -> Option<E::Conn>
 
 // Serves a connection to its end and gives it back. What others posted is learnt before, what was learnt is
 // posted after, and housekeeping comes last, at one more answer of the clock.
-fn attend<W: Wait, R: Realm, G: Gate, E: Ear, C: Clock + Drop>(
-    host: &Workshop<'_, W, R, G>,
+fn attend<W: Wait, R: Realm, K: Keeps, G: Gate, E: Ear, C: Clock + Drop>(
+    host: &Workshop<'_, W, R, K, G>,
     worker: &mut Worker<R, E, C>,
     connection: E::Conn,
 )
     requires trust { IsOfAccount R.facts.account host.now.trust.now }
     requires out { (E.shows worker.old.ear).is_out ≡ true }
-    ensures { Attends host.now.trust.now (state_of C.told E.shows worker.old) (E.Conn.shows connection) (state_of C.told E.shows worker.new) }
+    ensures { Attends K.keeps host.now.trust.now (state_of C.told E.shows worker.old) (E.Conn.shows connection) (state_of C.told E.shows worker.new) }
 {
     let mut link = connection;
     worker.pass.catch_up(host.rt, host.service);
@@ -82,14 +82,14 @@ fn attend<W: Wait, R: Realm, G: Gate, E: Ear, C: Clock + Drop>(
 
 /// Takes as many connections as each worker does, one after another, and serves each; or gives up where the
 /// ear fails 16 times in a row.
-pub fn work<W: Wait, R: Realm, G: Gate, E: Ear, C: Clock + Drop>(
-    host: &Workshop<'_, W, R, G>,
+pub fn work<W: Wait, R: Realm, K: Keeps, G: Gate, E: Ear, C: Clock + Drop>(
+    host: &Workshop<'_, W, R, K, G>,
     worker: &mut Worker<R, E, C>,
 )
     requires trust { IsOfAccount R.facts.account host.now.trust.now }
     requires is_in { (E.shows worker.old.ear).is_out ≡ false }
     requires new { worker.old.taken ≡ 0 }
-    ensures { Works host.now.trust.now host.now.connections (state_of C.told E.shows worker.old) (state_of C.told E.shows worker.new) }
+    ensures { Works K.keeps host.now.trust.now host.now.connections (state_of C.told E.shows worker.old) (state_of C.told E.shows worker.new) }
 {
     let connections = host.connections;
     while worker.taken < connections {

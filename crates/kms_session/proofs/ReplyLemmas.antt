@@ -1,5 +1,5 @@
 -- Replies that were written, whole or cut short.
-use Rattle.std.proofs.Common.{◌≡◌, ◌≤◌, ℕ, List, ◌++◌, length, Bool, true, false, Option, None, Some, refl, sym, ap, ◌∙◌, subst, arith, ◌⊎◌, inl, inr}
+use Rattle.std.proofs.Common.{◌≡◌, ◌≤◌, ℕ, IsTrue, List, ◌++◌, length, Bool, true, false, Option, None, Some, refl, sym, ap, ◌∙◌, subst, arith, ◌⊎◌, inl, inr}
 use Rattle.std.specs.Bool.{MatchBool}
 use Rattle.kms_io.specs.Wire.{Wire}
 use Rattle.published_account.specs.declared.answered.Answered.{Answered}
@@ -14,16 +14,18 @@ use Rattle.account_core.specs.Decide.{decide}
 use mathlib.Core.List.{IsPrefix}
 use Rattle.session_front.specs.declared.trust.Trust.{Trust}
 use Rattle.http_front.specs.Message.{Message}
-use Rattle.std.proofs.Common.{Ok, Err}
+use Rattle.std.proofs.Common.{Result, Ok, Err, IfOk, OnErr}
+use Rattle.keepers.specs.declared.keeps.Unmade.{Unmade}
+use Rattle.keepers.specs.declared.keeps.Unmade.TheVariants.{Unkept as NotKept}
 use Rattle.session_front.specs.Early.{ask_of}
 use Rattle.kms_json.specs.declared.refusals.Refusal.{Refusal}
 use Rattle.published_account.specs.Answers.{Answer, answer_in, answer_of}
-use Rattle.kms_session.specs.Answers.{IsReplyText, five_hundred}
+use Rattle.kms_session.specs.Answers.{IsReplyText, five_hundred, not_kept}
 use Rattle.published_account.specs.Pairs.{entries_of, LeadsTo}
 use Rattle.publish_pass.specs.Pass.{Pass, Meets, WantsChange, AnswersRead, AnswersChange, LacksRead, Misses, keeping_house, making_any}
 use Rattle.published_account.specs.declared.answered.Unread.TheVariants.{NoMemory as Unfed}
 use Rattle.session_front.specs.Items.{whole}
-use Rattle.kms_session.specs.Run.{Plan, answered, asks, plan_of, plan_by, Wanting, wants_nothing, wants_read, wants_change, Answers, early, reads, changes, Replies, answers, wants_memory}
+use Rattle.kms_session.specs.Run.{Plan, answered, asks, plan_of, plan_by, Wanting, wants_nothing, wants_read, wants_change, Answers, early, reads, changes, Replies, answers, wants_memory, Unkept, isnt_kept}
 use Rattle.session_front.specs.Sending.{SendsWhole, SendsShort}
 use Rattle.kms_session.specs.Session.{Responds, RespondsShort}
 use Rattle.kms_session.specs.Replying.{SendsReply, SendsReplyShort, Gives}
@@ -59,13 +61,13 @@ joined_sent true answer second front closes head text old new is split sent = re
 joined_sent false answer second front closes head text old new is split sent = record { text = text; is = record { head = head; is_head = is; whole = split }; short = sent }
 
 -- a reply to a plan
-pub replied : (sent : Bool) (s : Pass) (plan : Plan) (answer : Answer) (second front : ℕ) (closes : Bool) (old new : Wire) (t : Pass)
+pub replied : (keeps sent : Bool) (s : Pass) (plan : Plan) (answer : Answer) (second front : ℕ) (closes : Bool) (old new : Wire) (t : Pass)
     → Answers s plan answer t → front ≡ length t.history
     → MatchBool sent (SendsReply answer second front closes old new) (SendsReplyShort answer second front closes old new)
-    → MatchBool sent (Responds s plan second closes old new t) (RespondsShort s plan second closes old new t)
-replied true s plan answer second front closes old new t is at reply =
+    → MatchBool sent (Responds keeps s plan second closes old new t) (RespondsShort keeps s plan second closes old new t)
+replied keeps true s plan answer second front closes old new t is at reply =
     record { text = reply.text; is = answers answer is (subst (λ (n : ℕ). IsReplyText answer second n closes reply.text) at reply.is); sends = reply.sends }
-replied false s plan answer second front closes old new t is at reply =
+replied keeps false s plan answer second front closes old new t is at reply =
     record { text = reply.text; is = answers answer is (subst (λ (n : ℕ). IsReplyText answer second n closes reply.text) at reply.is); short = reply.short }
 
 pub wanting_none : (s : Pass) (plan : Plan) → Wanting s plan s
@@ -103,15 +105,37 @@ wants_reading s t u x is missed h =
     wants_read x refl is (record { met = h.0.met; seen = meets_later s t h.0.met missed h.0.seen; places = h.0.places; used = h.0.used; at_most = h.0.at_most })
 
 -- a reply for want of memory
-pub wanted : (sent : Bool) (s : Pass) (plan : Plan) (second : ℕ) (closes : Bool) (old new : Wire) (t : Pass) → Wanting s plan t
+pub wanted : (keeps sent : Bool) (s : Pass) (plan : Plan) (second : ℕ) (closes : Bool) (old new : Wire) (t : Pass) → Wanting s plan t
     → MatchBool sent (SendsWhole old new five_hundred) (SendsShort old new five_hundred)
-    → MatchBool sent (Responds s plan second closes old new t) (RespondsShort s plan second closes old new t)
-wanted true s plan second closes old new t is reply = record { text = five_hundred; is = wants_memory is refl; sends = reply }
-wanted false s plan second closes old new t is reply = record { text = five_hundred; is = wants_memory is refl; short = reply }
+    → MatchBool sent (Responds keeps s plan second closes old new t) (RespondsShort keeps s plan second closes old new t)
+wanted keeps true s plan second closes old new t is reply = record { text = five_hundred; is = wants_memory is refl; sends = reply }
+wanted keeps false s plan second closes old new t is reply = record { text = five_hundred; is = wants_memory is refl; short = reply }
+
+-- a reply to a change that couldn't be kept
+pub unkept : (keeps sent : Bool) (s : Pass) (plan : Plan) (second : ℕ) (closes : Bool) (old new : Wire) (t : Pass) → Unkept keeps s plan t
+    → MatchBool sent (SendsWhole old new not_kept) (SendsShort old new not_kept)
+    → MatchBool sent (Responds keeps s plan second closes old new t) (RespondsShort keeps s plan second closes old new t)
+unkept keeps true s plan second closes old new t is reply = record { text = not_kept; is = isnt_kept is refl; sends = reply }
+unkept keeps false s plan second closes old new t is reply = record { text = not_kept; is = isnt_kept is refl; short = reply }
+
+pub unkept_change : (keeps : Bool) (s t : Pass) (x : Ask) → IsTrue keeps → true ≡ changes_account x.body → WantsChange s x t → Unkept keeps s (asks x) t
+unkept_change keeps s t x does is h = record { does = does; ask = x; asked = refl; changes = sym is; left = h }
 
 -- what a pass hands on as the answer to a request that changes the account
 pub gives_changed : (s t : Pass) (x : Ask) (a : Answered) → true ≡ changes_account x.body → AnswersChange s x a t → Gives s (asks x) a t
 gives_changed s t x a is h = record { answers = changes x h.reply refl (sym is) h.changes h.answer; front = h.front }
+
+pub gives_if : (r : Result Answered Unmade) (s t : Pass) (x : Ask) → true ≡ changes_account x.body → IfOk r (λ a. AnswersChange s x a t) → IfOk r (λ a. Gives s (asks x) a t)
+gives_if (Ok a) s t x is h = gives_changed s t x a is h
+gives_if (Err why) s t x is h = tt
+
+pub wants_if : (r : Result Answered Unmade) (s t : Pass) (x : Ask) → true ≡ changes_account x.body → OnErr r (WantsChange s x t) → OnErr r (Wanting s (asks x) t)
+wants_if (Ok a) s t x is h = tt
+wants_if (Err why) s t x is h = wants_changed s t x is h
+
+pub unkept_if : (keeps : Bool) (r : Result Answered Unmade) (s t : Pass) (x : Ask) → true ≡ changes_account x.body → (r ≡ Err NotKept → IsTrue keeps) → OnErr r (WantsChange s x t) → r ≡ Err NotKept → Unkept keeps s (asks x) t
+unkept_if keeps (Ok a) s t x is does h why = cc
+unkept_if keeps (Err other) s t x is does h why = unkept_change keeps s t x (does why) is h
 
 -- and to one that doesn't
 pub gives_read : (s t u : Pass) (x : Ask) (a : Answered) → changes_account x.body ≡ false → MissesOnly s t → AnswersRead t x a u → Gives s (asks x) a u
@@ -121,13 +145,13 @@ gives_read s t u x a is missed h = record {
 }
 
 -- what a pass hands on is replied
-pub replied_given : (sent : Bool) (s t : Pass) (plan other : Plan) (a : Answered) (body : List ℕ) (second : ℕ) (closes : Bool) (old new : Wire)
+pub replied_given : (keeps sent : Bool) (s t : Pass) (plan other : Plan) (a : Answered) (body : List ℕ) (second : ℕ) (closes : Bool) (old new : Wire)
     → other ≡ plan → body ≡ a.body → Gives s other a t
     → MatchBool sent (SendsReply (record { status = a.status; body = body }) second a.front closes old new) (SendsReplyShort (record { status = a.status; body = body }) second a.front closes old new)
-    → MatchBool sent (Responds s plan second closes old new t) (RespondsShort s plan second closes old new t)
-replied_given sent s t plan other a body second closes old new same is gives reply =
+    → MatchBool sent (Responds keeps s plan second closes old new t) (RespondsShort keeps s plan second closes old new t)
+replied_given keeps sent s t plan other a body second closes old new same is gives reply =
     let P : List ℕ → Type 0 = λ b. MatchBool sent (SendsReply (record { status = a.status; body = b }) second a.front closes old new) (SendsReplyShort (record { status = a.status; body = b }) second a.front closes old new) in
-    replied sent s plan (answer_in a) second a.front closes old new t (subst (λ (p : Plan). Answers s p (answer_in a) t) same gives.answers) gives.front (subst P is reply)
+    replied keeps sent s plan (answer_in a) second a.front closes old new t (subst (λ (p : Plan). Answers s p (answer_in a) t) same gives.answers) gives.front (subst P is reply)
 
 -- what a message comes to, from what it asks
 pub plan_asks : (trust : Trust) (region : List ℕ) (m : Message) (c : ℕ) (x : Ask) → ask_of trust region m c ≡ Ok x → asks x ≡ plan_of trust region (whole m) c
@@ -160,6 +184,10 @@ facts_wanting (wants_nothing same) = ap (λ (p : Pass). p.facts) same
 facts_wanting (wants_read x is which h) = ap (λ (p : Pass). p.facts) h.used ∙ ap (λ (p : Pass). p.facts) h.seen.others
 facts_wanting {s = s} {t = t} (wants_change x is which h) = facts_left h.met t x.moment h.left ∙ ap (λ (p : Pass). p.facts) h.seen.others
 
-pub facts_kept : {s t : Pass} {plan : Plan} {c : ℕ} {closes : Bool} {text : List ℕ} → Replies s plan c closes text t → t.facts ≡ s.facts
+facts_unkept : {keeps : Bool} {s t : Pass} {plan : Plan} → Unkept keeps s plan t → t.facts ≡ s.facts
+facts_unkept h = facts_wanting (wants_change h.ask h.asked h.changes h.left)
+
+pub facts_kept : {keeps : Bool} {s t : Pass} {plan : Plan} {c : ℕ} {closes : Bool} {text : List ℕ} → Replies keeps s plan c closes text t → t.facts ≡ s.facts
 facts_kept (answers answer is text) = facts_answered is
 facts_kept (wants_memory is text) = facts_wanting is
+facts_kept (isnt_kept is text) = facts_unkept is

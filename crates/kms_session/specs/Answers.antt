@@ -37,3 +37,7 @@ pub record IsReplyText (answer : Answer) (second front : ℕ) (closes : Bool) (t
 -- the reply for want of memory
 abbrev pub five_hundred : List ℕ
 five_hundred = codes "HTTP/1.1 500 Internal Server Error\r\nContent-Type: application/x-amz-json-1.1\r\nContent-Length: 61\r\n\r\n{\"__type\":\"KMSInternalException\",\"message\":\"Want of memory.\"}"
+
+-- the reply to a change that couldn't be kept
+abbrev pub not_kept : List ℕ
+not_kept = codes "HTTP/1.1 500 Internal Server Error\r\nContent-Type: application/x-amz-json-1.1\r\nContent-Length: 68\r\n\r\n{\"__type\":\"KMSInternalException\",\"message\":\"The change isn't kept.\"}"

@@ -13,21 +13,21 @@ abbrev pub Outside : Type 0
 Outside = front.Outside Pass
 
 -- the reply to a plan was written
-abbrev pub Responds : Pass → Plan → ℕ → Bool → Wire → Wire → Pass → Type 0
-Responds s plan c closes before after t = Writes (λ text. Replies s plan c closes text t) before after
+abbrev pub Responds : Bool → Pass → Plan → ℕ → Bool → Wire → Wire → Pass → Type 0
+Responds keeps s plan c closes before after t = Writes (λ text. Replies keeps s plan c closes text t) before after
 
 -- a front of it was written, and then the link failed
-abbrev pub RespondsShort : Pass → Plan → ℕ → Bool → Wire → Wire → Pass → Type 0
-RespondsShort s plan c closes before after t = WritesShort (λ text. Replies s plan c closes text t) before after
+abbrev pub RespondsShort : Bool → Pass → Plan → ℕ → Bool → Wire → Wire → Pass → Type 0
+RespondsShort keeps s plan c closes before after t = WritesShort (λ text. Replies keeps s plan c closes text t) before after
 
 -- the replies of a run over the items into which the bytes taken are cut, up to this rest, were written
-abbrev pub Serves : Trust → Outside → Outside → Bool → ℕ → List ℕ → Type 0
-Serves trust old new closes count rest = front.Serves (turns trust) old new closes count rest
+abbrev pub Serves : Bool → Trust → Outside → Outside → Bool → ℕ → List ℕ → Type 0
+Serves keeps trust old new closes count rest = front.Serves (turns keeps trust) old new closes count rest
 
 -- each end by its cause; for want of memory nothing was done
-abbrev pub EndsBy : Trust → SessionEnd → Outside → Outside → Type 0
-EndsBy trust end old new = front.EndsBy (turns trust) (new ≡ old) end old new
+abbrev pub EndsBy : Bool → Trust → SessionEnd → Outside → Outside → Type 0
+EndsBy keeps trust end old new = front.EndsBy (turns keeps trust) (new ≡ old) end old new
 
 -- the session goes on after one more message, or ends
-abbrev pub GoesOn : Trust → Option SessionEnd → Outside → Outside → ℕ → List ℕ → Type 0
-GoesOn trust end old new count rest = front.GoesOn (turns trust) (new ≡ old) end old new count rest
+abbrev pub GoesOn : Bool → Trust → Option SessionEnd → Outside → Outside → ℕ → List ℕ → Type 0
+GoesOn keeps trust end old new count rest = front.GoesOn (turns keeps trust) (new ≡ old) end old new count rest

@@ -1,5 +1,5 @@
 // One connection, from its first byte to its end.
-ghost use Rattle.std.specs.Prelude.{◌≡◌, ◌+◌, ◌<◌, MatchBool, IfOk, OnErr, true, false};
+ghost use Rattle.std.specs.Prelude.{◌≡◌, ◌+◌, ◌<◌, MatchBool, IfOk, OnErr, Err, true, false};
 ghost use Rattle.kms_names.specs.Moment.{year_10000};
 ghost use Rattle.kms_json.specs.Asks.{changes_account};
 ghost use Rattle.kms_json.specs.declared.replies.Reply.TheVariants.{Refused};
@@ -7,7 +7,8 @@ ghost use Rattle.account_core.specs.Decide.{IsProper};
 ghost use Rattle.published_account.specs.Answers.{answer_of};
 ghost use Rattle.kms_session.specs.Answers.{fault_answer};
 ghost use Rattle.session_front.specs.Items.{whole};
-ghost use Rattle.kms_session.specs.Run.{asks, answered, plan_of, Wanting};
+ghost use Rattle.kms_session.specs.Run.{asks, answered, plan_of, Wanting, Unkept};
+ghost use Rattle.keepers.specs.declared.keeps.Unmade.TheVariants.{Unkept as NotKept};
 ghost use Rattle.session_front.specs.Callers.{IsOfAccount};
 ghost use Rattle.http_front.specs.Message.{Message, CutsOff};
 ghost use Rattle.kms_session.specs.Replying.{Gives};
@@ -20,7 +21,7 @@ use http_front::{Cut, HttpFault};
 use kms_io::{Clock, Gate, Link, Point};
 use kms_json::{Ask, Refusal, Reply};
 use kms_names::NoMemory;
-use publish_pass::{Answered, Pass, Realm, Service, Unread, answer_with};
+use publish_pass::{Answered, Keeps, Pass, Realm, Service, Unmade, Unread, answer_with};
 use session_front::{
     Awaited, Early, Inbox, KeptKey, MESSAGES, SessionEnd, Trust, await_message, closes_after,
     early, send,
@@ -31,12 +32,15 @@ use std::sync::Wait;
 const FIVE_HUNDRED: &[u8] =
     b"HTTP/1.1 500 Internal Server Error\r\nContent-Type: application/x-amz-json-1.1\r\nContent-Length: 61\r\n\r\n{\"__type\":\"KMSInternalException\",\"message\":\"Want of memory.\"}";
 
+const NOT_KEPT: &[u8] =
+    b"HTTP/1.1 500 Internal Server Error\r\nContent-Type: application/x-amz-json-1.1\r\nContent-Length: 68\r\n\r\n{\"__type\":\"KMSInternalException\",\"message\":\"The change isn't kept.\"}";
+
 // What a session is served with.
 #[derive(Drop)]
-struct Facilities<'a, W: Wait, R: Realm, G: Gate> {
+struct Facilities<'a, W: Wait, R: Realm, K: Keeps, G: Gate> {
     rt: &'a W,
     alloc: Global,
-    service: &'a Service<R>,
+    service: &'a Service<R, K>,
     trust: &'a Trust,
     gate: &'a G,
 }
@@ -50,7 +54,7 @@ struct Kept {
 }
 
 // The region of the service whose pass this is.
-fn region_of<'a, R: Realm>(service: &'a Service<R>, pass: &Pass<R>) -> &'a str
+fn region_of<'a, R: Realm, K: Keeps>(service: &'a Service<R, K>, pass: &Pass<R>) -> &'a str
     ensures { result.now ≡ pass.now.facts.region }
 {
     let _seen = pass.seen();
@@ -110,20 +114,20 @@ fn answer_read<R: Realm, W: Wait>(
 }
 
 // Answers a request of the account.
-fn answer_ask<W: Wait, R: Realm, G: Gate>(
-    host: &Facilities<'_, W, R, G>,
+fn answer_ask<W: Wait, R: Realm, K: Keeps, G: Gate>(
+    host: &Facilities<'_, W, R, K, G>,
     pass: &mut Pass<R>,
     ask: &Ask,
-) -> Result<Answered, NoMemory>
+) -> Result<Answered, Unmade>
     requires { IsProper pass.old.facts ask.now }
     ensures answer { IfOk result (λ a. Gives pass.old (asks ask.now) a pass.new) }
     ensures wants { OnErr result (Wanting pass.old (asks ask.now) pass.new) }
+    ensures unkept { result ≡ Err NotKept → Unkept K.keeps pass.old (asks ask.now) pass.new }
 {
     if ask.changes() {
-        let answered = pass.change(host.rt, host.alloc, host.service, ask, host.gate)?;
-        return Ok(answered);
+        return pass.change(host.rt, host.alloc, host.service, ask, host.gate);
     }
-    answer_read(host.rt, host.alloc, pass, ask)
+    Ok(answer_read(host.rt, host.alloc, pass, ask)?)
 }
 
 // Answers a request that asks nothing of the account.
@@ -138,31 +142,32 @@ fn answer_refusal<R: Realm>(
 }
 
 // Answers a message.
-fn answer_message<W: Wait, R: Realm, G: Gate>(
-    host: &Facilities<'_, W, R, G>,
+fn answer_message<W: Wait, R: Realm, K: Keeps, G: Gate>(
+    host: &Facilities<'_, W, R, K, G>,
     kept: &mut KeptKey,
     pass: &mut Pass<R>,
     cut: &Cut,
     buffer: &[u8],
     now: u64,
-) -> Result<Answered, NoMemory>
+) -> Result<Answered, Unmade>
     requires now { now < year_10000 }
     requires trust { IsOfAccount pass.old.facts.account host.now.trust.now }
     requires message { (m : Message) × CutsOff buffer.now cut.now m }
     ensures answer { (m : Message) → CutsOff buffer.now cut.now m → IfOk result (λ a. Gives pass.old (plan_of host.now.trust.now pass.old.facts.region (whole m) now) a pass.new) }
     ensures wants { (m : Message) → CutsOff buffer.now cut.now m → OnErr result (Wanting pass.old (plan_of host.now.trust.now pass.old.facts.region (whole m) now) pass.new) }
+    ensures unkept { (m : Message) → CutsOff buffer.now cut.now m → result ≡ Err NotKept → Unkept K.keeps pass.old (plan_of host.now.trust.now pass.old.facts.region (whole m) now) pass.new }
 {
     let region = region_of(host.service, pass);
     match early(host.alloc, kept, cut, buffer, host.trust, region, now) {
         Ok(ask) => answer_ask(host, pass, &ask),
-        Err(Early::Fault(refusal)) => answer_refusal(host.alloc, pass, refusal),
-        Err(Early::NoMemory) => Err(NoMemory),
+        Err(Early::Fault(refusal)) => Ok(answer_refusal(host.alloc, pass, refusal)?),
+        Err(Early::NoMemory) => Err(Unmade::NoMemory),
     }
 }
 
 // Answers a message on the link. It is false where the link failed.
-fn respond<W: Wait, R: Realm, L: Link, G: Gate>(
-    host: &Facilities<'_, W, R, G>,
+fn respond<W: Wait, R: Realm, K: Keeps, L: Link, G: Gate>(
+    host: &Facilities<'_, W, R, K, G>,
     kept: &mut Kept,
     pass: &mut Pass<R>,
     link: &mut L,
@@ -175,8 +180,8 @@ fn respond<W: Wait, R: Realm, L: Link, G: Gate>(
     requires trust { IsOfAccount pass.old.facts.account host.now.trust.now }
     requires message { (m : Message) × CutsOff buffer.now cut.now m }
     ensures { (m : Message) → CutsOff buffer.now cut.now m → MatchBool result
-        (Responds pass.old (plan_of host.now.trust.now pass.old.facts.region (whole m) now) now closes (L.shows link.old) (L.shows link.new) pass.new)
-        (RespondsShort pass.old (plan_of host.now.trust.now pass.old.facts.region (whole m) now) now closes (L.shows link.old) (L.shows link.new) pass.new) }
+        (Responds K.keeps pass.old (plan_of host.now.trust.now pass.old.facts.region (whole m) now) now closes (L.shows link.old) (L.shows link.new) pass.new)
+        (RespondsShort K.keeps pass.old (plan_of host.now.trust.now pass.old.facts.region (whole m) now) now closes (L.shows link.old) (L.shows link.new) pass.new) }
 {
     match answer_message(host, &mut kept.key, pass, cut, buffer, now) {
         Ok(a) => send_reply(
@@ -188,12 +193,13 @@ fn respond<W: Wait, R: Realm, L: Link, G: Gate>(
             a.front,
             closes,
         ),
-        Err(NoMemory) => send(link, FIVE_HUNDRED),
+        Err(Unmade::NoMemory) => send(link, FIVE_HUNDRED),
+        Err(Unmade::Unkept) => send(link, NOT_KEPT),
     }
 }
 
 // Answers bytes that are refused. It is false where the link failed.
-fn respond_fault<R: Realm, L: Link>(
+fn respond_fault<R: Realm, K: Keeps, L: Link>(
     room: &mut [u8],
     pass: &Pass<R>,
     link: &mut L,
@@ -202,8 +208,8 @@ fn respond_fault<R: Realm, L: Link>(
 ) -> bool
     requires { now < year_10000 }
     ensures { MatchBool result
-        (Responds pass.now (answered (fault_answer fault)) now true (L.shows link.old) (L.shows link.new) pass.now)
-        (RespondsShort pass.now (answered (fault_answer fault)) now true (L.shows link.old) (L.shows link.new) pass.now) }
+        (Responds K.keeps pass.now (answered (fault_answer fault)) now true (L.shows link.old) (L.shows link.new) pass.now)
+        (RespondsShort K.keeps pass.now (answered (fault_answer fault)) now true (L.shows link.old) (L.shows link.new) pass.now) }
 {
     send_reply(
         room,
@@ -217,8 +223,8 @@ fn respond_fault<R: Realm, L: Link>(
 }
 
 // Awaits one message and answers it.
-fn serve_one<W: Wait, R: Realm, L: Link, C: Clock, G: Gate>(
-    host: &Facilities<'_, W, R, G>,
+fn serve_one<W: Wait, R: Realm, K: Keeps, L: Link, C: Clock, G: Gate>(
+    host: &Facilities<'_, W, R, K, G>,
     kept: &mut Kept,
     pass: &mut Pass<R>,
     clock: &mut C,
@@ -228,8 +234,8 @@ fn serve_one<W: Wait, R: Realm, L: Link, C: Clock, G: Gate>(
 ) -> Option<SessionEnd>
     requires number { number < 100000 }
     requires trust { IsOfAccount pass.old.facts.account host.now.trust.now }
-    ensures goes { (start : Outside) → Serves host.now.trust.now start (outside (L.shows link.old) (C.told clock.old) pass.old) false number inbox.old
-        → GoesOn host.now.trust.now result start (outside (L.shows link.new) (C.told clock.new) pass.new) (number + 1) inbox.new }
+    ensures goes { (start : Outside) → Serves K.keeps host.now.trust.now start (outside (L.shows link.old) (C.told clock.old) pass.old) false number inbox.old
+        → GoesOn K.keeps host.now.trust.now result start (outside (L.shows link.new) (C.told clock.new) pass.new) (number + 1) inbox.new }
     ensures facts { pass.new.facts ≡ pass.old.facts }
 {
     match await_message(inbox, link) {
@@ -249,7 +255,7 @@ fn serve_one<W: Wait, R: Realm, L: Link, C: Clock, G: Gate>(
         }
         Awaited::Bad(fault) => {
             let now = clock.now();
-            if respond_fault(&mut kept.room, pass, link, fault, now) {
+            if respond_fault::<R, K, L>(&mut kept.room, pass, link, fault, now) {
                 host.gate.at(Point::AfterReply);
                 Some(SessionEnd::Closed)
             } else {
@@ -263,10 +269,10 @@ fn serve_one<W: Wait, R: Realm, L: Link, C: Clock, G: Gate>(
 }
 
 // Answers one message after another, to the end.
-fn serve_messages<W: Wait, R: Realm, L: Link, C: Clock, G: Gate>(
+fn serve_messages<W: Wait, R: Realm, K: Keeps, L: Link, C: Clock, G: Gate>(
     rt: &W,
     alloc: Global,
-    service: &Service<R>,
+    service: &Service<R, K>,
     pass: &mut Pass<R>,
     trust: &Trust,
     clock: &mut C,
@@ -274,7 +280,7 @@ fn serve_messages<W: Wait, R: Realm, L: Link, C: Clock, G: Gate>(
     gate: &G,
 ) -> SessionEnd
     requires { IsOfAccount pass.old.facts.account trust.now }
-    ensures { EndsBy trust.now result (outside (L.shows link.old) (C.told clock.old) pass.old)
+    ensures { EndsBy K.keeps trust.now result (outside (L.shows link.old) (C.told clock.old) pass.old)
         (outside (L.shows link.new) (C.told clock.new) pass.new) }
 {
     let Ok(mut inbox) = Inbox::new(alloc) else {
@@ -313,16 +319,17 @@ fn serve_messages<W: Wait, R: Realm, L: Link, C: Clock, G: Gate>(
 /// taken, and nothing is read while it holds a whole message. The signing key of the last credential and day
 /// is kept for the connection, with that credential's secret (`KeptKey`); no answer depends on it. Where the service has one pass, each change finds
 /// the history that the pass held before it, and leaves exactly the pass's own entries. It makes at most 100,000 answers. The gate
-/// is called at `AfterReply` once each reply was written whole.
+/// is called at `AfterReply` once each reply was written whole. Where the service keeps its changes, a change that couldn't be kept is
+/// answered by a reply that says so (`isnt_kept` of `Replies`), and isn't made.
 ///
 /// Where the link has only whole messages to give, or some up to one that closes, and its counts of faults don't rise, each is
 /// answered once and in order, nothing else is written, and the end is `Ended`, or `Closed` where the last one closes; or it is
 /// `NoMemory` with nothing taken (`IsComplete`). Where the bytes taken are told, no two of `Ended`, `Closed` and `CutOff` can hold,
 /// but of bytes that no head can come of or that have more than 64 headers (`IsOneEnd`).
-pub fn serve_session<W: Wait, R: Realm, L: Link, C: Clock, G: Gate>(
+pub fn serve_session<W: Wait, R: Realm, K: Keeps, L: Link, C: Clock, G: Gate>(
     rt: &W,
     alloc: Global,
-    service: &Service<R>,
+    service: &Service<R, K>,
     pass: &mut Pass<R>,
     trust: &Trust,
     clock: &mut C,
@@ -330,10 +337,10 @@ pub fn serve_session<W: Wait, R: Realm, L: Link, C: Clock, G: Gate>(
     gate: &G,
 ) -> SessionEnd
     requires { IsOfAccount pass.old.facts.account trust.now }
-    ensures ends { EndsBy trust.now result (outside (L.shows link.old) (C.told clock.old) pass.old) (outside (L.shows link.new) (C.told clock.new) pass.new) }
-    ensures complete { IsComplete trust.now result (outside (L.shows link.old) (C.told clock.old) pass.old) (outside (L.shows link.new) (C.told clock.new) pass.new) }
+    ensures ends { EndsBy K.keeps trust.now result (outside (L.shows link.old) (C.told clock.old) pass.old) (outside (L.shows link.new) (C.told clock.new) pass.new) }
+    ensures complete { IsComplete K.keeps trust.now result (outside (L.shows link.old) (C.told clock.old) pass.old) (outside (L.shows link.new) (C.told clock.new) pass.new) }
     ensures one { TellsTaken (outside (L.shows link.old) (C.told clock.old) pass.old) (outside (L.shows link.new) (C.told clock.new) pass.new)
-        → IsOneEnd trust.now (outside (L.shows link.old) (C.told clock.old) pass.old) (outside (L.shows link.new) (C.told clock.new) pass.new) }
+        → IsOneEnd K.keeps trust.now (outside (L.shows link.old) (C.told clock.old) pass.old) (outside (L.shows link.new) (C.told clock.new) pass.new) }
 {
     serve_messages(rt, alloc, service, pass, trust, clock, link, gate)
 }

@@ -10,7 +10,7 @@ use Rattle.session_front.specs.declared.ends.SessionEnd.{SessionEnd}
 use Rattle.session_front.specs.declared.ends.SessionEnd.TheVariants.{Ended, Closed, CutOff, ReadFault, WriteFault, NoMemory}
 use Rattle.session_front.specs.Items.{Item}
 use Rattle.session_front.specs.Runs.{begins, goes_on}
-use Rattle.kms_session.specs.Run.{Plan, Replies, answers, wants_memory, SessionRun}
+use Rattle.kms_session.specs.Run.{Plan, Replies, answers, wants_memory, isnt_kept, SessionRun}
 use Rattle.session_front.specs.Session.{outside}
 use Rattle.kms_session.specs.Session.{Outside, Serves, EndsBy}
 use Rattle.kms_workload.specs.Facts.{load_facts, load_trust}
@@ -30,12 +30,13 @@ record Statuses (text : List ℕ) (count : ℕ) : Type 0 where
   are : AreReplies text statuses
   number : length statuses ≡ count
 
-reply_of : {s t : Pass} {plan : Plan} {c : ℕ} {closes : Bool} {text : List ℕ} → Replies s plan c closes text t → (status : ℕ) × IsReply status text
+reply_of : {s t : Pass} {plan : Plan} {c : ℕ} {closes : Bool} {text : List ℕ} → Replies false s plan c closes text t → (status : ℕ) × IsReply status text
 reply_of {t = t} {c = c} {closes = closes} (answers answer is text) = (answer.status, replies answer c (length t.history) closes text refl)
 reply_of (wants_memory is text) = (500, wants text refl)
+reply_of (isnt_kept is text) = let bad : false ≡ true = is.does in cc
 
 -- a run has a reply for each item
-run_statuses : (trust : Trust) {start pass : Pass} {items : List Item} {clocks text : List ℕ} → SessionRun start trust pass items clocks text → Statuses text (length items)
+run_statuses : (trust : Trust) {start pass : Pass} {items : List Item} {clocks text : List ℕ} → SessionRun false start trust pass items clocks text → Statuses text (length items)
 run_statuses trust begins = record { statuses = []; are = no_reply; number = refl }
 run_statuses trust (goes_on {items = items} {reply = reply} item c early run turn) =
     let so_far = run_statuses trust run in
@@ -60,7 +61,7 @@ abbrev pub before : ℕ → ℕ → Outside
 before seed requests = outside (wire_before (workload_of seed requests)) (Some []) (fresh_pass load_facts 1 [] 1)
 
 of_serves : (seed requests : ℕ) (pass : Pass) (made : pass.own ≡ first_places (length pass.history)) (new : Wire) (later : Option (List ℕ)) (text left : List ℕ) (closes : Bool) (count : ℕ) (rest : List ℕ)
-    → Serves load_trust (before seed requests) (outside new later pass) closes count rest → (closes ≡ false → (rest ≡ []) × (left ≡ []))
+    → Serves false load_trust (before seed requests) (outside new later pass) closes count rest → (closes ≡ false → (rest ≡ []) × (left ≡ []))
     → new.written ≡ Some text → new.left ≡ Some left → later ≡ Some (seconds_of requests)
     → ((statuses : List ℕ) → AreReplies text statuses → length statuses ≡ requests) → Made seed requests pass text
 of_serves seed requests pass made new later text left closes count rest s ends wrote stays tells counts =
@@ -82,8 +83,8 @@ of_serves seed requests pass made new later text left closes count rest s ends w
         cuts = s.cuts;
         to_end = ends;
         each = sym told.number ∙ number;
-        run = subst (λ (t : List ℕ). SessionRun (fresh_pass load_facts 1 [] 1) load_trust pass s.items (seconds_of requests) t) out
-            (subst (λ (cs : List ℕ). SessionRun (fresh_pass load_facts 1 [] 1) load_trust pass s.items cs s.text) clocks s.run);
+        run = subst (λ (t : List ℕ). SessionRun false (fresh_pass load_facts 1 [] 1) load_trust pass s.items (seconds_of requests) t) out
+            (subst (λ (cs : List ℕ). SessionRun false (fresh_pass load_facts 1 [] 1) load_trust pass s.items cs s.text) clocks s.run);
         made_all = made;
         replies = are;
         counted = number;
@@ -91,7 +92,7 @@ of_serves seed requests pass made new later text left closes count rest s ends w
     }
 
 pub of_end : (seed requests : ℕ) (end : SessionEnd) (pass : Pass) (made : pass.own ≡ first_places (length pass.history)) (new : Wire) (later : Option (List ℕ)) (text left : List ℕ)
-    → EndsBy load_trust end (before seed requests) (outside new later pass) → is_over end ≡ true
+    → EndsBy false load_trust end (before seed requests) (outside new later pass) → is_over end ≡ true
     → new.written ≡ Some text → new.left ≡ Some left → later ≡ Some (seconds_of requests)
     → ((statuses : List ℕ) → AreReplies text statuses → length statuses ≡ requests) → Made seed requests pass text
 of_end seed requests Ended pass made new later text left ends over wrote stays tells counts =

@@ -10,10 +10,10 @@ use Rattle.session_front.specs.Session.{outside}
 use Rattle.kms_session.specs.Session.{EndsBy}
 use Rattle.kms_workload.specs.declared.serve.Past.{Past}
 
--- one session is served from an empty history by the one pass of a service, and ends so, with so many entries, all its own
+-- one session is served from an empty history by the one pass of a service that keeps nothing, and ends so, with so many entries, all its own
 pub record Serving (facts : RealmFacts) (trust : Trust) (past : Past) (old : Wire) (told : Option (List ℕ)) (new : Wire) (later : Option (List ℕ)) : Type 0 where
   pub pass : Pass
-  pub ends : EndsBy trust past.end (outside old told (fresh_pass facts 1 [] 1)) (outside new later pass)
+  pub ends : EndsBy false trust past.end (outside old told (fresh_pass facts 1 [] 1)) (outside new later pass)
   pub front : past.front ≡ length pass.history
   pub made_all : pass.own ≡ first_places (length pass.history)
 

@@ -29,7 +29,7 @@ pub record IsSessionOf (seed requests : ℕ) (pass : Pass) (text statuses : List
   pub cuts : Cuts input closes items rest
   pub to_end : closes ≡ false → (rest ≡ []) × (unread ≡ [])
   pub each : length items ≡ requests
-  pub run : SessionRun (fresh_pass load_facts 1 [] 1) load_trust pass items (seconds_of requests) text
+  pub run : SessionRun false (fresh_pass load_facts 1 [] 1) load_trust pass items (seconds_of requests) text
   pub made_all : pass.own ≡ first_places (length pass.history)
   pub replies : AreReplies text statuses
   pub counted : length statuses ≡ requests

@@ -12,7 +12,7 @@ use crate::facts::{facts, trust};
 use kms_io::{Gate, MemoryLink};
 use kms_names::NoMemory;
 use kms_session::{SessionEnd, Trust, serve_session};
-use publish_pass::{Opening, Realm, open_service};
+use publish_pass::{Nothing, Opening, Realm, open_service};
 use std::alloc::Global;
 use std::marker::Brand;
 use std::sync::{MutexGuard, Wait};
@@ -41,7 +41,7 @@ fn serve_opening<W: Wait, R: Realm, G: Gate>(
     requires trust { IsOfAccount opening.shown.whole.facts.account trust.now }
     ensures { IfOk result (λ past. Serving opening.shown.whole.facts trust.now past (wire_of link.old) (seconds_so_far clock.old) (wire_of link.new) (seconds_so_far clock.new)) }
 {
-    let (service, mut passes) = open_service::<W, R>(rt, alloc, opening)?;
+    let (service, mut passes) = open_service::<W, R, Nothing>(rt, alloc, opening, Nothing)?;
     let pass = &mut passes[0];
     let end = serve_session(rt, alloc, &service, pass, trust, clock, link, gate);
     let _ = MutexGuard::unlock(pass.settle(rt, &service));

@@ -13,7 +13,7 @@ ghost use Rattle.published_account.specs.Rules.{Names};
 use account_steps::RealmFacts;
 use authority::{IdentityList, PolicyList};
 use kms_names::{AccountNumber, NoMemory, Text};
-use publish_pass::{Opening, Realm, open_service};
+use publish_pass::{Nothing, Opening, Realm, open_service};
 use requests::{Failure, Stage};
 use std::alloc::Global;
 use std::marker::Brand;
@@ -51,7 +51,7 @@ fn hold<R: Realm + Send + Sync, W: rt::Runtime<A = Global> + Threads + Wait + Sy
     requires names { Names R.book R.facts R.passes R.loaded opening.shown }
     requires facts { facts.now ≡ opening.shown.whole.facts }
 {
-    let (service, mut passes) = open_service::<W, R>(rt, rt.alloc(), opening)?;
+    let (service, mut passes) = open_service::<W, R, Nothing>(rt, rt.alloc(), opening, Nothing)?;
     let host = Stage {
         rt,
         alloc: rt.alloc(),

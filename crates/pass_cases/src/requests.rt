@@ -8,7 +8,7 @@ use account_steps::RealmFacts;
 use kms_io::Gate;
 use kms_json::{Ask, JsonFault, read_ask};
 use kms_names::{NoMemory, Principal, Text};
-use publish_pass::{Answered, Pass, Realm, Service, Unread};
+use publish_pass::{Answered, Nothing, Pass, Realm, Service, Unmade, Unread};
 use std::alloc::{AllocError, Global};
 use std::io;
 use std::sync::Wait;
@@ -88,6 +88,12 @@ pub enum Failure {
     Unlike,
 }
 
+impl From<Unmade> for Failure {
+    fn from(_e: Unmade) -> Failure {
+        Failure::from(NoMemory)
+    }
+}
+
 impl From<NoMemory> for Failure {
     fn from(_e: NoMemory) -> Failure {
         Failure::Stage(io::ErrorKind::OutOfMemory)
@@ -120,7 +126,7 @@ impl From<JsonFault> for Failure {
 pub struct Stage<'a, W: Wait, R: Realm> {
     pub rt: &'a W,
     pub alloc: Global,
-    pub service: &'a Service<R>,
+    pub service: &'a Service<R, Nothing>,
     pub facts: &'a RealmFacts,
 }
 
@@ -151,14 +157,14 @@ fn change_or_read<R: Realm, W: Wait, G: Gate>(
     pass: &mut Pass<R>,
     ask: &Ask,
     gate: &G,
-) -> Result<Answered, NoMemory>
+) -> Result<Answered, Unmade>
     requires { IsProper R.facts ask.now }
 {
     let _ = pass.seen();
     if ask.changes() {
         return pass.change(host.rt, host.alloc, host.service, ask, gate);
     }
-    read(host.rt, host.alloc, pass, ask)
+    Ok(read(host.rt, host.alloc, pass, ask)?)
 }
 
 /// What a pass answers to a request.

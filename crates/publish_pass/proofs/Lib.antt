@@ -3,3 +3,4 @@ pub mod Meeting
 pub mod OwnPlaces
 mod Lookups
 mod Agreeing
+pub mod Between

@@ -1,7 +1,7 @@
 -- A pass that learns more and more, and what is done at the desk of one that has met it.
 use Rattle.std.proofs.Common.{◌≡◌, ◌<◌, ℕ, refl, ap, ◌∙◌, sym, subst, arith, None, Result, Ok, Err}
 use Rattle.std.specs.Result.{IfOk}
-use Rattle.kms_names.specs.declared.faults.NoMemory.{NoMemory}
+use Rattle.keepers.specs.declared.keeps.Unmade.{Unmade}
 use Rattle.kms_json.specs.declared.asks.Ask.{Ask}
 use Rattle.published_account.specs.declared.answered.Answered.{Answered}
 use Rattle.account_steps.specs.History.{housekeeping_of}
@@ -29,7 +29,7 @@ module _ (s u t : Pass) (met : Learns s u) (knew : KnewAllIfAlone s u) (all : Ma
       let after : MadeAllIfAlone t = subst MadeAllIfAlone (sym h.decides.made) (all_and_any _ _ (all_and_any u _ all)) in
       record { reply = h.reply; changes = record { met = u; seen = met; decides = h.decides; knew = knew; made_all = after }; answer = h.answer; front = h.front }
 
-  pub changed_if : (x : Ask) (r : Result Answered NoMemory) (desk : Pairs) → IfOk r (λ a. AnswersAtDesk u x a t × (desk ≡ t.history)) → IfOk r (λ a. AnswersChange s x a t)
+  pub changed_if : (x : Ask) (r : Result Answered Unmade) (desk : Pairs) → IfOk r (λ a. AnswersAtDesk u x a t × (desk ≡ t.history)) → IfOk r (λ a. AnswersChange s x a t)
   changed_if x (Ok a) desk h = changed_on x a h.0
   changed_if x (Err why) desk h = tt
 

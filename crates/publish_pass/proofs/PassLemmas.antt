@@ -3,7 +3,6 @@ use Rattle.std.proofs.Common.{◌≡◌, ◌<◌, ◌==◌, ℕ, ◌+◌, List, 
 use Rattle.kms_names.specs.Moment.{year_10000}
 use Rattle.std.specs.Result.{IfOk, OnOk, OnErr}
 use Rattle.std.proofs.lemmas.List.{length-map}
-use Rattle.kms_names.specs.declared.faults.NoMemory.{NoMemory}
 use Rattle.published_account.specs.declared.answered.Answered.{Answered}
 use Rattle.published_account.specs.Answers.{answer_in, answer_of}
 use Rattle.kms_json.specs.declared.asks.Ask.{Ask}
@@ -16,7 +15,7 @@ use Rattle.account_core.specs.declared.decide.Decision.{Decision}
 use Rattle.account_core.specs.declared.decide.Decision.TheVariants.{Refused, Served, Change}
 use Rattle.account_steps.specs.History.{housekeeping_of}
 use Rattle.account_core.specs.Account.{Account}
-use Rattle.account_core.specs.Decide.{decision_by, decision_of, IsNext, appended, kept, IsProper}
+use Rattle.account_core.specs.Decide.{decide, decision_by, decision_of, IsNext, appended, kept, IsProper}
 use Rattle.account_steps.specs.Places.{no_places}
 use Rattle.account_core.proofs.GoingOn.{same_reply, same_entry}
 use Rattle.published_account.specs.Pairs.{entries_of}
@@ -83,15 +82,21 @@ module _ (s : Pass) (x : Ask) (account : Account) (facts : account.facts ≡ s.f
         answer = parts.1 ∙ same_reply s.facts (entries_of s.history) x no_places s.places changing;
       }
 
+  -- the entry that it makes
+  pub entry_here : (entry : Entry) (reply : Reply) → Change entry reply ≡ decision_of account.facts account.entries x → (decide s.facts (entries_of s.history) x s.places).entry ≡ Some entry
+  entry_here entry reply gives =
+      let parts = change_parts entry reply _ _ (decision_here (Change entry reply) gives) in
+      sym (sym parts.0 ∙ same_entry s.facts (entries_of s.history) x no_places s.places changing)
+
   -- what is handed on of it
-  pub answers_none : (r : Result Answered NoMemory) (front : ℕ) (reply : Reply) (d : Decision) → (d ≡ Refused reply) ⊎ (d ≡ Served reply) → d ≡ decision_of account.facts account.entries x
+  pub answers_none : {E : Type 0} (r : Result Answered E) (front : ℕ) (reply : Reply) (d : Decision) → (d ≡ Refused reply) ⊎ (d ≡ Served reply) → d ≡ decision_of account.facts account.entries x
       → front ≡ length s.history → (desk : List (Entry × ℕ)) → desk ≡ s.history → IfOk r (λ a. (a.front ≡ front) × (answer_in a ≡ answer_of reply))
       → IfOk r (λ a. AnswersHere s x a s × (desk ≡ s.history))
   answers_none (Ok a) front reply d is gives counted desk same given =
       (record { reply = reply; decides = decides_none reply d is gives; answer = given.1; front = given.0 ∙ counted }, same)
   answers_none (Err why) front reply d is gives counted desk same given = tt
 
-  pub answers_one : (r : Result Answered NoMemory) (entry : Entry) (reply : Reply) → Change entry reply ≡ decision_of account.facts account.entries x → (t : Pass) (desk : List (Entry × ℕ))
+  pub answers_one : {E : Type 0} (r : Result Answered E) (entry : Entry) (reply : Reply) → Change entry reply ≡ decision_of account.facts account.entries x → (t : Pass) (desk : List (Entry × ℕ))
       → OnOk r ((desk ≡ t.history) × (t ≡ making s entry)) → IfOk r (λ a. (a.front ≡ length t.history) × (answer_in a ≡ answer_of reply))
       → IfOk r (λ a. AnswersHere s x a t × (desk ≡ t.history))
   answers_one (Ok a) entry reply gives t desk made given =

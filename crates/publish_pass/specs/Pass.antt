@@ -127,9 +127,13 @@ abbrev pub LacksRead : Pass → Ask → Unread → Pass → Type 0
 LacksRead s x NotEntered t = Misses s t
 LacksRead s x NoMemory t = Wants s x t × (t.missed ≡ s.missed)
 
+-- the pass after the decision
+abbrev pub deciding : Pass → Ask → Pass
+deciding s x = making_any s (decide s.facts (entries_of s.history) x s.places).entry
+
 -- the decision, whose entry is the last of the history
 pub record Decides (s : Pass) (x : Ask) (reply : Reply) (t : Pass) : Type 0 where
-  pub made : t ≡ making_any s (decide s.facts (entries_of s.history) x s.places).entry
+  pub made : t ≡ deciding s x
   pub answer : reply ≡ (decide s.facts (entries_of s.history) x s.places).reply
 
 -- what is answered by the decision at what the pass holds

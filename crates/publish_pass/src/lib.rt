@@ -15,6 +15,7 @@ mod told;
 
 pub use account_steps::RealmFacts;
 pub use desk::Desk;
+pub use keepers::{Keeps, Nothing, Unmade};
 pub use kms_io::{Gate, Point};
 pub use kms_json::Ask;
 pub use opening::{Opening, open_loaded, open_service};

@@ -1,7 +1,8 @@
 // What a service is opened from.
-ghost use Rattle.std.specs.Prelude.{◌≡◌, ◌+◌, ◌<◌, ◌≤◌, [], length, drop, IfOk};
+ghost use Rattle.std.specs.Prelude.{◌≡◌, ◌+◌, ◌<◌, ◌≤◌, [], length, drop, IfOk, IsTrue};
 ghost use Rattle.left_right.specs.Sides.{view};
 ghost use Rattle.publish_pass.specs.Pass.{fresh_pass, fresh_passes};
+ghost use Rattle.keepers.specs.Keeping.{IsKept};
 ghost use Rattle.published_account.specs.Pairs.{IsHistory, entries_of, loaded_pairs, whole_of};
 ghost use Rattle.published_account.specs.Rules.{Knows, Names};
 
@@ -11,6 +12,7 @@ use crate::service::Service;
 use crate::told::Told;
 use account_core::Account;
 use account_steps::{RealmFacts, draw_line};
+use keepers::Keeps;
 use kms_names::{NoMemory, Text};
 use published_account::{Copies, Entrance, Notes, Prefix, Published, Realm, Unnamed, Window, warm};
 use std::alloc::Global;
@@ -210,15 +212,17 @@ fn equip<R: Realm>(
 }
 
 /// Opens a service: what the passes share, and the passes, with the numbers 1 to n in order. They have seen
-/// what was loaded alone, made no entry, and used nothing. The realm's members are the opening's. Where it is
-/// refused, the opening is gone.
-pub fn open_service<W: Wait, R: Realm>(
+/// what was loaded alone, made no entry, and used nothing. The realm's members are the opening's. The keeper has kept what
+/// was loaded. Where it is refused, the opening and the keeper are gone.
+pub fn open_service<W: Wait, R: Realm, K: Keeps>(
     rt: &W,
     alloc: Global,
     opening: Opening,
-) -> Result<(Service<R>, Vec<Pass<R>>), NoMemory>
+    keeper: K,
+) -> Result<(Service<R, K>, Vec<Pass<R>>), NoMemory>
     requires ledger { (opening.name ≡ R.name) × (opening.parts ≡ R.parts) }
     requires names { Names R.book R.facts R.passes R.loaded opening.shown }
+    requires kept { IsTrue K.keeps → IsKept (K.tells R.facts) K.is_open K.moment K.left_since (K.reads R.facts) R.started R.loaded keeper (entries_of opening.shown.whole.pairs) }
     ensures passes { IfOk result (λ opened. opened.1.items ≡ fresh_passes R.facts R.passes (entries_of opening.shown.whole.pairs) R.passes) }
     ensures loaded { IfOk result (λ opened. length (entries_of opening.shown.whole.pairs) ≡ R.loaded) }
 {
@@ -237,7 +241,7 @@ pub fn open_service<W: Wait, R: Realm>(
             Err(error)
         }
         Ok((all, region)) => {
-            let desk = Desk::new(writer, head, book);
+            let desk = Desk::new(writer, head, book, keeper);
             Ok((Service::new(desk, Told::new(prefix), passes, region), all))
         }
     }

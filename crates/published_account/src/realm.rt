@@ -3,8 +3,8 @@ use std::marker::Brand;
 use std::sync::ledger::Ledger;
 
 /// What the values of one opening have in common: the name and the parts of the ledger, the book in which
-/// the history stands, the facts of the account, the number of passes, and how many entries were loaded. It
-/// has no call, and contracts alone see its members.
+/// the history stands, the facts of the account, the number of passes, how many entries were loaded, and the moment since which
+/// what keeps the history has kept it. It has no call, and contracts alone see its members.
 pub trait Realm: Ledger {
     ghost use Rattle.std.specs.Prelude.{ℕ};
     ghost use Rattle.logbook.specs.Pages.{Book};
@@ -17,6 +17,8 @@ pub trait Realm: Ledger {
     ghost passes: { ℕ };
 
     ghost loaded: { ℕ };
+
+    ghost started: { ℕ };
 }
 
 impl Realm for Brand {
@@ -29,4 +31,6 @@ impl Realm for Brand {
     ghost passes = { 0 };
 
     ghost loaded = { 0 };
+
+    ghost started = { 0 };
 }

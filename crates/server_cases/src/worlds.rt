@@ -5,6 +5,7 @@ ghost use Rattle.session_front.specs.Callers.{IsOfAccount};
 use account_core::Account;
 use account_steps::RealmFacts;
 use authority::{IdentityList, PolicyList};
+use keepers::Nothing;
 use kms_io::{Door, Ear, Gate, MemoryClock};
 use kms_names::{AccountNumber, NoMemory, Principal, Text};
 use kms_server::{Order, Outcome, serve};
@@ -119,15 +120,17 @@ impl<'a, W: Wait> World<'a, W> {
         let facts = self.facts.copy()?;
         let trust = trust(self.alloc, facts.account)?;
         let account = Account::empty(self.alloc, facts)?;
-        Ok(serve(
+        let (outcome, _nothing) = serve(
             self.rt,
             self.alloc,
             account,
+            Nothing,
             &trust,
             &order,
             &mut clocks,
             door,
             gate,
-        ))
+        );
+        Ok(outcome)
     }
 }

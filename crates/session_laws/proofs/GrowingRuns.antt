@@ -11,7 +11,7 @@ use Rattle.published_account.proofs.Lists.{prefix_self, prefix_push, prefix_tran
 use Rattle.session_front.specs.declared.trust.Trust.{Trust}
 use Rattle.session_front.specs.Items.{Item}
 use Rattle.session_front.specs.Runs.{begins, goes_on}
-use Rattle.kms_session.specs.Run.{Plan, Answers, early, reads, changes, Wanting, wants_nothing, wants_read, wants_change, Replies, answers, wants_memory, SessionRun}
+use Rattle.kms_session.specs.Run.{Plan, Answers, early, reads, changes, Wanting, wants_nothing, wants_read, wants_change, Replies, answers, wants_memory, isnt_kept, SessionRun}
 use Rattle.session_laws.specs.Laws.{TurnsGoOn, RunsGoOn}
 
 abbrev On : Pass → Pass → Type 0
@@ -51,17 +51,18 @@ wanting_on s plan t (wants_nothing same) = on_same s t same
 wanting_on s plan t (wants_read x is which h) = read_on s h.met t h.seen.history (ap (λ (p : Pass). p.history) h.used)
 wanting_on s plan t (wants_change x is which h) = on_trans s h.met t h.seen.history (left_on h.met t x.moment h.left)
 
-reply_on : (s : Pass) (plan : Plan) (c : ℕ) (closes : Bool) (text : List ℕ) (t : Pass) → Replies s plan c closes text t → On s t
+reply_on : {keeping : Bool} (s : Pass) (plan : Plan) (c : ℕ) (closes : Bool) (text : List ℕ) (t : Pass) → Replies keeping s plan c closes text t → On s t
 reply_on s plan c closes text t (answers answer h is) = answer_on s plan answer t h
 reply_on s plan c closes text t (wants_memory h is) = wanting_on s plan t h
+reply_on s plan c closes text t (isnt_kept h is) = wanting_on s plan t (wants_change h.ask h.asked h.changes h.left)
 
 pub turns_go_on : TurnsGoOn
-turns_go_on s trust item c closes text t turn = reply_on s _ c closes text t turn
+turns_go_on keeping s trust item c closes text t turn = reply_on s _ c closes text t turn
 
-run_on : (trust : Trust) (start end : Pass) (items : List Item) (clocks text : List ℕ) → SessionRun start trust end items clocks text → On start end
+run_on : {keeping : Bool} (trust : Trust) (start end : Pass) (items : List Item) (clocks text : List ℕ) → SessionRun keeping start trust end items clocks text → On start end
 run_on trust start end items clocks text begins = prefix_self start.history
 run_on trust start end items clocks text (goes_on {old = old} item c before run turn) =
     on_trans start old end (run_on trust start old _ _ _ run) (reply_on old _ c _ _ end turn)
 
 pub runs_go_on : RunsGoOn
-runs_go_on trust start end items clocks text run = run_on trust start end items clocks text run
+runs_go_on keeping trust start end items clocks text run = run_on trust start end items clocks text run

@@ -107,6 +107,6 @@ of_each facts passes front loaded (first ∷ others) did longest made =
     (numbers facts passes loaded history passes (first ∷ others) did fronts, whole facts passes loaded history passes (first ∷ others) did fronts as_many)
 
 pub workers_made_all : WorkersMadeAll
-workers_made_all first trust wanted served kept old new of serves =
-    of_each first.facts wanted.workers served.front first.entries serves.finishes.last (servers_are_calls first trust wanted served kept old new of serves)
+workers_made_all keeping first trust wanted history served kept old new of serves =
+    of_each first.facts wanted.workers served.front first.entries serves.finishes.last (servers_are_calls keeping first trust wanted history served kept old new of serves)
     serves.finishes.longest serves.finishes.made

@@ -104,6 +104,6 @@ of_all facts p front loaded (first ∷ others) did longest own machine =
     ran_together facts p loaded first.pass.history (first ∷ others) did refl longest.is_history (All-cons Begins first others (prefix_self first.pass.history) longest.begins) own machine
 
 pub servers_are_one_run : WorkersMadeAll → PassesAreTheMachine → ServersAreOneRun
-servers_are_one_run made machine first trust wanted served kept old new of serves did =
-    let own = made first trust wanted served kept old new of serves in
+servers_are_one_run made machine keeping first trust wanted history served kept old new of serves did =
+    let own = made keeping first trust wanted history served kept old new of serves in
     of_all first.facts wanted.workers served.front first.entries serves.finishes.last did serves.finishes.longest own.1 machine

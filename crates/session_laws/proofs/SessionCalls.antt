@@ -20,7 +20,7 @@ use Rattle.session_front.specs.declared.ends.SessionEnd.TheVariants.{Ended, Clos
 use Rattle.session_front.specs.Callers.{IsOfAccount}
 use Rattle.session_front.specs.Items.{Item, whole, fault}
 use Rattle.session_front.specs.Runs.{begins, goes_on}
-use Rattle.kms_session.specs.Run.{asks, plan_by, plan_of, Answers, early, reads, changes, Wanting, wants_nothing, wants_read, wants_change, Replies, answers, wants_memory, SessionRun}
+use Rattle.kms_session.specs.Run.{asks, plan_by, plan_of, Answers, early, reads, changes, Wanting, wants_nothing, wants_read, wants_change, Replies, answers, wants_memory, isnt_kept, Unkept, SessionRun}
 use Rattle.kms_session.specs.Session.{Outside}
 use Rattle.session_front.specs.Early.{ask_of}
 use Rattle.session_front.proofs.Asks.{is_ask_at}
@@ -67,59 +67,60 @@ module _ (trust : Trust) (item : Item) (c : ℕ) (before : c < year_10000) (s : 
   wanting_calls t (wants_read x plan which h) = one_call s t h.met.history (wanted_to_read x (proper_here x plan) which h refl)
   wanting_calls t (wants_change x plan which h) = one_call s t h.met.history (wanted_to_change x (proper_here x plan) h refl)
 
-  turn_calls : (closes : Bool) (text : List ℕ) (t : Pass) → Replies s (plan_of trust s.facts.region item c) c closes text t → Calls s t
+  turn_calls : {keeping : Bool} (closes : Bool) (text : List ℕ) (t : Pass) → Replies keeping s (plan_of trust s.facts.region item c) c closes text t → Calls s t
   turn_calls closes text t (answers answer h is) = answer_calls answer t h
   turn_calls closes text t (wants_memory h is) = wanting_calls t h
+  turn_calls closes text t (isnt_kept h is) = wanting_calls t (wants_change h.ask h.asked h.changes h.left)
 
 pub turns_are_calls : TurnsAreCalls
-turns_are_calls trust item c closes text s t of before turn = turn_calls trust item c before s of closes text t turn
+turns_are_calls keeping trust item c closes text s t of before turn = turn_calls trust item c before s of closes text t turn
 
 -- ---- a run, a session
 
 still_of : (trust : Trust) (s t : Pass) → IsOfAccount s.facts.account trust → t.facts ≡ s.facts → IsOfAccount t.facts.account trust
 still_of trust s t of same = subst (λ (f : RealmFacts). IsOfAccount f.account trust) (sym same) of
 
-run_calls : (trust : Trust) (start end : Pass) (items : List Item) (clocks text : List ℕ) → IsOfAccount start.facts.account trust → SessionRun start trust end items clocks text → Calls start end
+run_calls : {keeping : Bool} (trust : Trust) (start end : Pass) (items : List Item) (clocks text : List ℕ) → IsOfAccount start.facts.account trust → SessionRun keeping start trust end items clocks text → Calls start end
 run_calls trust start end items clocks text of begins = no_call
 run_calls trust start end items clocks text of (goes_on {old = old} item c before run turn) =
     let so_far = run_calls trust start old _ _ _ of run in
     calls_append start old end so_far (turn_calls trust item c before old (still_of trust start old of (calls_facts start old so_far)) _ _ end turn)
 
 pub runs_are_calls : RunsAreCalls
-runs_are_calls trust start end items clocks text of run = run_calls trust start end items clocks text of run
+runs_are_calls keeping trust start end items clocks text of run = run_calls trust start end items clocks text of run
 
 pub sessions_are_calls : SessionsAreCalls
-sessions_are_calls trust Ended old new of is = run_calls trust old.state new.state _ _ _ of is.serves.run
-sessions_are_calls trust Closed old new of is = run_calls trust old.state new.state _ _ _ of is.serves.run
-sessions_are_calls trust CutOff old new of is = run_calls trust old.state new.state _ _ _ of is.serves.run
-sessions_are_calls trust ReadFault old new of is = run_calls trust old.state new.state _ _ _ of is.serves.run
-sessions_are_calls trust WriteFault old new of is =
+sessions_are_calls keeping trust Ended old new of is = run_calls trust old.state new.state _ _ _ of is.serves.run
+sessions_are_calls keeping trust Closed old new of is = run_calls trust old.state new.state _ _ _ of is.serves.run
+sessions_are_calls keeping trust CutOff old new of is = run_calls trust old.state new.state _ _ _ of is.serves.run
+sessions_are_calls keeping trust ReadFault old new of is = run_calls trust old.state new.state _ _ _ of is.serves.run
+sessions_are_calls keeping trust WriteFault old new of is =
     let so_far = run_calls trust old.state is.so_far.state _ _ _ of is.serves.run in
     calls_append old.state is.so_far.state new.state so_far
     (turn_calls trust is.item is.c is.before_year_10000 is.so_far.state (still_of trust old.state is.so_far.state of (calls_facts old.state is.so_far.state so_far)) _ _ new.state is.step)
-sessions_are_calls trust NoMemory old new of is = stays old.state new.state (ap (λ (o : Outside). o.state) is)
+sessions_are_calls keeping trust NoMemory old new of is = stays old.state new.state (ap (λ (o : Outside). o.state) is)
 
 -- ---- a worker
 
-attends_calls : (trust : Trust) (old new : WorkerState) (wire : _) → IsOfAccount old.pass.facts.account trust → Attends trust old wire new → Calls old.pass new.pass
+attends_calls : {keeping : Bool} (trust : Trust) (old new : WorkerState) (wire : _) → IsOfAccount old.pass.facts.account trust → Attends keeping trust old wire new → Calls old.pass new.pass
 attends_calls trust old new wire of is =
     let first = learns old.pass is.met is.learns in
-    let session = sessions_are_calls trust is.end _ _ (still_of trust old.pass is.met of (calls_facts old.pass is.met first)) is.ends in
+    let session = sessions_are_calls _ trust is.end _ _ (still_of trust old.pass is.met of (calls_facts old.pass is.met first)) is.ends in
     calls_append old.pass is.left new.pass (calls_append old.pass is.met is.left first session)
     (one_call is.left new.pass is.house.met.history (wanted_to_keep_house is.moment is.before_year_10000 is.house refl))
 
-takes_calls : (trust : Trust) (old new : WorkerState) → IsOfAccount old.pass.facts.account trust → TakesOne trust old new → Calls old.pass new.pass
+takes_calls : {keeping : Bool} (trust : Trust) (old new : WorkerState) → IsOfAccount old.pass.facts.account trust → TakesOne keeping trust old new → Calls old.pass new.pass
 takes_calls trust old new of is = subst (λ (w : WorkerState). Calls old.pass w.pass) (sym is.one_more) (attends_calls trust _ is.served is.wire of is.attends)
 
-worker_calls : (trust : Trust) (start end : WorkerState) → IsOfAccount start.pass.facts.account trust → WorkerRun trust start end → Calls start.pass end.pass
+worker_calls : {keeping : Bool} (trust : Trust) (start end : WorkerState) → IsOfAccount start.pass.facts.account trust → WorkerRun keeping trust start end → Calls start.pass end.pass
 worker_calls trust start end of starts = no_call
 worker_calls trust start end of (takes {old = old} run one) =
     let so_far = worker_calls trust start old of run in
     calls_append start.pass old.pass end.pass so_far (takes_calls trust old end (still_of trust start.pass old.pass of (calls_facts start.pass old.pass so_far)) one)
 
 pub workers_are_calls : WorkersAreCalls
-workers_are_calls trust connections start end of (takes_all run size back) = worker_calls trust start end of run
-workers_are_calls trust connections start end of (gives_up {last = last} run size up) =
+workers_are_calls keeping trust connections start end of (takes_all run size back) = worker_calls trust start end of run
+workers_are_calls keeping trust connections start end of (gives_up {last = last} run size up) =
     subst (λ (w : WorkerState). Calls start.pass w.pass) (sym up.others) (worker_calls trust start last of run)
 
 -- ---- a server
@@ -152,14 +153,14 @@ module _ (facts : RealmFacts) (trust : Trust) (connections : ℕ) (of : IsOfAcco
   abbrev Did : Pass → WorkerState → Type 0
   Did first worker = Calls first worker.pass
 
-  crew_calls : (crew ends last : List WorkerState) → All (λ (pass : Pass). pass.facts ≡ facts) (map (λ (w : WorkerState). w.pass) crew) → Pairwise (Works trust connections) crew ends
+  crew_calls : {keeping : Bool} (crew ends last : List WorkerState) → All (λ (pass : Pass). pass.facts ≡ facts) (map (λ (w : WorkerState). w.pass) crew) → Pairwise (Works keeping trust connections) crew ends
       → Pairwise Settles ends last → Pairwise Did (map (λ (w : WorkerState). w.pass) crew) last
   crew_calls crew ends last same none none = none
   crew_calls crew ends last same (both {x = first} {y = end} work works) (both {y = settled} settles all) =
       let P : Pass → Type 0 = λ pass. pass.facts ≡ facts in
       let first_same : first.pass.facts ≡ facts = All-head P first.pass _ same in
       let here : IsOfAccount first.pass.facts.account trust = subst (λ (f : RealmFacts). IsOfAccount f.account trust) (sym first_same) of in
-      both (calls_append first.pass end.pass settled.pass (workers_are_calls trust connections first end here work) (learns end.pass settled.pass settles.learns))
+      both (calls_append first.pass end.pass settled.pass (workers_are_calls _ trust connections first end here work) (learns end.pass settled.pass settles.learns))
       (crew_calls _ _ _ (All-tail P first.pass _ same) works all)
 
 -- the account is kept by the first of them
@@ -175,7 +176,7 @@ kept_calls facts wanted account (p ∷ ps) (s ∷ ss) (t ∷ ts) (both first oth
     (subst (Pairwise (λ (first : Pass) (worker : WorkerState). Calls first worker.pass) ps) (sym keeps.2) others)
 
 pub servers_are_calls : ServersAreCalls
-servers_are_calls first trust wanted served kept old new of is =
+servers_are_calls keeping first trust wanted history served kept old new of is =
     let are = is.is_crew.passes_are in
     let facts = first.facts in
     let same : All (λ (pass : Pass). pass.facts ≡ facts) (map (λ (w : WorkerState). w.pass) is.crew) =
@@ -189,13 +190,13 @@ servers_are_calls first trust wanted served kept old new of is =
 -- ---- what holds of calls
 
 pub keeps_lawful : RunsKeepLawful
-keeps_lawful trust start end items clocks text run of lawful = calls_lawful start end (run_calls trust start end items clocks text of run) lawful
+keeps_lawful keeping trust start end items clocks text run of lawful = calls_lawful start end (run_calls trust start end items clocks text of run) lawful
 
 pub keeps_opened : RunsKeepOpened
-keeps_opened trust start end items clocks text run of opened = calls_opened start end (run_calls trust start end items clocks text of run) opened
+keeps_opened keeping trust start end items clocks text run of opened = calls_opened start end (run_calls trust start end items clocks text of run) opened
 
 pub no_iv_again : OneSessionRepeatsNoIv
-no_iv_again trust s t u v first second c d items clocks text one other of opened seals run again =
+no_iv_again keeping trust s t u v first second c d items clocks text one other of opened seals run again =
     let facts_are : t.facts ≡ s.facts = ap (λ (p : Pass). p.facts) seals.reads.used ∙ ap (λ (p : Pass). p.facts) seals.reads.seen.others in
     not_twice account_law s t u v one other opened
     (record { request = seals.request; reply = seals.reply; reads = seals.reads; sealed = seals.sealed })

@@ -25,28 +25,28 @@ use Rattle.kms_server.specs.Server.{Wanted, Surroundings, ServesDoor}
 -- a turn is no call, or one
 abbrev pub TurnsAreCalls : Type 0
 TurnsAreCalls =
-    (trust : Trust) (item : Item) (c : ℕ) (closes : Bool) (text : List ℕ) (s t : Pass) → IsOfAccount s.facts.account trust → c < year_10000
-    → Turn s trust item c closes text t → Calls s t
+    (keeping : Bool) (trust : Trust) (item : Item) (c : ℕ) (closes : Bool) (text : List ℕ) (s t : Pass) → IsOfAccount s.facts.account trust → c < year_10000
+    → Turn keeping s trust item c closes text t → Calls s t
 
 abbrev pub RunsAreCalls : Type 0
 RunsAreCalls =
-    (trust : Trust) (start end : Pass) (items : List Item) (clocks text : List ℕ) → IsOfAccount start.facts.account trust
-    → SessionRun start trust end items clocks text → Calls start end
+    (keeping : Bool) (trust : Trust) (start end : Pass) (items : List Item) (clocks text : List ℕ) → IsOfAccount start.facts.account trust
+    → SessionRun keeping start trust end items clocks text → Calls start end
 
 -- a session, however it ends
 abbrev pub SessionsAreCalls : Type 0
-SessionsAreCalls = (trust : Trust) (end : SessionEnd) (old new : Outside) → IsOfAccount old.state.facts.account trust → EndsBy trust end old new → Calls old.state new.state
+SessionsAreCalls = (keeping : Bool) (trust : Trust) (end : SessionEnd) (old new : Outside) → IsOfAccount old.state.facts.account trust → EndsBy keeping trust end old new → Calls old.state new.state
 
 -- a worker, over all its connections
 abbrev pub WorkersAreCalls : Type 0
 WorkersAreCalls =
-    (trust : Trust) (connections : ℕ) (start end : WorkerState) → IsOfAccount start.pass.facts.account trust → Works trust connections start end → Calls start.pass end.pass
+    (keeping : Bool) (trust : Trust) (connections : ℕ) (start end : WorkerState) → IsOfAccount start.pass.facts.account trust → Works keeping trust connections start end → Calls start.pass end.pass
 
 -- a server: what each of its workers did with one of the passes 1 to n of a service, which began with the entries of this account, from the first call to the last
 abbrev pub ServersAreCalls : Type 0
 ServersAreCalls =
-    (first : Account) (trust : Trust) (wanted : Wanted) (served : Served) (kept : Kept) (old new : Surroundings) → IsOfAccount first.facts.account trust
-    → (serves : ServesDoor first trust wanted served kept old new)
+    (keeping : Bool) (first : Account) (trust : Trust) (wanted : Wanted) (history : List (Entry × ℕ)) (served : Served) (kept : Kept) (old new : Surroundings) → IsOfAccount first.facts.account trust
+    → (serves : ServesDoor keeping first trust wanted history served kept old new)
     → Pairwise (λ (fresh : Pass) (worker : WorkerState). Calls fresh worker.pass) (fresh_passes first.facts wanted.workers first.entries wanted.workers) serves.finishes.last
 
 -- the own places of each of these workers' passes are exactly those at which the first one's history has its number, behind so many loaded entries
@@ -59,8 +59,8 @@ OwnWhatBearsTheirNumber loaded (first ∷ others) =
 -- is exactly what bears its number
 abbrev pub WorkersMadeAll : Type 0
 WorkersMadeAll =
-    (first : Account) (trust : Trust) (wanted : Wanted) (served : Served) (kept : Kept) (old new : Surroundings) → IsOfAccount first.facts.account trust
-    → (serves : ServesDoor first trust wanted served kept old new)
+    (keeping : Bool) (first : Account) (trust : Trust) (wanted : Wanted) (history : List (Entry × ℕ)) (served : Served) (kept : Kept) (old new : Surroundings) → IsOfAccount first.facts.account trust
+    → (serves : ServesDoor keeping first trust wanted history served kept old new)
     → (map (λ worker. worker.pass.number) serves.finishes.last ≡ map (λ pass. pass.number) (fresh_passes first.facts wanted.workers first.entries wanted.workers))
     × OwnWhatBearsTheirNumber (length first.entries) serves.finishes.last
 
@@ -87,7 +87,7 @@ pub record RanTogether (facts : RealmFacts) (loaded : List Entry) (n : ℕ) (wor
 -- those were made together
 abbrev pub ServersAreOneRun : Type 0
 ServersAreOneRun =
-    (first : Account) (trust : Trust) (wanted : Wanted) (served : Served) (kept : Kept) (old new : Surroundings) → IsOfAccount first.facts.account trust
-    → (serves : ServesDoor first trust wanted served kept old new)
+    (keeping : Bool) (first : Account) (trust : Trust) (wanted : Wanted) (history : List (Entry × ℕ)) (served : Served) (kept : Kept) (old new : Surroundings) → IsOfAccount first.facts.account trust
+    → (serves : ServesDoor keeping first trust wanted history served kept old new)
     → (did : Pairwise (λ (fresh : Pass) (worker : WorkerState). Calls fresh worker.pass) (fresh_passes first.facts wanted.workers first.entries wanted.workers) serves.finishes.last)
     → RanTogether first.facts first.entries wanted.workers serves.finishes.last did

@@ -31,33 +31,33 @@ OneCut = (stream : List ℕ) (closes other : Bool) (items others : List Item) (r
     → length items ≡ length others → AreAlike rest items others × (rest ≡ last)
 
 abbrev pub OneEnd : Type 0
-OneEnd = (trust : Trust) (old new : Outside) → TellsTaken old new → IsOneEnd trust old new
+OneEnd = (keeping : Bool) (trust : Trust) (old new : Outside) → TellsTaken old new → IsOneEnd keeping trust old new
 
 -- a session that nothing disturbs answers each message that it is asked, and ends as they say; or it wants memory, and took nothing
 abbrev pub EachMessageIsAnswered : Type 0
-EachMessageIsAnswered = (trust : Trust) (end : SessionEnd) (old new : Outside) → EndsBy trust end old new → IsComplete trust end old new
+EachMessageIsAnswered = (keeping : Bool) (trust : Trust) (end : SessionEnd) (old new : Outside) → EndsBy keeping trust end old new → IsComplete keeping trust end old new
 
 -- a run of a pass of the callers' account keeps the history lawful
 abbrev pub RunsKeepLawful : Type 0
 RunsKeepLawful =
-    (trust : Trust) (start end : Pass) (items : List Item) (clocks text : List ℕ) → SessionRun start trust end items clocks text
+    (keeping : Bool) (trust : Trust) (start end : Pass) (items : List Item) (clocks text : List ℕ) → SessionRun keeping start trust end items clocks text
     → IsOfAccount start.facts.account trust → IsLawful start.facts (entries_of start.history)
     → (end.facts ≡ start.facts) × IsLawful end.facts (entries_of end.history)
 
 -- and so it does one that an opened account holds
 abbrev pub RunsKeepOpened : Type 0
 RunsKeepOpened =
-    (trust : Trust) (start end : Pass) (items : List Item) (clocks text : List ℕ) → SessionRun start trust end items clocks text
+    (keeping : Bool) (trust : Trust) (start end : Pass) (items : List Item) (clocks text : List ℕ) → SessionRun keeping start trust end items clocks text
     → IsOfAccount start.facts.account trust → IsOpened start.facts (entries_of start.history)
     → (end.facts ≡ start.facts) × IsOpened end.facts (entries_of end.history)
 
 -- A turn, and a run of turns, leave a history that begins with the one before. The number of entries that a reply names is the
 -- length of the history after its turn, so along a session it never falls
 abbrev pub TurnsGoOn : Type 0
-TurnsGoOn = (s : Pass) (trust : Trust) (item : Item) (c : ℕ) (closes : Bool) (text : List ℕ) (t : Pass) → Turn s trust item c closes text t → IsPrefix s.history t.history
+TurnsGoOn = (keeping : Bool) (s : Pass) (trust : Trust) (item : Item) (c : ℕ) (closes : Bool) (text : List ℕ) (t : Pass) → Turn keeping s trust item c closes text t → IsPrefix s.history t.history
 
 abbrev pub RunsGoOn : Type 0
-RunsGoOn = (trust : Trust) (start end : Pass) (items : List Item) (clocks text : List ℕ) → SessionRun start trust end items clocks text → IsPrefix start.history end.history
+RunsGoOn = (keeping : Bool) (trust : Trust) (start end : Pass) (items : List Item) (clocks text : List ℕ) → SessionRun keeping start trust end items clocks text → IsPrefix start.history end.history
 
 -- a turn whose reply holds this sealed text, from one state of the pass to the next
 pub record SealsAt (trust : Trust) (item : Item) (c : ℕ) (s t : Pass) (sealing : Sealing) : Type 0 where
@@ -67,13 +67,13 @@ pub record SealsAt (trust : Trust) (item : Item) (c : ℕ) (s t : Pass) (sealing
   pub reads : Reads s request reply t
   pub sealed : HasSealed reads.met.facts (entries_of reads.met.history) request reads.met.places sealing
 
--- the texts that two turns of a session seal have different initialization vectors, whatever turns, want of memory among them,
+-- the texts that two turns of a session seal have different initialization vectors, whatever turns, want of memory and changes that weren't kept among them,
 -- stand between the two
 abbrev pub OneSessionRepeatsNoIv : Type 0
 OneSessionRepeatsNoIv =
-    (trust : Trust) (s t u v : Pass) (first second : Item) (c d : ℕ) (items : List Item) (clocks text : List ℕ) (one other : Sealing)
+    (keeping : Bool) (trust : Trust) (s t u v : Pass) (first second : Item) (c d : ℕ) (items : List Item) (clocks text : List ℕ) (one other : Sealing)
     → IsOfAccount s.facts.account trust → IsOpened s.facts (entries_of s.history)
-    → SealsAt trust first c s t one → SessionRun t trust u items clocks text → SealsAt trust second d u v other
+    → SealsAt trust first c s t one → SessionRun keeping t trust u items clocks text → SealsAt trust second d u v other
     → iv_in one.blob ≢ iv_in other.blob
 
 -- an answer at a second and a number of entries has one text

@@ -14,7 +14,7 @@ use account_steps::RealmFacts;
 use kms_io::{MemoryClock, MemoryLink, NoGate};
 use kms_names::{AccountNumber, Text};
 use kms_session::{SessionEnd, Trust, serve_session};
-use publish_pass::{Opening, Realm, open_service};
+use publish_pass::{Nothing, Opening, Realm, open_service};
 use std::alloc::{AllocError, Global};
 use std::marker::Brand;
 use std::sync::Wait;
@@ -130,7 +130,7 @@ fn serve_opening<W: Wait, R: Realm>(
     requires passes { opening.shown.whole.passes ≡ 1 }
     requires trust { IsOfAccount opening.shown.whole.facts.account trust.now }
 {
-    let (service, mut passes) = open_service::<W, R>(rt, alloc, opening)?;
+    let (service, mut passes) = open_service::<W, R, Nothing>(rt, alloc, opening, Nothing)?;
     let pass = &mut passes[0];
     let end = serve_session(rt, alloc, &service, pass, trust, clock, link, &NoGate);
     service.shut(rt);

@@ -32,4 +32,4 @@ returns-clause-longest g c =
 pub returns-clause-holds : goal.returns-clause-holds
 returns-clause-holds g c =
     let seen = state_of g.C.Clock.told g.E.Ear.shows in
-    subst (λ workers. FirstHolds (mutex_guard_value c.settle-desk.result) (map seen workers)) (sym c.put_first.ensures.items) c.settle-desk.ensures.holds
+    subst (λ workers. FirstHolds (mutex_guard_value c.settle-desk.result).pairs (map seen workers)) (sym c.put_first.ensures.items) c.settle-desk.ensures.holds

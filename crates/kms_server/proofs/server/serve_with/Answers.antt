@@ -45,18 +45,18 @@ work_all-requires-clause-is_in g c = λ _ _.
 pub work_all-requires-clause-new : goal.work_all-requires-clause-new
 work_all-requires-clause-new g c = λ _ _. subst (λ workers. All (λ worker. worker.taken ≡ 0) workers) (sym c.as_mut_slice.ensures.value) c.gather.ensures.taken
 
-pub finish-kept-requires-clause-some : goal.finish-kept-requires-clause-some
-finish-kept-requires-clause-some g c =
+pub finish-ended-requires-clause-some : goal.finish-ended-requires-clause-some
+finish-ended-requires-clause-some g c =
     let passes : length c.args.passes.items ≡ g.R.Realm.passes = sym c.args.passes.ok.0 ∙ c.requires.passes in
     let workers : g.R.Realm.passes ≡ c.args.order.now.workers = c.requires.workers.0 in
     let some : 0 < c.args.order.now.workers = c.requires.workers.1 in
     omega (arith, c.args.passes.ok, c.gather.ensures.size)
 
-pub finish-kept-requires-clause-passes : goal.finish-kept-requires-clause-passes
-finish-kept-requires-clause-passes g c = omega (arith, c.args.passes.ok, c.gather.ensures.size, c.requires.passes)
+pub finish-ended-requires-clause-passes : goal.finish-ended-requires-clause-passes
+finish-ended-requires-clause-passes g c = omega (arith, c.args.passes.ok, c.gather.ensures.size, c.requires.passes)
 
-pub finish-kept-requires-clause-few : goal.finish-kept-requires-clause-few
-finish-kept-requires-clause-few g c =
+pub finish-ended-requires-clause-few : goal.finish-ended-requires-clause-few
+finish-ended-requires-clause-few g c =
     let seen = state_of g.C.Clock.told g.D.Listener.Ear.shows in
     let begun = c.as_mut_slice.result.now in
     let ended = c.work_all.new.crew in
@@ -70,8 +70,8 @@ finish-kept-requires-clause-few g c =
     let bound : taken_by (map seen ended) < 2 ^ 64 = omega (arith, c.args.passes.ok, c.gather.ensures.size, c.as_mut_slice.ensures.len) in
     subst (λ workers. taken_by (map seen workers) < 2 ^ 64) (sym back) bound
 
-pub finish-kept-requires-clause-ears : goal.finish-kept-requires-clause-ears
-finish-kept-requires-clause-ears g c =
+pub finish-ended-requires-clause-ears : goal.finish-ended-requires-clause-ears
+finish-ended-requires-clause-ears g c =
     let gains = c.in-Open.ensures.1 in
     let ears : c.open.new.ears.items ≡ gains.ears = gains.list ∙ ap (λ before. before ++ gains.ears) c.new-ears.ensures.items in
     let number : length c.open.new.ears.items ≡ c.args.order.now.workers = ap length ears ∙ gains.number in
@@ -79,14 +79,14 @@ finish-kept-requires-clause-ears g c =
     let workers : g.R.Realm.passes ≡ c.args.order.now.workers = c.requires.workers.0 in
     omega (arith, c.open.new.ears.ok.0, c.open.new.ears.ok.1, c.args.passes.ok.0, c.gather.ensures.ears_room, c.gather.ensures.size)
 
-pub returns : goal.returns
-returns g c = λ entries fresh loaded.
+pub returns-clause-served : goal.returns-clause-served
+returns-clause-served g c = λ entries fresh loaded.
     let told = g.C.Clock.told in
     let seen = state_of told g.D.Listener.Ear.shows in
     let clocks = c.args.clocks.now.items in
     let hired = c.gather.new.crew.items in
     let ended = c.work_all.new.crew in
-    let served = c.finish-kept.ensures in
+    let served = c.finish-ended.ensures.finishes in
     let workers : g.R.Realm.passes ≡ c.args.order.now.workers = c.requires.workers.0 in
     let size : c.args.passes.len ≡ c.args.order.now.workers = c.requires.passes ∙ workers in
     let back = written_back c.gather.new.crew.len ended (drop (length ended) c.gather.new.crew.items) (omega (arith, c.work_all.auto.crew, c.as_mut_slice.ensures.len)) in
@@ -102,21 +102,21 @@ returns g c = λ entries fresh loaded.
         taken = All-map (λ state. state.taken ≡ 0) seen hired c.gather.ensures.taken;
       };
       ends = map seen ended;
-      work = subst (λ (n : ℕ). Pairwise (Works c.args.host.now.trust.now n) (map seen hired) (map seen ended)) c.requires.connections.0
-          (subst (λ workers. Pairwise (Works c.args.host.now.trust.now c.args.host.now.connections) (map seen workers) (map seen ended)) c.as_mut_slice.ensures.value c.work_all.ensures);
-      ears = map g.D.Listener.Ear.shows c.finish-kept.new.ears.items;
+      work = subst (λ (n : ℕ). Pairwise (Works g.K.Keeps.keeps c.args.host.now.trust.now n) (map seen hired) (map seen ended)) c.requires.connections.0
+          (subst (λ workers. Pairwise (Works g.K.Keeps.keeps c.args.host.now.trust.now c.args.host.now.connections) (map seen workers) (map seen ended)) c.as_mut_slice.ensures.value c.work_all.ensures);
+      ears = map g.D.Listener.Ear.shows c.finish-ended.new.ears.items;
       told = served.0;
       finishes = subst
-          (λ (k : ℕ). Finishes g.R.Realm.facts c.args.order.now.workers k c.args.order.now.connections c.args.order.now.keeps (map seen ended) c.finish-kept.result.0 c.finish-kept.result.1
-          (map g.D.Listener.Ear.shows c.finish-kept.new.ears.items) served.0)
+          (λ (k : ℕ). Finishes g.R.Realm.facts c.args.order.now.workers k c.args.order.now.connections c.args.order.now.keeps c.finish-ended.result.told (map seen ended) c.finish-ended.result.served c.finish-ended.result.kept
+          (map g.D.Listener.Ear.shows c.finish-ended.new.ears.items) served.0)
           (sym loaded)
           (subst
-          (λ (n : ℕ). Finishes g.R.Realm.facts n g.R.Realm.loaded c.args.order.now.connections c.args.order.now.keeps (map seen ended) c.finish-kept.result.0 c.finish-kept.result.1
-          (map g.D.Listener.Ear.shows c.finish-kept.new.ears.items) served.0)
+          (λ (n : ℕ). Finishes g.R.Realm.facts n g.R.Realm.loaded c.args.order.now.connections c.args.order.now.keeps c.finish-ended.result.told (map seen ended) c.finish-ended.result.served c.finish-ended.result.kept
+          (map g.D.Listener.Ear.shows c.finish-ended.new.ears.items) served.0)
           workers
           (subst
-          (λ workers. Finishes g.R.Realm.facts g.R.Realm.passes g.R.Realm.loaded c.args.order.now.connections c.args.order.now.keeps (map seen workers) c.finish-kept.result.0 c.finish-kept.result.1
-          (map g.D.Listener.Ear.shows c.finish-kept.new.ears.items) served.0)
+          (λ workers. Finishes g.R.Realm.facts g.R.Realm.passes g.R.Realm.loaded c.args.order.now.connections c.args.order.now.keeps c.finish-ended.result.told (map seen workers) c.finish-ended.result.served c.finish-ended.result.kept
+          (map g.D.Listener.Ear.shows c.finish-ended.new.ears.items) served.0)
           back
           served.2));
       closed = c.close.ensures;

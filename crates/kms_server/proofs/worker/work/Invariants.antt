@@ -5,7 +5,7 @@ use Rattle.kms_server.proofs.worker.work.Given as goal
 
 abbrev pub invariant-loop-worker : goal.invariant-loop-worker
 invariant-loop-worker g l = record {
-  run : WorkerRun l.host.trust.now (state_of g.C.Clock.told g.E.Ear.shows l.initial.worker) (state_of g.C.Clock.told g.E.Ear.shows l.worker);
+  run : WorkerRun g.K.Keeps.keeps l.host.trust.now (state_of g.C.Clock.told g.E.Ear.shows l.initial.worker) (state_of g.C.Clock.told g.E.Ear.shows l.worker);
   few : l.worker.taken ≤ l.connections;
   is_in : (g.E.Ear.shows l.worker.ear).is_out ≡ false;
 }

@@ -13,5 +13,5 @@ returns g c =
     let new = g.L.Link.shows c.send_reply.new.link in
     let P : Answer → Type 0 = λ answer. MatchBool c.send_reply.result (SendsReply answer c.args.now c.seen.result true old new) (SendsReplyShort answer c.args.now c.seen.result true old new) in
     let same = ap₂ (λ (status : ℕ) (body : List ℕ). let a : Answer = record { status = status; body = body } in a) c.fault_status.ensures c.fault_body.ensures in
-    replied c.send_reply.result c.args.pass.now (answered (fault_answer c.args.fault)) (fault_answer c.args.fault) c.args.now c.seen.result true old new c.args.pass.now
+    replied g.K.Keeps.keeps c.send_reply.result c.args.pass.now (answered (fault_answer c.args.fault)) (fault_answer c.args.fault) c.args.now c.seen.result true old new c.args.pass.now
     (early refl refl) c.seen.ensures.number (subst P same c.send_reply.ensures)

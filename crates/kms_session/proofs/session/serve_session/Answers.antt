@@ -4,7 +4,7 @@ use Rattle.kms_session.specs.Run.{turns}
 use Rattle.kms_session.proofs.session.serve_session.Goals as goal
 
 pub returns-clause-complete : goal.returns-clause-complete
-returns-clause-complete g c = each_is_answered (turns c.args.trust.now) _ c.serve_messages.result _ _ c.serve_messages.ensures
+returns-clause-complete g c = each_is_answered (turns g.K.Keeps.keeps c.args.trust.now) _ c.serve_messages.result _ _ c.serve_messages.ensures
 
 pub returns-clause-one : goal.returns-clause-one
-returns-clause-one g c = one_end (turns c.args.trust.now) _ _
+returns-clause-one g c = one_end (turns g.K.Keeps.keeps c.args.trust.now) _ _

@@ -3,4 +3,4 @@ use Rattle.kms_session.specs.Run.{turns}
 use Rattle.session_laws.proofs.laws.one_end.Goals as goal
 
 pub returns : goal.returns
-returns c = λ trust old new told. one_end (turns trust) old new told
+returns c = λ keeping trust old new told. one_end (turns keeping trust) old new told

@@ -3,6 +3,7 @@ use Rattle.std.proofs.lemmas.Bool.Decides.{nat_tests}
 use Rattle.std.specs.Prelude.{IsTrue, nat_eq}
 use Rattle.published_account.proofs.Lists.{prefix_whole}
 use Rattle.publish_pass.specs.Pass.{Pass}
+use Rattle.publish_pass.specs.Desks.{Desk}
 use Rattle.publish_pass.proofs.OwnPlaces.{it_knew, it_made}
 use Rattle.publish_pass.proofs.desk.Desk.meet.Goals as goal
 
@@ -20,7 +21,7 @@ returns-clause-alone g c = λ yes.
       c.audit.ensures.whole (c.pass.invariant.parts ∙ sym (c.self.invariant.parts ∙ ap (λ (p : Pass). p.passes) c.pass.view_is ∙ sym passes ∙ one)),
       c.pass.invariant.amount,
       c.self.invariant.total,
-      ap length c.self.view_is,
+      ap (λ (d : Desk _). length d.pairs) c.self.view_is,
       ap length c.prefix-prefix.ensures,
       c.seen.ensures.number,
       c.len.ensures.count,
@@ -34,4 +35,4 @@ returns-clause-same g c = λ yes.
     let known = c.prefix-prefix.result in
     let history = c.learn_prefix.new.self.history in
     let no_longer : length history ≤ length known = omega (arith, same_number c.seen.result c.len.result yes, c.seen.ensures.number, c.len.ensures.count) in
-    sym (prefix_whole known history c.learn_prefix.ensures.longer.second no_longer) ∙ c.prefix-prefix.ensures ∙ c.self.view_is
+    sym (prefix_whole known history c.learn_prefix.ensures.longer.second no_longer) ∙ c.prefix-prefix.ensures ∙ ap (λ (d : Desk _). d.pairs) c.self.view_is
